@@ -66,11 +66,25 @@ def forms(size):
     return b"".join(FORMS % (i, i) for i in range(count))
 
 
+def literals(size):
+    """An integer of its own on each line: 65536 of them in 0.8 MiB."""
+    lines, length = [], 21
+    while length < size - 20:
+        lines.append(b"x := %d\n" % len(lines))
+        length += len(lines[-1])
+    return b"procedure main()\n" + b"".join(lines) + b"end\n"
+
+
+def instructions(size):
+    """A short expression on each line, a million instructions in 0.8 MiB: each line is a mark, two of them, an operation, and an end."""
+    return filled(b"procedure main()\n", b"-1\n", b"end\n", size)
+
+
 def junk(size):
     return b"\xa5" * size
 
 
-SOURCES = [ordinary, tokens, comments, one_line, defines, empty_lines, forms, junk]
+SOURCES = [ordinary, tokens, comments, one_line, defines, empty_lines, forms, literals, instructions, junk]
 
 
 def timed(folder, make, size):

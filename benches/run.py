@@ -1,6 +1,6 @@
 #!/usr/bin/env python3
-"""Times programs that run for a second or so: loops and calls, building of strings, tables, generators and backtracking, scanning and
-co-expressions.
+"""Times programs that run for a second or so: loops and calls, building of strings, tables, generators and backtracking, scanning,
+co-expressions and output.
 
 `make` builds the programs in bin/, which this takes. Each program is translated once and its image is run three times; the least time
 of the processor is printed. Where another Icon's `icont` and `iconx` are installed, their folder as an argument (`benches/run.py
@@ -14,6 +14,14 @@ import tempfile
 
 TOP = os.path.dirname(os.path.dirname(os.path.abspath(__file__)))
 LIMITS = ["-n", "1000000000000", "-s", "100000000000", "-b", "4000000000", "-l", "100000"]
+
+LINES = """
+procedure main()
+   every write(1 to 2000000)
+end
+"""
+
+INTO_FILE = "output: 2,000,000 lines into a file"
 
 PROGRAMS = {
     "a loop of 3,000,000 additions": """
@@ -110,19 +118,27 @@ procedure main()
    write(n)
 end
 """,
+    "output: 2,000,000 lines into a pipe": LINES,
+    INTO_FILE: LINES,
 }
 
 
-def run(words, folder):
-    """The time of the processor that a command took, and what it wrote."""
+def run(words, folder, into_file=False):
+    """The time of the processor that a command took, and what it wrote into a pipe or into a file."""
     before = resource.getrusage(resource.RUSAGE_CHILDREN)
-    ran = subprocess.run(words, cwd=folder, capture_output=True, check=True)
+    if into_file:
+        with open(os.path.join(folder, "wrote"), "w+b") as file:
+            subprocess.run(words, cwd=folder, stdout=file, stderr=subprocess.PIPE, check=True)
+            file.seek(0)
+            wrote = file.read()
+    else:
+        wrote = subprocess.run(words, cwd=folder, capture_output=True, check=True).stdout
     after = resource.getrusage(resource.RUSAGE_CHILDREN)
-    return after.ru_utime + after.ru_stime - before.ru_utime - before.ru_stime, ran.stdout
+    return after.ru_utime + after.ru_stime - before.ru_utime - before.ru_stime, wrote
 
 
-def best(words, folder):
-    times = [run(words, folder) for _ in range(3)]
+def best(words, folder, into_file):
+    times = [run(words, folder, into_file) for _ in range(3)]
     return min(times)[0], times[0][1]
 
 
@@ -134,11 +150,11 @@ def main():
             with open(os.path.join(folder, "p.icn"), "w") as file:
                 file.write(source)
             run([os.path.join(TOP, "bin", "icont"), "p.icn"], folder)
-            here, wrote = best([os.path.join(TOP, "bin", "iconx"), *LIMITS, "p"], folder)
+            here, wrote = best([os.path.join(TOP, "bin", "iconx"), *LIMITS, "p"], folder, name == INTO_FILE)
             there = ""
             if beside:
                 run([os.path.join(beside, "icont"), "-s", "-o", "other", "p.icn"], folder)
-                taken, other = best([os.path.join(beside, "iconx"), "other"], folder)
+                taken, other = best([os.path.join(beside, "iconx"), "other"], folder, name == INTO_FILE)
                 there = "%10.2f%s" % (taken, "" if other == wrote else " (wrote otherwise)")
             print("%-50s %10.2f %s" % (name, here, there))
 

@@ -12,7 +12,7 @@ import sys
 import tempfile
 
 USAGE_ICONT = "usage: icont [-c] [-o name] [-n turns] [-g number] file ... [-x argument ...]\n"
-USAGE_ICONX = "usage: iconx [-n turns] [-s bytes] [-b cells] [-l levels] image [argument ...]\n"
+USAGE_ICONX = "usage: iconx [-n turns] [-s bytes] [-b cells] [-l levels] image [argument ...] | iconx -m new image\n"
 
 # A program by its name: its body in `main`.
 PROGRAMS = {
@@ -37,8 +37,15 @@ ROWS = [
     ("fills", [], "", 20_000_000, 5, "out\n", "no memory\n"),
 ]
 
-# Commands that run nothing: the program, its words, and then status, output and error output.
-REFUSED = [
+# Which program, what it reads, and what stands in one pipe that is both its output and its error output.
+IN_ONE = [
+    ("both", "line\n", "out\nerr\nin line\n"),
+    ("stops", "", "out\nerr\n"),
+    ("errs", "", "out\n" + REPORT),
+]
+
+# Commands that run no program, and the run of a new image: the program, its words, and then status, output and error output.
+COMMANDS = [
     ("icont", [], 2, "", USAGE_ICONT),
     ("icont", ["nowhere.icn"], 2, "", "nowhere.icn: not there\n"),
     ("icont", ["broken.icn"], 2, "", "broken.icn:2: C2 break outside a loop\n"),
@@ -47,14 +54,21 @@ REFUSED = [
     ("iconx", ["nowhere"], 2, "", "nowhere: not there\n"),
     ("iconx", ["seven.icn"], 2, "", "seven.icn: bad image, I1\n"),
     ("icont", ["seven.icn"], 0, "", ""),
+    ("iconx", ["-m"], 2, "", USAGE_ICONX),
+    ("iconx", ["-m", "new", "nowhere"], 2, "", "nowhere: not there\n"),
+    ("iconx", ["-m", "new", "seven.icn"], 2, "", "seven.icn: bad image, I1\n"),
+    ("iconx", ["-m", "folder", "seven"], 2, "", "file fault\n"),
+    ("iconx", ["-m", "new", "seven"], 0, "", ""),
+    ("iconx", ["-m", "seven", "seven"], 0, "", ""),
+    ("iconx", ["new"], 7, "out\n", ""),
 ]
 
 
-def run(words, folder, text="", memory=None, output=subprocess.PIPE):
+def run(words, folder, text="", memory=None, output=subprocess.PIPE, errors=subprocess.PIPE):
     """The status, the output and the error output of a command."""
     limit = (lambda: resource.setrlimit(resource.RLIMIT_AS, (memory, memory))) if memory else None
-    done = subprocess.run(words, cwd=folder, input=text.encode(), stdout=output, stderr=subprocess.PIPE, preexec_fn=limit, timeout=60, check=False)
-    return done.returncode, (done.stdout or b"").decode(), done.stderr.decode()
+    done = subprocess.run(words, cwd=folder, input=text.encode(), stdout=output, stderr=errors, preexec_fn=limit, timeout=60, check=False)
+    return done.returncode, (done.stdout or b"").decode(), (done.stderr or b"").decode()
 
 
 def told(what, got, want):
@@ -71,6 +85,7 @@ def main():
     programs = {name: os.path.abspath(path) for name, path in zip(("icont", "iconx"), sys.argv[1:])}
     others = 0
     with tempfile.TemporaryDirectory() as folder:
+        os.mkdir(os.path.join(folder, "folder"))
         for name, body in PROGRAMS.items():
             with open(os.path.join(folder, f"{name}.icn"), "w", encoding="ascii") as file:
                 file.write(f"procedure main()\n{body}\nend\n")
@@ -78,7 +93,11 @@ def main():
             icont = [programs["icont"], *words, f"{name}.icn", "-x"]
             others += told(f"icont {name}", run(icont, folder, text, memory), tuple(want))
             others += told(f"iconx {name}", run([programs["iconx"], *words, name], folder, text, memory), tuple(want))
-        for name, words, *want in REFUSED:
+        for name, text, want in IN_ONE:
+            words = [programs["iconx"], name]
+            got = run(words, folder, text, errors=subprocess.STDOUT)[1]
+            others += told(f"iconx {name}, both outputs in one", got, want)
+        for name, words, *want in COMMANDS:
             others += told(f"{name} {' '.join(words)}", run([programs[name], *words], folder), tuple(want))
         with open("/dev/full", "wb") as full:
             words = [programs["iconx"], "seven"]

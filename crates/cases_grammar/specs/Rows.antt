@@ -21,27 +21,35 @@ use Rattle.icn_tree.specs.declared.tree.LocalKind.TheVariants.{Local, Static}
 use Rattle.icn_tree.specs.Trees.{Declaration, Global, Link, Invocable, Record, ProcedureOf, NoInitial, Initially, Tree, Empty, Constant, Identifier, Keyword, Parentheses, Listing, Compound, Call, CoCall, Subscript, Section, Field, Prefix, Not, Binary, To, If, Case, Loop, Repeat, Create, Next, Fail, Break, Return, Suspend, Absent, Present, NoTrees, More, Default, Guarded, NoClauses, MoreClauses}
 use Rattle.icn_tree.specs.Declarations.{IsExpressionOf, IsTreeOf}
 
+-- an identifier
 abbrev pub name : List ℕ → Kind
 name text = Kinds.Identifier text
 
+-- an integer literal
 abbrev pub integer : ℕ → Kind
 integer n = Kinds.Integer (pos n)
 
+-- a string literal
 abbrev pub text : List ℕ → Kind
 text bytes = Kinds.Text bytes
 
+-- a cset literal
 abbrev pub cset : List ℕ → Kind
 cset members = Kinds.Cset members
 
+-- a reserved word
 abbrev pub word : Word → Kind
 word reserved = Kinds.Word reserved
 
+-- an operator
 abbrev pub op : Operator → Kind
 op operator = Kinds.Operator operator
 
+-- an operator with `:=` behind it
 abbrev pub augmented_kind : Operator → Kind
 augmented_kind operator = Kinds.Augmented operator
 
+-- a sign of punctuation
 abbrev pub mark : Punctuation → Kind
 mark punctuation = Kinds.Punctuation punctuation
 
@@ -50,16 +58,20 @@ abbrev pub on_lines : ℕ → List Kind → List Token
 on_lines line [] = []
 on_lines line (kind ∷ kinds) = record { kind = kind; line = line; file = 0 } ∷ on_lines (suc line) kinds
 
+-- the place of the token on this line
 abbrev pub at : ℕ → Place
 at line = record { line = line; file = 0 }
 
+-- a name whose token stands on this line
 abbrev pub name_on : List ℕ → ℕ → Name
 name_on bytes line = record { text = bytes; place = at line }
 
+-- tokens, and the tree that they spell
 pub record GrammarCase : Type 0 where
   pub tokens : List Token
   pub tree : Tree
 
+-- a row by the kinds of its tokens
 abbrev pub row : List Kind → Tree → GrammarCase
 row kinds tree = record { tokens = on_lines 1 kinds; tree = tree }
 
@@ -67,10 +79,12 @@ row kinds tree = record { tokens = on_lines 1 kinds; tree = tree }
 abbrev pub Holds : GrammarCase → Type 0
 Holds row = IsExpressionOf row.tree row.tokens
 
+-- tokens, and the declarations that they spell
 pub record FileRow : Type 0 where
   pub tokens : List Token
   pub declarations : List Declaration
 
+-- a row by the kinds of its tokens
 abbrev pub file_row : List Kind → List Declaration → FileRow
 file_row kinds declarations = record { tokens = on_lines 1 kinds; declarations = declarations }
 

@@ -36,12 +36,15 @@ results =
     []) ∷
     []
 
+-- the sums under this bound of turns
 abbrev pub sums_under : ℕ → Expectation → ProgramCase
 sums_under turns wanted = under (most_turns turns) sums 160 wanted
 
+-- the rounds under this bound of turns
 abbrev pub rounds_under : ℕ → Expectation → ProgramCase
 rounds_under turns wanted = under (most_turns turns) rounds 160 wanted
 
+-- the results under this bound of turns
 abbrev pub results_under : ℕ → Expectation → ProgramCase
 results_under turns wanted = under (most_turns turns) results 200 wanted
 

@@ -37,6 +37,7 @@ pub record ProgramCase : Type 0 where
 
 -- Words for cases
 
+-- how a run ends, with its output and its error output, and its turns, string bytes and cells
 abbrev pub ends : Ending → String → String → ℕ → ℕ → ℕ → Expectation
 ends ending output errors turns strings cells = record {
   ending = ending;
@@ -47,16 +48,20 @@ ends ending output errors turns strings cells = record {
   cells = cells;
 }
 
+-- a run that comes to the end of `main`
 abbrev pub ends_done : String → ℕ → ℕ → ℕ → Expectation
 ends_done output turns strings cells = ends Done output "" turns strings cells
 
+-- a run that ends by a run-time error of this number
 abbrev pub ends_errored : ℕ → String → String → ℕ → ℕ → ℕ → Expectation
 ends_errored number output errors turns strings cells =
     ends (Errored number) output errors turns strings cells
 
+-- a run that ends at the bound of turns
 abbrev pub at_bound : String → ℕ → ℕ → ℕ → Expectation
 at_bound output turns strings cells = ends AtBound output "turn bound reached\n" turns strings cells
 
+-- files, argument words, bounds, input, the steps that are enough, and what is wanted
 abbrev pub run_of : List (List Declaration) → List (List ℕ) → Bounds → List ℕ → ℕ → Expectation → ProgramCase
 run_of files words bounds input steps wanted =
     record { files = files; words = words; bounds = bounds; input = input; steps = steps; wanted = wanted }
@@ -65,26 +70,33 @@ run_of files words bounds input steps wanted =
 abbrev pub case : List Declaration → ℕ → Expectation → ProgramCase
 case file steps wanted = run_of (file ∷ []) [] default_limits [] steps wanted
 
+-- one file under these bounds
 abbrev pub under : Bounds → List Declaration → ℕ → Expectation → ProgramCase
 under bounds file steps wanted = run_of (file ∷ []) [] bounds [] steps wanted
 
+-- one file with this input
 abbrev pub reading : String → List Declaration → ℕ → Expectation → ProgramCase
 reading input file steps wanted = run_of (file ∷ []) [] default_limits (codes input) steps wanted
 
+-- the default limits, but for the turns
 abbrev pub most_turns : ℕ → Bounds
 most_turns turns = record default_limits { turns = turns }
 
+-- the default limits, but for the string bytes
 abbrev pub most_strings : ℕ → Bounds
 most_strings strings = record default_limits { strings = strings }
 
+-- the default limits, but for the cells
 abbrev pub most_cells : ℕ → Bounds
 most_cells cells = record default_limits { cells = cells }
 
+-- the default limits, but for the levels of calls
 abbrev pub most_levels : ℕ → Bounds
 most_levels levels = record default_limits { levels = levels }
 
 -- What is seen of the meaning
 
+-- what is seen of an evaluation that is over
 abbrev pub seen_of : M.Evaluation → Option Expectation
 seen_of (M.over ending st) = Some (record {
   ending = ending;
@@ -96,6 +108,7 @@ seen_of (M.over ending st) = Some (record {
 })
 seen_of state = None
 
+-- what the meaning of a program comes to in the steps of the case
 abbrev pub meant_by : ProgramCase → Program → Option Expectation
 meant_by c p = seen_of (Meaning.steps p c.steps (Meaning.start p (launch_of c.words c.bounds c.input)))
 
@@ -115,9 +128,11 @@ pub record UnderLimits : Type 0 where
   pub a_byte_less : Option Ending
   pub a_cell_less : Option Ending
 
+-- the ending of a run, with both outputs
 abbrev pub end_of : Observation → End
 end_of seen = record { ending = seen.ending; output = seen.outside.output; errors = seen.outside.errors }
 
+-- the ending of a run alone
 abbrev pub ending_of : Observation → Ending
 ending_of seen = seen.ending
 
@@ -130,6 +145,7 @@ under_limits run bounds = record {
   a_cell_less = option_map ending_of (run (record bounds { cells = pred bounds.cells }));
 }
 
+-- the bounds that are just what the run takes
 abbrev pub just : ProgramCase → Bounds
 just c = record {
   turns = c.wanted.turns;
@@ -138,10 +154,12 @@ just c = record {
   levels = c.bounds.levels;
 }
 
+-- the run of the code on flat stacks
 abbrev pub on_flat : ProgramCase → Tables → Bounds → Option Observation
 on_flat c tables bounds =
     Step.observation (Flat.steps tables c.steps (Flat.start tables (launch_of c.words bounds c.input)))
 
+-- the run of the code on linked marks
 abbrev pub on_linked : ProgramCase → Tables → Bounds → Option Observation
 on_linked c tables bounds =
     let repeats = repeats_of tables in
@@ -153,6 +171,7 @@ abbrev pub short : ℕ → Ending → Ending → Option Ending
 short zero other ending = Some ending
 short (suc n) other ending = Some other
 
+-- what is wanted with just what the run takes, and with one less of each
 abbrev pub wanted_limited : Expectation → UnderLimits
 wanted_limited w = record {
   just = Some (record { ending = w.ending; output = w.output; errors = w.errors });
@@ -167,6 +186,7 @@ pub record SeenOfCase : Type 0 where
   pub on_stacks : UnderLimits
   pub on_marks : UnderLimits
 
+-- all that is seen of a case, by the code of its program
 abbrev pub seen_with : ProgramCase → Tables → SeenOfCase
 seen_with c tables = record {
   meant = meant_by c (program c.files);
@@ -174,6 +194,7 @@ seen_with c tables = record {
   on_marks = under_limits (on_linked c tables) (just c);
 }
 
+-- the same is wanted on all three sides
 abbrev pub wanted_seen : Expectation → SeenOfCase
 wanted_seen w =
     record { meant = Some w; on_stacks = wanted_limited w; on_marks = wanted_limited w }

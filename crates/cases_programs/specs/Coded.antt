@@ -11,6 +11,7 @@ use Rattle.law_simulation.specs.JoinedFiles.{sets_of, code_with}
 abbrev pub bit_in : ℕ → ℕ → ℕ
 bit_in i member = if member / 64 == i then 2 ^ (member % 64) else 0
 
+-- a cset as four words of bits
 abbrev pub cset_of : List ℕ → Cset
 cset_of members = record { words = map (λ i. sum_by (bit_in i) members) (range_with_len 0 4) }
 

@@ -5,6 +5,7 @@ use Rattle.icn_tree.specs.declared.tree.SectionKind.TheVariants as Sections
 use Rattle.cases_programs.specs.Words.{int, text, name, key, before, between, assign, call, write, element, section, list, to, when, every, create, return, suspend, procedure, main}
 use Rattle.cases_programs.specs.Cases.{ProgramCase, case, under, ends_done, ends_errored, most_strings, most_levels}
 
+-- each case has its program above it
 abbrev pub failures : List ProgramCase
 failures =
     -- procedure main(); &error := 1; write("a" + 1); write(&errornumber, " ", &errortext, " ", &errorvalue, " ", &error); end

@@ -21,9 +21,11 @@ pub record ReadCase : Type 0 where
   pub input : List ℕ
   pub outside : Outside
 
+-- more steps than any of these programs takes
 abbrev pub steps_enough : ℕ
 steps_enough = 300
 
+-- the outside at the end of a run
 abbrev pub outside_seen : Observation → Outside
 outside_seen seen = seen.outside
 
@@ -33,6 +35,7 @@ pub record EndOutsides : Type 0 where
   pub on_stacks : Option Outside
   pub on_marks : Option Outside
 
+-- the outside at the end of the meaning, and of both runs of the code
 abbrev pub left_by : Launch → Program → Tables → EndOutsides
 left_by launch program tables =
     let repeats = repeats_of tables in
@@ -52,10 +55,12 @@ Reads r =
     left_by (launch_of [] default_limits r.input) (program files) (tables_of files)
     ≡ record { meant = Some r.outside; on_stacks = Some r.outside; on_marks = Some r.outside }
 
+-- the reading of a line, with what was left, and how much stood on both outputs
 abbrev pub line_of : List ℕ → ℕ → ℕ → Reading
 line_of left output errors =
     record { asked = ALine; left = left; output = output; errors = errors }
 
+-- the reading of so many bytes, with what was left, and how much stood on both outputs
 abbrev pub bytes_of : ℕ → List ℕ → ℕ → ℕ → Reading
 bytes_of count left output errors =
     record { asked = SomeBytes count; left = left; output = output; errors = errors }

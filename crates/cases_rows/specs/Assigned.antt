@@ -6,18 +6,23 @@ use Rattle.icn_value.specs.Values.{Value, Null, Integer, Text, AList, Global, St
 use Rattle.icn_value.specs.Store.{Setting, having_heap, having_random, having_error, having_kept, having_position, having_subject, having_globals, having_statics, with_list, with_table, with_record}
 use Rattle.cases_rows.specs.Cases.{RowCase, case, case_from, case_between, plain, op, fn, int, below, str, list, local, local_part, holding, gives, fails, stops, stops_alone, Gave, Suspended, Failed, Stopped, costs}
 
+-- an integer from 0 on, as a value
 abbrev num : ℕ → Value
 num n = Integer (pos n)
 
+-- a whole variable
 abbrev whole : Root → Item
 whole root = Var (Whole root)
 
+-- `&subject`
 abbrev subject : Item
 subject = whole (Keyword Subject)
 
+-- `&pos`
 abbrev position : Item
 position = whole (Keyword Position)
 
+-- `&error`
 abbrev error_count : Item
 error_count = whole (Keyword ErrorCount)
 
@@ -29,6 +34,7 @@ keeping = having_kept (Some (record { number = 101; value = Some (Text (codes "x
 abbrev text_local : List ℕ → Setting → Setting
 text_local bytes setting = holding (Text bytes ∷ num 7 ∷ Null ∷ []) setting
 
+-- table 0 has these pairs
 abbrev first_table : List (Value × Value) → Setting → Setting
 first_table pairs setting = having_heap (with_table 0 (record { default = num 0; pairs = pairs })) setting
 

@@ -11,6 +11,7 @@ use Rattle.icn_defs.specs.RowFacts.{is_outcome, is_setting}
 
 -- Words for items
 
+-- an integer from 0 on
 abbrev pub int : ℕ → Item
 int n = Val (Integer (pos n))
 
@@ -18,32 +19,41 @@ int n = Val (Integer (pos n))
 abbrev pub below : ℕ → Item
 below n = Val (Integer (negsuc n))
 
+-- the greatest integer
 abbrev pub greatest : Item
 greatest = int 9223372036854775807
 
+-- the least integer
 abbrev pub least : Item
 least = below 9223372036854775807
 
+-- a string
 abbrev pub str : List ℕ → Item
 str bytes = Val (Text bytes)
 
+-- a cset, by its members in ascending order
 abbrev pub chars : List ℕ → Item
 chars bytes = Val (Chars bytes)
 
+-- `&null`
 abbrev pub null : Item
 null = Val Null
 
+-- the list of this number
 abbrev pub list : ℕ → Item
 list id = Val (AList id)
 
+-- the variable of the local at this place
 abbrev pub local : ℕ → Item
 local place = Var (Whole (Local place))
 
+-- a part of the text of a local, from a position on, with its length
 abbrev pub local_part : ℕ → ℕ → ℕ → Item
 local_part place from size = Var (Part (Local place) from size)
 
 -- The setting that cases begin with
 
+-- two procedures; and three record constructors, two of which have one name
 abbrev pub names : Names
 names =
     record {
@@ -51,6 +61,7 @@ names =
       records = codes "point" ∷ codes "pair" ∷ codes "point" ∷ [];
     }
 
+-- two lists, three sets, two tables, three records, and a co-expression beside `&main`
 abbrev pub heap : Heap
 heap = record {
   lists = record { items = Integer (pos 3) ∷ Text (codes "a") ∷ Integer (pos 1) ∷ Null ∷ []; number = pos 1 }
@@ -70,6 +81,7 @@ heap = record {
   bounds = record { turns = 100; strings = 1000; cells = 1000; levels = 10 };
 }
 
+-- the heap, `&subject` "hello" at position 2, three locals, and an input of three lines
 abbrev pub plain : Setting
 plain = record {
   world = record {
@@ -94,11 +106,13 @@ costs bytes cells setting =
           record setting.world { heap = record setting.world.heap { strings = bytes; cells = 30 + cells } };
     }
 
+-- the locals hold these values
 abbrev pub holding : List Value → Setting → Setting
 holding values setting = record setting { locals = values }
 
 -- What is seen
 
+-- what a row comes to: an item, one that may be resumed, failure, a run-time error, or the end of the program
 pub data Sight : Type 0 where
   Gave : Item → Setting → Sight
   Suspended : Item → Setting → Sight
@@ -106,6 +120,7 @@ pub data Sight : Type 0 where
   Stopped : ℕ → Option Value → Setting → Sight
   Ended : ℕ → Setting → Sight
 
+-- the setting that an outcome leaves
 abbrev pub setting_after : Outcome → Setting
 setting_after (Fails setting) = setting
 setting_after (Gives item setting) = setting
@@ -123,6 +138,7 @@ sights [] (Suspends item rest setting) = Suspended item setting ∷ []
 sights (row ∷ rows) (Suspends item rest setting) =
     Suspended item setting ∷ sights rows (again rest (setting_after (row setting)))
 
+-- whether the facts hold of an outcome and of each that resuming leads to
 abbrev pub sound : List Row → Outcome → Bool
 sound rows (Fails setting) = is_setting names setting
 sound rows (Gives item setting) = is_outcome names (Gives item setting)
@@ -134,6 +150,7 @@ sound (row ∷ rows) (Suspends item rest setting) =
 
 -- Cases
 
+-- a row, the setting it is applied in, what is done before each resumption, and all that is seen
 pub record RowCase : Type 0 where
   pub row : Row
   pub from : Setting
@@ -149,14 +166,17 @@ pub record CaseHolds (case : RowCase) : Type 0 where
 abbrev pub nothing : Row
 nothing setting = Fails setting
 
+-- nothing is done between the sights
 abbrev pub resumptions : List Sight → List Row
 resumptions [] = []
 resumptions (first ∷ []) = []
 resumptions (first ∷ (second ∷ others)) = nothing ∷ resumptions (second ∷ others)
 
+-- an operation on items
 abbrev pub op : Op → List Item → Row
 op operation items = operation_row operation items
 
+-- a function on items
 abbrev pub fn : Func → List Item → Row
 fn func items = function_row names func items
 
@@ -164,9 +184,11 @@ fn func items = function_row names func items
 abbrev pub case : Row → List Sight → RowCase
 case row to = record { row = row; from = plain; between = resumptions to; to = to }
 
+-- in this setting
 abbrev pub case_from : Setting → Row → List Sight → RowCase
 case_from from row to = record { row = row; from = from; between = resumptions to; to = to }
 
+-- in the plain setting, with these rows before the resumptions
 abbrev pub case_between : List Row → Row → List Sight → RowCase
 case_between between row to = record { row = row; from = plain; between = between; to = to }
 
@@ -174,13 +196,16 @@ case_between between row to = record { row = row; from = plain; between = betwee
 abbrev pub gives : Item → List Sight
 gives item = Gave item plain ∷ []
 
+-- it fails
 abbrev pub fails : List Sight
 fails = Failed plain ∷ []
 
+-- it is an error of this number, about the value of an item
 abbrev pub stops : ℕ → Item → List Sight
 stops number (Val value) = Stopped number (Some value) plain ∷ []
 stops number (Var variable) = []
 
+-- it is an error of this number, about no value
 abbrev pub stops_alone : ℕ → List Sight
 stops_alone number = Stopped number None plain ∷ []
 

@@ -18,6 +18,7 @@ with_room bytes cells =
 abbrev over_strings : ℕ → Row → RowCase
 over_strings bytes row = case_from (with_room bytes 9) row (Stopped 306 None (with_room bytes 9) ∷ [])
 
+-- nothing was charged when the limit of cells was met
 abbrev over_cells : ℕ → Row → RowCase
 over_cells cells row = case_from (with_room 9 cells) row (Stopped 307 None (with_room 9 cells) ∷ [])
 

@@ -6,6 +6,7 @@ use Rattle.icn_value.specs.Values.{Std, File, Input, Output, Errout, Item, Val}
 use Rattle.icn_value.specs.Store.{Setting, Request, ALine, SomeBytes, Reading}
 use Rattle.cases_rows.specs.Cases.{RowCase, case, case_from, plain, op, fn, int, below, str, chars, null, list, gives, stops, Gave, Suspended, Failed, Ended, costs}
 
+-- a file, as an item
 abbrev file : File → Item
 file name = Val (Std name)
 
@@ -23,6 +24,7 @@ with_input left readings setting =
 abbrev reading_of : Request → List ℕ → Reading
 reading_of what left = record { asked = what; left = left; output = 0; errors = 0 }
 
+-- the plain setting at the end of the input
 abbrev at_end : Setting
 at_end = with_input [] [] plain
 

@@ -18,9 +18,11 @@ pub record Report : Type 0 where
 pub record IsReported (report : Report) : Type 0 where
   pub is : error_report names heap report.number report.offending ≡ report.text
 
+-- the report of an error about a value
 abbrev of : ℕ → Value → List ℕ → Report
 of number value text = record { number = number; offending = Some value; text = text }
 
+-- the report of an error about no value
 abbrev alone : ℕ → List ℕ → Report
 alone number text = record { number = number; offending = None; text = text }
 
@@ -68,6 +70,7 @@ reports =
     alone 306 (codes "Run-time error 306\ninadequate space in string region\n") ∷
     alone 307 (codes "Run-time error 307\ninadequate space in block region\n") ∷ []
 
+-- what keywords tell of a run: level 4, co-expression 2, entered from 1, and an error that is kept
 abbrev pub standing : Standing
 standing = record {
   level = 4;
@@ -86,6 +89,7 @@ pub record KeywordCase : Type 0 where
 pub record IsGiven (word : KeywordCase) : Type 0 where
   pub is : keyword_item standing word.keyword ≡ word.item
 
+-- a keyword that gives a value
 abbrev value : AnyKeyword → Value → KeywordCase
 value keyword held = record { keyword = keyword; item = Some (Val held) }
 

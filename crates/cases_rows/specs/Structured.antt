@@ -10,21 +10,27 @@ use Rattle.cases_rows.specs.Cases.{RowCase, case, case_from, case_between, plain
 
 -- Words for what is changed
 
+-- an integer from 0 on, as a value
 abbrev num : ℕ → Value
 num n = Integer (pos n)
 
+-- a string, as a value
 abbrev txt : List ℕ → Value
 txt bytes = Text bytes
 
+-- the element of a list, by its number
 abbrev element : ℕ → ℕ → Item
 element id number = Var (Whole (Element id (pos number)))
 
+-- the field of a record, by its place
 abbrev field : ℕ → ℕ → Item
 field id place = Var (Whole (Field id place))
 
+-- the element of a table, by its key
 abbrev key : ℕ → Value → Item
 key id value = Var (Whole (Key id value))
 
+-- a list whose leftmost item has this number
 abbrev numbered_list : List Value → ℤ → NumberedList Value
 numbered_list items number = record { items = items; number = number }
 
@@ -32,6 +38,7 @@ numbered_list items number = record { items = items; number = number }
 abbrev first_list : List Value → ℤ → Setting → Setting
 first_list items number setting = having_heap (with_list 0 (numbered_list items number)) setting
 
+-- list 1 has these items from this number on
 abbrev second_list : List Value → ℤ → Setting → Setting
 second_list items number setting = having_heap (with_list 1 (numbered_list items number)) setting
 
@@ -40,14 +47,17 @@ abbrev more_list : List Value → Setting → Setting
 more_list items setting =
     having_heap (λ heap. record heap { lists = heap.lists ++ numbered_list items (pos 1) ∷ [] }) setting
 
+-- there is one set more
 abbrev more_set : List Value → Setting → Setting
 more_set members setting = having_heap (λ heap. record heap { sets = heap.sets ++ members ∷ [] }) setting
 
+-- there is one table more
 abbrev more_table : Value → List (Value × Value) → Setting → Setting
 more_table default pairs setting =
     having_heap
     (λ heap. record heap { tables = heap.tables ++ record { default = default; pairs = pairs } ∷ [] }) setting
 
+-- there is one record more
 abbrev more_record : ℕ → List Value → Setting → Setting
 more_record kind fields setting =
     having_heap
@@ -57,6 +67,7 @@ more_record kind fields setting =
 abbrev first_set : List Value → Setting → Setting
 first_set members setting = having_heap (with_set 0 members) setting
 
+-- table 0 has these pairs
 abbrev first_table : List (Value × Value) → Setting → Setting
 first_table pairs setting = having_heap (with_table 0 (record { default = num 0; pairs = pairs })) setting
 

@@ -11,6 +11,7 @@ use Rattle.cases_rows.specs.Cases.{RowCase, case, plain, op, fn, int, below, str
 abbrev text_case : Row → List ℕ → ℕ → RowCase
 text_case row text bytes = case row (Gave (str text) (costs bytes 0 plain) ∷ [])
 
+-- the image of an item is this text, and costs so many bytes
 abbrev image_case : Item → List ℕ → ℕ → RowCase
 image_case item text bytes = text_case (fn F.Image (item ∷ [])) text bytes
 

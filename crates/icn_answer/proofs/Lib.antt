@@ -1,3 +1,4 @@
 pub mod NoFaults
 pub mod FaultCounts
 pub mod ToldContent
+pub mod TornAnswers

@@ -6,4 +6,4 @@ mod lines;
 mod refusal;
 
 pub use answer::Answer;
-pub use refusal::{own_line, refuse};
+pub use refusal::{own_line, refuse, torn_answer};

@@ -1,5 +1,5 @@
 // The line of an answer that no program ran for.
-ghost use Rattle.std.specs.Prelude.{◌≡◌, ◌≤◌, OnOk, IfErr};
+ghost use Rattle.std.specs.Prelude.{◌≡◌, ◌⊎◌, ◌↔◌, ◌≤◌, OnOk, IfErr};
 ghost use Rattle.icn_host.specs.Puts.{LeadsBy, PutsAll};
 ghost use Rattle.icn_answer.specs.Answers.{IsFault};
 ghost use Rattle.icn_answer.specs.Lines.{line_of};
@@ -20,6 +20,7 @@ pub fn refuse<E: Sink>(
     err: &mut E,
 ) -> Answer
     ensures line { PutsItsLine usage.now name.now answer (E.state err.old) (E.state err.new) result }
+    ensures settled { (IsFault result → ⊥) → E.pending err.new ≡ 0 }
     ensures faults { (E.state err.old).faults ≤ (E.state err.new).faults }
     ensures wants { (E.state err.old).wants ≤ (E.state err.new).wants }
 {
@@ -52,6 +53,20 @@ pub fn own_line<E: Sink>(fault: &Answer, err: &mut E)
     }
 }
 
+/// The answer where a file could not be written whole. Its line is put, as far as it can be put.
+pub fn torn_answer<E: Sink>(fault: Fault, err: &mut E) -> Answer
+    ensures failed { (result ≡ Answer.FileFault) ↔ (fault ≡ Fault.Failed) }
+    ensures others { (result ≡ Answer.FileFault) ⊎ (result ≡ Answer.NoMemory) }
+    ensures puts { PutsOwn result (E.state err.old) (E.state err.new) }
+{
+    let answer = match fault {
+        Fault::Failed => Answer::FileFault,
+        Fault::NoMemory => Answer::NoMemory,
+    };
+    own_line(&answer, err);
+    answer
+}
+
 // Puts the line of the answer.
 fn named_line<E: Sink>(
     alloc: Global,
@@ -64,6 +79,7 @@ fn named_line<E: Sink>(
         (PutsAll (E.state err.old) (E.state err.new) (line_of usage.now name.now answer.now)) }
     ensures err { IfErr result
         (λ fault. LeadsBy fault (E.state err.old) (E.state err.new) (line_of usage.now name.now answer.now)) }
+    ensures settled { OnOk result (E.pending err.new ≡ 0) }
     ensures faults { (E.state err.old).faults ≤ (E.state err.new).faults }
     ensures wants { (E.state err.old).wants ≤ (E.state err.new).wants }
 {

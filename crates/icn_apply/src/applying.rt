@@ -61,7 +61,7 @@ pub fn apply<L: Locals, N: Names, I: Source, O: Sink, E: Sink>(
     ensures sized { AnswerKeepsSizes w.old w.new result }
 {
     match what {
-        Applied::Op(op) => icn_ops::first(op, args, w, l, buffer, input),
+        Applied::Op(op) => icn_ops::first(op, args, w, l, buffer, input, out, err),
         Applied::Func(func) => apply_function(func, args, w, l, names, buffer, input, out, err),
     }
 }
@@ -122,15 +122,15 @@ fn resume<L: Locals, I: Source, O: Sink, E: Sink>(
         Residual::Balanced { .. } => icn_scanfn::again(rest, w, l),
         Residual::Found { .. } => icn_scanfn::again(rest, w, l),
         Residual::Among { .. } => icn_scanfn::again(rest, w, l),
-        Residual::TextBytes { .. } => icn_ops::again(rest, w, l, buffer, input),
-        Residual::VariableBytes { .. } => icn_ops::again(rest, w, l, buffer, input),
-        Residual::ListItems { .. } => icn_ops::again(rest, w, l, buffer, input),
-        Residual::SetMembers { .. } => icn_ops::again(rest, w, l, buffer, input),
-        Residual::TableValues { .. } => icn_ops::again(rest, w, l, buffer, input),
-        Residual::RecordFields { .. } => icn_ops::again(rest, w, l, buffer, input),
-        Residual::InputLines => icn_ops::again(rest, w, l, buffer, input),
-        Residual::UndoExchange { .. } => icn_ops::again(rest, w, l, buffer, input),
-        Residual::UndoPosition { .. } => icn_ops::again(rest, w, l, buffer, input),
-        Residual::Counting { .. } => icn_ops::again(rest, w, l, buffer, input),
+        Residual::TextBytes { .. } => icn_ops::again(rest, w, l, buffer, input, out, err),
+        Residual::VariableBytes { .. } => icn_ops::again(rest, w, l, buffer, input, out, err),
+        Residual::ListItems { .. } => icn_ops::again(rest, w, l, buffer, input, out, err),
+        Residual::SetMembers { .. } => icn_ops::again(rest, w, l, buffer, input, out, err),
+        Residual::TableValues { .. } => icn_ops::again(rest, w, l, buffer, input, out, err),
+        Residual::RecordFields { .. } => icn_ops::again(rest, w, l, buffer, input, out, err),
+        Residual::InputLines => icn_ops::again(rest, w, l, buffer, input, out, err),
+        Residual::UndoExchange { .. } => icn_ops::again(rest, w, l, buffer, input, out, err),
+        Residual::UndoPosition { .. } => icn_ops::again(rest, w, l, buffer, input, out, err),
+        Residual::Counting { .. } => icn_ops::again(rest, w, l, buffer, input, out, err),
     }
 }

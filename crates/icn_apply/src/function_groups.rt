@@ -13,7 +13,7 @@ pub enum FunctionGroup {
     Structures,
 }
 
-// Which of them a function is among.
+/// What a function is over: strings, scanning, structures, files, or errors.
 pub fn kind_of(func: Func) -> FunctionGroup
     ensures { IsOfKind result func }
 {

@@ -26,7 +26,8 @@ use icn_text::Func;
 use icn_value::Item;
 use icn_vars::{Halt, Locals, Outcome, World};
 
-// Applies a function to items.
+/// Applies a function to items. `Halt` is the run-time error of its row, the end of the program by `exit`, a reading or a
+/// writing that failed, or want of memory.
 pub fn apply_function<L: Locals, N: Names, I: Source, O: Sink, E: Sink>(
     func: Func,
     args: &[Item],

@@ -18,7 +18,7 @@ fn text(code: &Code, place: u32) -> &[u8]
     }
 }
 
-// The name of a procedure, by its place.
+/// The name of a procedure, by its place.
 pub fn procedure_name(code: &Code, place: usize) -> &[u8]
     requires { place < length (tables_of code.now).procs }
     ensures { slice_get (names_of (tables_of code.now)).procedures place ≡ Some result.now }
@@ -26,7 +26,7 @@ pub fn procedure_name(code: &Code, place: usize) -> &[u8]
     text(code, code.procs[place].name)
 }
 
-// The name of a record, by its place.
+/// The name of a record, by its place.
 pub fn record_name(code: &Code, place: usize) -> &[u8]
     requires { place < length (tables_of code.now).records }
     ensures { slice_get (names_of (tables_of code.now)).records place ≡ Some result.now }
@@ -34,7 +34,7 @@ pub fn record_name(code: &Code, place: usize) -> &[u8]
     text(code, code.records[place].name)
 }
 
-// The name of a function, by its place among them.
+/// The name of a function, by its place among them.
 pub fn function_name(place: usize) -> &'static [u8]
     requires { place < length functions }
     ensures { slice_get (map func_name functions) place ≡ Some result.now }

@@ -70,7 +70,8 @@ pub fn natural_of(n: i64, val: Val) -> Result<u64, Stop>
     u64::try_from(n).map_err(|_| Stop::Error(205, Some(val)))
 }
 
-/// What an operation on integers gives, or 201, 202 or 203 where it gives nothing.
+/// What an operation on integers gives. Where it gives nothing, the error is 201 for a division by zero, 202 for a remainder
+/// by zero, 203 for an overflow.
 pub fn arith_result(given: Result<i64, Arith>) -> Result<i64, Stop>
     ensures found { (all : Extent) (setting : Setting)
         → IsFound all (number_or_error given) setting setting (λ (n : ℤ). n) result }

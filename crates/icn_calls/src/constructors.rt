@@ -1,7 +1,7 @@
 // Records that are made of arguments.
 ghost use Rattle.std.specs.Prelude.{◌≡◌, ◌<◌, ◌≤◌, ◌^◌, [], Some, length, map, slice_get, IfErr, IfOk, MatchResult};
 ghost use Rattle.std.specs.List.{All};
-ghost use Rattle.icn_profile.specs.Numbers.{most_entries};
+ghost use Rattle.icn_profile.specs.Numbers.{most_fields};
 ghost use Rattle.icn_defs.specs.StepRows.{record_row};
 ghost use Rattle.icn_frames.specs.Stacks as flat;
 ghost use Rattle.icn_code.specs.Codes.{RecordType, Tables};
@@ -56,7 +56,7 @@ fn field_count(code: &Code, kind: u32) -> usize
     requires { kind < length (tables_of code.now).records }
     ensures count { (entry : RecordType) → slice_get (tables_of code.now).records kind ≡ Some entry
         → result ≡ length entry.fields }
-    ensures few { result ≤ most_entries }
+    ensures few { result ≤ most_fields }
 {
     code.records[kind as usize].fields.as_slice().len()
 }

@@ -1,6 +1,6 @@
 // Fields of records, which are variables.
 ghost use Rattle.std.specs.Prelude.{◌≡◌, ◌∷◌, ◌<◌, ◌≤◌, [], Some, length, position, slice_get, IfErr, IfSome, MatchResult};
-ghost use Rattle.icn_profile.specs.Numbers.{most_entries};
+ghost use Rattle.icn_profile.specs.Numbers.{most_fields};
 ghost use Rattle.law_names.specs.RowSizes.{FitSizes};
 ghost use Rattle.icn_frames.specs.Stacks as flat;
 ghost use Rattle.icn_code.specs.Codes.{RecordType, Tables};
@@ -33,7 +33,7 @@ fn place_among(numbers: &[u32], number: u32) -> Option<usize>
 
 // The first place of a number, among 65535 at most.
 fn first_place(numbers: &[u32], number: u32) -> Option<u16>
-    requires { length numbers.now ≤ most_entries }
+    requires { length numbers.now ≤ most_fields }
     ensures place { result ≡ position (is_number number) numbers.now }
     ensures within { IfSome result (λ place. place < length numbers.now) }
 {

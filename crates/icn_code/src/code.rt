@@ -53,8 +53,8 @@ pub struct LinkedProcedure {
     pub instrs: Vec<Instr>,
 }
 
-/// The code of a linked program: its tables, with at most 65535 entries each. Every code keeps the rules of the tables, so
-/// that each place in it is one of its table.
+/// The code of a linked program: its tables, whose numbers have 32 bits. Every code keeps the rules of the tables, so that each
+/// place in it is one of its table.
 #[derive(Debug, Drop)]
 pub struct Code {
     pub strings: Vec<Bytes>,

@@ -27,11 +27,11 @@ pub enum Instr {
     Dup,
     /// Applies an operation to as many operands as it has.
     Op(Op),
-    /// Makes a list of so many operands, up to 65535.
+    /// Makes a list of so many operands.
     Llist(u32),
     /// Takes a field by its entry in the table of fields.
     Field(u32),
-    /// Calls the operand below so many arguments, up to 65535, with them.
+    /// Calls the operand below so many arguments with them.
     Invoke(u32),
     /// Calls an operand with the elements of another.
     Appl,

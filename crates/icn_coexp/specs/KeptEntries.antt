@@ -20,6 +20,7 @@ status_seen Active = code.Active
 status_seen (Waiting stack) = code.Waiting stack.flat
 status_seen Exhausted = code.Exhausted
 
+-- an entry as callers see it
 abbrev pub coexp_seen : {K : Type 0} → CoexpEntry K → Coexp
 coexp_seen entry = record {
   status = status_seen entry.status;
@@ -29,6 +30,7 @@ coexp_seen entry = record {
   address = entry.address;
 }
 
+-- the stack that runs as callers see it, if one does
 abbrev pub running_seen : {K : Type 0} → RunningStack K → Option FlatStack
 running_seen (On stack) = Some stack.flat
 running_seen Hopping = None
@@ -45,6 +47,7 @@ table_seen entries active running =
 
 -- another status or another activator of one of the entries
 
+-- the entries with another status of this one, if it is there
 abbrev pub status_put_in : {K : Type 0} → ℕ → Status K → List (CoexpEntry K) → Option (CoexpEntry K)
     → List (CoexpEntry K)
 status_put_in n status entries (Some entry) = slice_set entries n (record entry { status = status })
@@ -54,6 +57,7 @@ status_put_in n status entries None = entries
 abbrev pub status_put : {K : Type 0} → ℕ → Status K → List (CoexpEntry K) → List (CoexpEntry K)
 status_put n status entries = status_put_in n status entries (slice_get entries n)
 
+-- the entries with another activator of this one, if it is there
 abbrev pub activator_put_in : {K : Type 0} → ℕ → ℕ → List (CoexpEntry K) → Option (CoexpEntry K)
     → List (CoexpEntry K)
 activator_put_in n activator entries (Some entry) =
@@ -100,10 +104,12 @@ abbrev pub WaitsIn : {K : Type 0} → ℕ → RunningStack K → List (CoexpEntr
 WaitsIn active (On stack) old new = new ≡ status_put active (Waiting stack) old
 WaitsIn active Hopping old new = ⊥
 
+-- it is not fresh
 abbrev pub HasBegun : {K : Type 0} → Status K → Type 0
 HasBegun (Fresh stack) = ⊥
 HasBegun status = Unit {0}
 
+-- an entry that is there, and not fresh
 abbrev pub IsBegun : {K : Type 0} → Option (CoexpEntry K) → Type 0
 IsBegun (Some entry) = HasBegun entry.status
 IsBegun None = ⊥
@@ -122,6 +128,7 @@ pub record Fits {K : Type 0} (entries : List (CoexpEntry K)) (active : Option �
   pub status : StatusFits active n entry entry.status
   pub activator : IsBegun (slice_get entries entry.activator)
 
+-- each entry fits among all
 abbrev pub AllFit : {K : Type 0} → List (CoexpEntry K) → Option ℕ → Type 0
 AllFit entries active =
     (n : ℕ) (entry : CoexpEntry _) → slice_get entries n ≡ Some entry → Fits entries active n entry
@@ -132,6 +139,7 @@ RunsAs (On stack) Active = Unit {0}
 RunsAs Hopping Exhausted = Unit {0}
 RunsAs running status = ⊥
 
+-- the active one is there, and runs or is exhausted as it must
 abbrev pub IsHere : {K : Type 0} → RunningStack K → Option (CoexpEntry K) → Type 0
 IsHere running (Some entry) = RunsAs running entry.status
 IsHere running None = ⊥

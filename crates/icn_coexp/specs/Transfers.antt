@@ -45,6 +45,7 @@ first_table m = record { coexps = main_coexp ∷ []; active = 0; running = Some 
 
 -- Looking. Each number is that of a co-expression; elsewhere these give something.
 
+-- the status of a co-expression; one that is not there is exhausted
 abbrev pub status_in : Option Coexp → Status FlatStack
 status_in (Some coexp) = coexp.status
 status_in None = Exhausted
@@ -53,6 +54,7 @@ status_in None = Exhausted
 abbrev pub status_of : ℕ → CoexpTable → Status FlatStack
 status_of n t = status_in (slice_get t.coexps n)
 
+-- the activator of a co-expression; of one that is not there, `&main`
 abbrev pub activator_in : Option Coexp → ℕ
 activator_in (Some coexp) = coexp.activator
 activator_in None = 0
@@ -61,6 +63,7 @@ activator_in None = 0
 abbrev pub source : CoexpTable → ℕ
 source t = activator_in (slice_get t.coexps t.active)
 
+-- the values of its locals that a co-expression begins with
 abbrev pub values_in : Option Coexp → List Val
 values_in (Some coexp) = coexp.values
 values_in None = []
@@ -76,6 +79,7 @@ abbrev pub with_status_in : ℕ → Status FlatStack → List Coexp → Option C
 with_status_in n status coexps (Some coexp) = slice_set coexps n (record coexp { status = status })
 with_status_in n status coexps None = coexps
 
+-- another status of the co-expression of this number
 abbrev pub with_status : ℕ → Status FlatStack → List Coexp → List Coexp
 with_status n status coexps = with_status_in n status coexps (slice_get coexps n)
 
@@ -85,6 +89,7 @@ with_activator_in n activator coexps (Some coexp) =
     slice_set coexps n (record coexp { activator = activator })
 with_activator_in n activator coexps None = coexps
 
+-- another activator of the co-expression of this number
 abbrev pub with_activator : ℕ → ℕ → List Coexp → List Coexp
 with_activator n activator coexps = with_activator_in n activator coexps (slice_get coexps n)
 
@@ -111,6 +116,7 @@ on_stack n m t = record { coexps = with_status n Active t.coexps; active = n; ru
 abbrev pub hop_to : ℕ → CoexpTable → CoexpTable
 hop_to n t = record t { active = n; running = None }
 
+-- a fresh co-expression begins, on a stack of its own
 abbrev pub begin_by : ℕ → CoexpTable → Option Coexp → CoexpTable
 begin_by n t (Some coexp) = on_stack n (flat.begin coexp.proc coexp.values coexp.address) t
 begin_by n t None = t
@@ -122,6 +128,7 @@ give_by n value t Active = None
 give_by n value t (Waiting m) = Some (on_stack n (flat.push (Items.Val value) m) t)
 give_by n value t Exhausted = Some (hop_to n t)
 
+-- the co-expression of this number is entered with a value
 abbrev pub enter_with : ℕ → Val → CoexpTable → Option CoexpTable
 enter_with n value t = give_by n value t (status_of n t)
 
@@ -132,6 +139,7 @@ fail_by n t Active = None
 fail_by n t (Waiting m) = Some (on_stack n m t)
 fail_by n t Exhausted = Some (hop_to n t)
 
+-- the co-expression of this number is entered with failure
 abbrev pub enter_failing : ℕ → CoexpTable → Option CoexpTable
 enter_failing n t = fail_by n t (status_of n t)
 
@@ -140,6 +148,7 @@ abbrev pub wait_on : CoexpTable → Option FlatStack → CoexpTable
 wait_on t (Some m) = record t { coexps = with_status t.active (Waiting m) t.coexps }
 wait_on t None = t
 
+-- the active co-expression waits with its stack, if it has one that runs
 abbrev pub with_waiting : CoexpTable → CoexpTable
 with_waiting t = wait_on t t.running
 
@@ -175,6 +184,7 @@ abbrev pub KeepsRoom : AfterTransfer → ℕ → ℕ → Type 0
 KeepsRoom AfterTransfers.Moved old new = Unit {0}
 KeepsRoom went old new = new ≡ old
 
+-- what a transfer comes to, by the stack that runs behind it
 abbrev pub went_by : Option FlatStack → AfterTransfer
 went_by (Some m) = AfterTransfers.Moved
 went_by None = AfterTransfers.Exhausted

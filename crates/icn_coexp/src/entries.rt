@@ -57,7 +57,7 @@ impl<K: Stack<Cell> + Drop> RunningStack<K> {
     }
 }
 
-// Puts another status in the place of an entry's, and gives that.
+/// Puts another status in the place of an entry's, and gives that.
 pub fn replace_status<K: Stack<Cell> + Drop>(
     entries: &mut Vec<CoexpEntry<K>>,
     id: u32,
@@ -71,7 +71,7 @@ pub fn replace_status<K: Stack<Cell> + Drop>(
     mem::replace(&mut entries[id as usize].status, status)
 }
 
-// Sets what entered an entry last.
+/// Sets what entered an entry last.
 pub fn set_activator<K: Stack<Cell> + Drop>(
     entries: &mut Vec<CoexpEntry<K>>,
     id: u32,
@@ -84,7 +84,7 @@ pub fn set_activator<K: Stack<Cell> + Drop>(
     entries[id as usize].activator = activator;
 }
 
-// Whether a co-expression is exhausted.
+/// Whether a co-expression is exhausted.
 pub fn is_exhausted<K: Stack<Cell> + Drop>(entries: &Vec<CoexpEntry<K>>, id: u32) -> bool
     requires { id < vec_len entries.now }
     ensures { IfSome (status_at id entries.now.items) (λ status. result ≡ exhausted_of (status_seen status)) }
@@ -92,7 +92,7 @@ pub fn is_exhausted<K: Stack<Cell> + Drop>(entries: &Vec<CoexpEntry<K>>, id: u32
     matches!(entries[id as usize].status, Status::Exhausted)
 }
 
-// Puts a value on a stack that has room for it.
+/// Puts a value on a stack that has room for it.
 pub fn with_value<K: Stack<Cell> + Drop>(stack: Frames<K>, v: Val) -> Frames<K>
     requires { 0 < stack.spare }
     ensures { result.flat ≡ flat.push (Items.Val v) stack.flat }
@@ -104,7 +104,7 @@ pub fn with_value<K: Stack<Cell> + Drop>(stack: Frames<K>, v: Val) -> Frames<K>
     }
 }
 
-// Takes out the stack of one that is given a value, and makes it the active one.
+/// Takes out the stack of one that is given a value, and makes it the active one.
 pub fn give_to<K: Stack<Cell> + Drop>(
     entries: &mut Vec<CoexpEntry<K>>,
     id: u32,
@@ -122,7 +122,7 @@ pub fn give_to<K: Stack<Cell> + Drop>(
     }
 }
 
-// Takes out the stack of a waiting one, and makes it the active one.
+/// Takes out the stack of a waiting one, and makes it the active one.
 pub fn fail_to<K: Stack<Cell> + Drop>(entries: &mut Vec<CoexpEntry<K>>, id: u32) -> Frames<K>
     requires live { id < vec_len entries.old }
     requires can { CanFail (status_at id entries.old.items) }
@@ -135,7 +135,7 @@ pub fn fail_to<K: Stack<Cell> + Drop>(entries: &mut Vec<CoexpEntry<K>>, id: u32)
     }
 }
 
-// Puts the stack that runs into the entry of the active one, which waits.
+/// Puts the stack that runs into the entry of the active one, which waits.
 pub fn wait<K: Stack<Cell> + Drop>(
     entries: &mut Vec<CoexpEntry<K>>,
     active: u32,

@@ -47,22 +47,26 @@ pub record CreationsAreRead (beside : Beside) (t : CoexpTable) (n : Frames) : Ty
 
 -- The stack that runs makes a co-expression with the present values of its locals, which begins at its place, and goes on at a label with its value.
 
+-- the same, by the stack that runs, if one does
 abbrev pub created_on : ℕ → CoexpTable → Option FlatStack → CoexpTable
 created_on label t (Some m) =
     record (with_new (held.locals m) (held.proc m) m.address t)
     { running = Some (held.push (HeldVal (HeldCoexp (length t.coexps))) (held.go label m)) }
 created_on label t None = t
 
+-- the co-expressions once the stack that runs has made one, and goes on at a label
 abbrev pub create_entry : ℕ → CoexpTable → CoexpTable
 create_entry label t = created_on label t t.running
 
 -- The stack that runs gets the value of a co-expression that is made as another one was.
 
+-- the same, by the stack that runs, if one does
 abbrev pub copied_on : ℕ → CoexpTable → Option FlatStack → CoexpTable
 copied_on id t (Some m) = record (with_copy t
     (slice_get t.coexps id)) { running = Some (held.push (HeldVal (HeldCoexp (length t.coexps))) m) }
 copied_on id t None = t
 
+-- the co-expressions once one is made as this one was
 abbrev pub copy_entry : ℕ → CoexpTable → CoexpTable
 copy_entry id t = copied_on id t t.running
 

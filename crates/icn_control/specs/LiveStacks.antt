@@ -19,6 +19,7 @@ use Rattle.icn_code.specs.Codes.{Tables, Proc as Procedure}
 abbrev pub variables_of : Procedure → ℕ
 variables_of entry = entry.parameters + entry.locals
 
+-- how many locals an activation of the procedure of this number has
 abbrev pub variable_count : Tables → ℕ → ℕ
 variable_count tables proc = option_map_or variables_of (slice_get tables.procs proc) 0
 
@@ -45,6 +46,7 @@ IsLiveWhy reach (Scan pair) = IsLivePair reach.extent pair
 IsLiveWhy reach Escan = ⊤
 IsLiveWhy reach Proc = ⊤
 
+-- a frame, of a call or the base
 abbrev pub IsFrame : Option Cell → Type 0
 IsFrame (Some (Base proc locals)) = ⊤
 IsFrame (Some (Call proc locals level registers place)) = ⊤

@@ -27,12 +27,14 @@ use Rattle.icn_control.specs.declared.machine.RunState.TheVariants as RunStates
 
 -- co-expressions and the stacks with which they wait
 
+-- how a co-expression stands, once its stack is read
 abbrev pub status_in : Extent → Status FlatStack → Status Frames
 status_in all Fresh = Fresh
 status_in all Active = Active
 status_in all (Waiting m) = Waiting (stack_in all m)
 status_in all Exhausted = Exhausted
 
+-- a co-expression, once its stack and its values are read
 abbrev pub coexp_in : Extent → Coexp → code.Coexp Frames
 coexp_in all coexp = record {
   status = status_in all coexp.status;
@@ -134,6 +136,7 @@ SettlesAt tables outside state m result =
 
 -- What a machine keeps
 
+-- a stack that waits holds what is of the world
 abbrev pub IsLiveStatus : Tables → Reach → Status FlatStack → Type 0
 IsLiveStatus tables reach Fresh = ⊤
 IsLiveStatus tables reach Active = ⊤

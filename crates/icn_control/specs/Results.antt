@@ -6,6 +6,7 @@ use Rattle.icn_value.specs.declared.item.VarRef.TheVariants.{Whole, Part}
 use Rattle.icn_value.specs.declared.item.Item.{Item}
 use Rattle.icn_value.specs.declared.item.Item.TheVariants.{Val, Var}
 
+-- a local of the activation at hand
 abbrev pub is_local_root : Root → Bool
 is_local_root (Roots.Local place) = true
 is_local_root (Roots.Global place) = false

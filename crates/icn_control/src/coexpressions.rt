@@ -93,7 +93,7 @@ fn make_again<K: Stack<Cell> + Drop>(m: &mut Machine<K>, id: u32) -> Result<RunS
     }
 }
 
-// Charges a co-expression of so many locals, which is the next one of the heap. The errors are 307 and want of memory.
+/// Charges a co-expression of so many locals, which is the next one of the heap. The errors are 307 and want of memory.
 #[tactic(auto, using(icn_vars::proofs::GrowingWorlds::grows))]
 pub fn charge_coexp(world: &mut World, locals: u64) -> Result<(), Stop>
     ensures row { MakesCoexp locals world.old world.new result }

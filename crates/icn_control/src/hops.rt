@@ -60,7 +60,7 @@ fn pass_failure<K: Stack<Cell> + Drop>(m: &mut Machine<K>) -> RunState
     }
 }
 
-// Whether another co-expression is active after a transfer.
+/// Whether another co-expression is active after a transfer.
 pub fn is_moved(went: AfterTransfer) -> bool
     ensures { result ≡ is_moved went }
 {

@@ -13,7 +13,7 @@ use icn_value::{Item, Val};
 use icn_vars::{HeldError, World};
 use std::alloc::AllocError;
 
-// `&errornumber`: the number of the error.
+/// `&errornumber`: the number of the error.
 pub fn kept_number(kept: Option<HeldError>) -> Option<Item>
     ensures item { (all : Extent) → option_map (item_in all) result ≡ kept_number (kept_in all kept) }
     ensures live { IfSome result (λ x. (reach : Reach) → IsLiveItem reach x) }
@@ -24,7 +24,7 @@ pub fn kept_number(kept: Option<HeldError>) -> Option<Item>
     }
 }
 
-// `&errorvalue`: the value that it is about, if any.
+/// `&errorvalue`: the value that it is about, if any.
 pub fn kept_value(world: &World) -> Option<Item>
     ensures item { option_map (item_in (extent_of world.now.heap)) result
         ≡ kept_value (kept_in (extent_of world.now.heap) world.now.words.kept) }
@@ -39,7 +39,7 @@ pub fn kept_value(world: &World) -> Option<Item>
     }
 }
 
-// `&errortext`: the text that a report has for it, which is not charged. The error is want of memory.
+/// `&errortext`: the text that a report has for it, which is not charged. The error is want of memory.
 pub fn kept_text(world: &mut World) -> Result<Option<Item>, AllocError>
     ensures item { IfOk result (λ item. option_map (item_in (extent_of world.new.heap)) item
         ≡ kept_text (kept_in (extent_of world.old.heap) world.old.words.kept)) }

@@ -14,7 +14,7 @@ use icn_frames::{Cell, Frames, Stack};
 use icn_value::{Cset, Item, Val};
 use std::alloc::AllocError;
 
-/// Pushes an integer of the code, by its index, which must be there.
+/// Pushes an integer of the code, by its index, which must be there. `AllocError` is want of memory.
 pub fn push_integer<K: Stack<Cell> + Drop>(
     frames: &mut Frames<K>,
     code: &Code,
@@ -30,7 +30,7 @@ pub fn push_integer<K: Stack<Cell> + Drop>(
     Ok(())
 }
 
-/// Pushes the variable of a local, by its index, which must be there.
+/// Pushes the variable of a local, by its index, which must be there. `AllocError` is want of memory.
 pub fn push_local<K: Stack<Cell> + Drop>(
     frames: &mut Frames<K>,
     index: u32,
@@ -43,7 +43,7 @@ pub fn push_local<K: Stack<Cell> + Drop>(
     Ok(())
 }
 
-/// Pushes the variable of a global, by its index.
+/// Pushes the variable of a global, by its index. `AllocError` is want of memory.
 pub fn push_global<K: Stack<Cell> + Drop>(
     frames: &mut Frames<K>,
     index: u32,
@@ -56,7 +56,7 @@ pub fn push_global<K: Stack<Cell> + Drop>(
     Ok(())
 }
 
-/// Pushes a cset of the code, by its index, which must be there.
+/// Pushes a cset of the code, by its index, which must be there. `AllocError` is want of memory.
 pub fn push_cset<K: Stack<Cell> + Drop>(
     frames: &mut Frames<K>,
     code: &Code,
@@ -73,7 +73,7 @@ pub fn push_cset<K: Stack<Cell> + Drop>(
 }
 
 /// Pushes the variable of a static of the procedure that runs, by its index among them; `first` is the number of the
-/// procedure's first static, and so many there are below 2 ^ 32.
+/// procedure's first static, and so many there are below 2 ^ 32. `AllocError` is want of memory.
 pub fn push_static<K: Stack<Cell> + Drop>(
     frames: &mut Frames<K>,
     first: u32,

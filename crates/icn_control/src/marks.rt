@@ -29,7 +29,7 @@ pub fn unmark<K: Stack<Cell> + Drop>(m: &mut Machine<K>)
 }
 
 /// Counts a result of the innermost limit mark down, which must be there with an operand and a count above 0. After the last
-/// one the mark is dropped, else it is left suspended.
+/// one the mark is dropped, else it is left suspended. `AllocError` is want of memory.
 pub fn lsusp<K: Stack<Cell> + Drop>(m: &mut Machine<K>) -> Result<(), AllocError>
     requires stands { IsRunnable m.old }
     requires operand { IsSome (flat.pop (stack_of m.old)) }

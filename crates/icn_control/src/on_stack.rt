@@ -13,7 +13,7 @@ use icn_frames::{Cell, Frames, Stack, Why, is_plain_operand};
 use icn_value::{Item, Pair};
 use std::alloc::AllocError;
 
-/// Pushes null.
+/// Pushes null. `AllocError` is want of memory.
 pub fn push_null<K: Stack<Cell> + Drop>(frames: &mut Frames<K>) -> Result<(), AllocError>
     ensures step { OnOk result (GoesOn Instrs.Pnull frames.old.flat frames.new.flat) }
     ensures live { OnOk result (StaysLive frames.old.flat frames.new.flat) }
@@ -31,7 +31,7 @@ pub fn drop_operand<K: Stack<Cell> + Drop>(frames: &mut Frames<K>)
     frames.drop_top();
 }
 
-/// Pushes the top operand, which must be there, once more.
+/// Pushes the top operand, which must be there, once more. `AllocError` is want of memory.
 pub fn duplicate<K: Stack<Cell> + Drop>(frames: &mut Frames<K>) -> Result<(), AllocError>
     requires { IsSome (flat.pop frames.old.flat) }
     ensures step { OnOk result (GoesOn Instrs.Dup frames.old.flat frames.new.flat) }
@@ -49,7 +49,7 @@ pub fn duplicate<K: Stack<Cell> + Drop>(frames: &mut Frames<K>) -> Result<(), Al
     Ok(())
 }
 
-/// Opens a plain mark, with a label or without one.
+/// Opens a plain mark, with a label or without one. `AllocError` is want of memory.
 pub fn open_mark<K: Stack<Cell> + Drop>(
     frames: &mut Frames<K>,
     label: Option<u32>,
@@ -89,7 +89,8 @@ pub fn drop_mark<K: Stack<Cell> + Drop>(frames: &mut Frames<K>) -> Option<Pair>
     frames.unmark()
 }
 
-/// Leaves the innermost mark suspended, with the top operand as its result outside. Both must be there.
+/// Leaves the innermost mark suspended, with the top operand as its result outside. Both must be there. `AllocError` is want
+/// of memory.
 pub fn give_suspended<K: Stack<Cell> + Drop>(frames: &mut Frames<K>) -> Result<(), AllocError>
     requires operand { IsSome (flat.pop frames.old.flat) }
     requires mark { IfSome (flat.pop frames.old.flat) (λ popped. flat.at_base popped.1 ≡ false) }
@@ -102,7 +103,7 @@ pub fn give_suspended<K: Stack<Cell> + Drop>(frames: &mut Frames<K>) -> Result<(
 }
 
 /// Counts a result of the innermost limit mark down, which must be there with an operand and a count above 0. After the last
-/// one the mark is dropped, else it is left suspended. Gives the pair that comes back.
+/// one the mark is dropped, else it is left suspended. Gives the pair that comes back. `AllocError` is want of memory.
 pub fn give_limited<K: Stack<Cell> + Drop>(
     frames: &mut Frames<K>,
 ) -> Result<Option<Pair>, AllocError>
@@ -123,7 +124,8 @@ pub fn give_limited<K: Stack<Cell> + Drop>(
     Ok(pair)
 }
 
-/// Pushes the operand below the innermost mark, which must not be the frame, once more. It must be there.
+/// Pushes the operand below the innermost mark, which must not be the frame, once more. It must be there. `AllocError` is
+/// want of memory.
 pub fn push_below<K: Stack<Cell> + Drop>(frames: &mut Frames<K>) -> Result<(), AllocError>
     requires operand { IsSome (flat.below frames.old.flat) }
     requires mark { is_none (flat.unmark frames.old.flat) ≡ false }

@@ -52,7 +52,7 @@ fn string_at(code: &Code, index: u32) -> &[u8]
     }
 }
 
-// Keeps a text in the heap of a world, without a charge.
+/// Keeps a text in the heap of a world, without a charge. `AllocError` is want of memory.
 #[tactic(auto, using(icn_vars::proofs::GrowingWorlds::grows))]
 pub fn hold(world: &mut World, bytes: &[u8]) -> Result<Span, AllocError>
     ensures live { IfOk result (IsText (extent_of world.new.heap)) }

@@ -108,7 +108,7 @@ fn activate<K: Stack<Cell> + Drop>(m: &mut Machine<K>, id: u32, v: Val) -> RunSt
     }
 }
 
-// The number of a co-expression, where a value is one.
+/// The number of a co-expression, where a value is one.
 pub fn coexp_of(v: Val) -> Option<u32>
     ensures { result ≡ coexp_number v }
 {
@@ -127,7 +127,7 @@ pub fn coexp_of(v: Val) -> Option<u32>
     }
 }
 
-// Takes the top operand, which must be there, for its value. The errors are those of the value.
+/// Takes the top operand, which must be there, for its value. The errors are those of the value.
 pub fn take_value<K: Stack<Cell> + Drop>(frames: &mut Frames<K>, world: &World) -> Result<Val, Stop>
     requires operand { IsSome (flat.pop frames.old.flat) }
     requires stack { (tables : Tables) × IsLiveStack tables (reach_of world.now []) frames.old.flat }
@@ -142,7 +142,8 @@ pub fn take_value<K: Stack<Cell> + Drop>(frames: &mut Frames<K>, world: &World) 
     value_of(frames, world, x)
 }
 
-// Takes the two top operands, which must be there, for their values, the lower one's first. The errors are those of the values.
+/// Takes the two top operands, which must be there, for their values, the lower one's first. The errors are those of the
+/// values.
 pub fn take_two_values<K: Stack<Cell> + Drop>(
     frames: &mut Frames<K>,
     world: &World,

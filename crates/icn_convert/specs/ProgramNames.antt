@@ -28,6 +28,7 @@ kind_name Function = codes "function "
 abbrev pub constructor_name : Names → ℕ → List ℕ
 constructor_name names kind = unwrap_or (slice_get names.records kind) []
 
+-- a procedure has a name; other values need none
 abbrev pub NamedBy : Names → Val → Type 0
 NamedBy names Null = ⊤
 NamedBy names (Integer n) = ⊤

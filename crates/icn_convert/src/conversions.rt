@@ -40,7 +40,8 @@ pub fn to_cset(heap: &Heap, val: Val) -> Option<Cset>
     }
 }
 
-/// The text of a value, which is charged where it is made. `None` comes exactly where a value has no text.
+/// The text of a value, which is charged where it is made. `None` comes exactly where a value has no text. The error is the
+/// limit that refuses the charge, or else want of memory; the heap is then as it was.
 pub fn to_text(heap: &mut Heap, val: Val) -> Result<Option<Span>, Full>
     requires { IsLive (extent_of heap.old) val }
     ensures live { IfOk result (λ found. IfSome found (IsText (extent_of heap.new))) }

@@ -29,7 +29,7 @@ impl CsetText {
     }
 }
 
-// The members of a cset as a text. It takes no memory.
+/// The members of a cset as a text. It takes no memory.
 pub fn text_of_cset(cset: &Cset) -> CsetText
     ensures { result ≡ members_of cset.now }
 {
@@ -44,7 +44,7 @@ pub fn text_of_cset(cset: &Cset) -> CsetText
     CsetText { bytes, len }
 }
 
-// The bytes of a text as a cset. It takes no memory.
+/// The bytes of a text as a cset. It takes no memory.
 pub fn cset_of_text(text: &[u8]) -> Cset
     ensures { members_of result ≡ members (contains text.now) }
 {

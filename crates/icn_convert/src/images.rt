@@ -25,7 +25,7 @@ use icn_text::decimal;
 use icn_value::{Cset, File, Val};
 use std::alloc::{AllocError, Global};
 
-/// The text that shows a value, as `image` gives it.
+/// The text that shows a value, as `image` gives it. `AllocError` is want of memory.
 pub fn image<N: Names>(
     alloc: Global,
     heap: &Heap,

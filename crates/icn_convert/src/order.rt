@@ -123,7 +123,7 @@ fn sort_text<'a, N: Names>(heap: &'a Heap, names: &'a N, val: Val) -> SortText<'
     }
 }
 
-// The name of a record.
+/// The name of the constructor that made a record.
 #[tactic(auto, using(crate::proofs::NamedRecords::kind_named))]
 pub fn record_name<'a, N: Names>(heap: &Heap, names: &'a N, id: u32) -> &'a [u8]
     requires live { IsLive (extent_of heap.now) (Rec id) }

@@ -6,7 +6,7 @@ ghost use Rattle.std.specs.Fmt.{digit_glyph};
 use icn_profile::BACKSLASH;
 use std::alloc::AllocError;
 
-// Appends a text between quotes, with what needs it escaped.
+/// Appends a text between quotes, with what needs it escaped. `AllocError` is want of memory.
 pub fn push_quoted(out: &mut Vec<u8>, quote: u8, text: &[u8]) -> Result<(), AllocError>
     ensures { OnOk result (out.new.items ≡ out.old.items ++ in_quotes quote text.now) }
 {

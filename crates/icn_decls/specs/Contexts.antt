@@ -27,6 +27,7 @@ create_context = record { in_create = true; loops = [] }
 abbrev pub enter_loop : Bool → Context → Context
 enter_loop next context = record { in_create = context.in_create; loops = next ∷ context.loops }
 
+-- the loops outside the innermost one
 abbrev pub others : List Bool → List Bool
 others [] = []
 others (loop ∷ loops) = loops
@@ -35,6 +36,7 @@ others (loop ∷ loops) = loops
 abbrev pub leave_loop : Context → Context
 leave_loop context = record { in_create = context.in_create; loops = others context.loops }
 
+-- this rule is broken at this place
 abbrev pub fault : Rule → Place → List BrokenRule
 fault rule place = record { rule = rule; place = place } ∷ []
 
@@ -46,6 +48,7 @@ result_faults context place = if context.in_create then fault C4 place else []
 abbrev pub loopless : Bool → Rule → Place → List BrokenRule
 loopless in_create rule place = if in_create then fault C4 place else fault rule place
 
+-- a `break` breaks no rule in a loop
 abbrev pub break_by : Bool → List Bool → Place → List BrokenRule
 break_by in_create [] place = loopless in_create C2 place
 break_by in_create (loop ∷ loops) place = []
@@ -54,6 +57,7 @@ break_by in_create (loop ∷ loops) place = []
 abbrev pub break_faults : Context → Place → List BrokenRule
 break_faults context place = break_by context.in_create context.loops place
 
+-- a `next` breaks no rule in a loop where it may stand
 abbrev pub next_by : Bool → List Bool → Place → List BrokenRule
 next_by in_create [] place = loopless in_create C3 place
 next_by in_create (next ∷ loops) place = if next then [] else fault C3 place

@@ -1,7 +1,7 @@
 -- The context rules that a file breaks, in the order of their places, and at one place in the order of their numbers.
 use Rattle.std.specs.Prelude.{ℕ, Bool, true, false, List, [], ◌∷◌, ◌++◌, length, nat_lt, if◌then◌else◌}
 use Rattle.std.specs.List.{flat_map}
-use Rattle.icn_profile.specs.Numbers.{most_entries}
+use Rattle.icn_profile.specs.Numbers.{most_names}
 use Rattle.icn_tree.specs.declared.rule.Rule.{Rule}
 use Rattle.icn_tree.specs.declared.rule.Rule.TheVariants.{C1, C5, C6, C7, C8}
 use Rattle.icn_tree.specs.declared.tree.LoopKind.{LoopKind}
@@ -22,6 +22,7 @@ next_in_control Loops.Every = false
 abbrev pub default_faults : Bool → Place → List BrokenRule
 default_faults has_default place = if has_default then fault C5 place else []
 
+-- The rules that trees break, with those of their parts in the order of the source
 abbrev mutual
   -- the context rules that a tree breaks
   pub faults : Context → Tree → List BrokenRule
@@ -100,12 +101,13 @@ all_repeated rule met (name ∷ names) =
 
 -- more than 65535 names at once
 abbrev pub too_many : ℕ → Name → List BrokenRule
-too_many count name = if nat_lt most_entries count then fault C7 name.place else []
+too_many count name = if nat_lt most_names count then fault C7 name.place else []
 
 -- the parameters, locals and statics of a procedure
 abbrev pub declared_names : Procedure → List Name
 declared_names procedure = procedure.parameters ++ flat_map (λ locals. locals.names) procedure.locals
 
+-- the context rules that an `initial` clause breaks
 abbrev pub initial_faults : Initial → List BrokenRule
 initial_faults NoInitial = []
 initial_faults (Initially place value) = faults outermost value
@@ -117,6 +119,7 @@ procedure_faults met procedure =
     ++ (all_repeated C1 none_met (declared_names procedure)
     ++ (initial_faults procedure.initial ++ all_faults outermost procedure.body)))
 
+-- the context rules that a record breaks, where names were declared before it
 abbrev pub record_faults : NameTest → Name → List Name → List BrokenRule
 record_faults met name fields =
     too_many (length fields) name ++ (fault_if_met C8 met name ++ all_repeated C6 none_met fields)
@@ -129,6 +132,7 @@ names_after met (Invocable place items) = met
 names_after met (Record place name fields) = with_name met name.text
 names_after met (ProcedureOf procedure) = with_name met procedure.name.text
 
+-- the context rules that a declaration breaks, where names were declared before it
 abbrev pub declaration_faults : NameTest → Declaration → List BrokenRule
 declaration_faults met (Global place names) = []
 declaration_faults met (Link place items) = []
@@ -136,6 +140,7 @@ declaration_faults met (Invocable place items) = []
 declaration_faults met (Record place name fields) = record_faults met name fields
 declaration_faults met (ProcedureOf procedure) = procedure_faults met procedure
 
+-- the context rules that declarations break, where names were declared before them
 abbrev pub declarations_faults : NameTest → List Declaration → List BrokenRule
 declarations_faults met [] = []
 declarations_faults met (declaration ∷ others) =

@@ -8,6 +8,7 @@ use Rattle.icn_decls.specs.declared.fault.ContextFault.{ContextFault}
 use Rattle.icn_decls.specs.declared.fault.ContextFault.TheVariants.{Broken as BrokenFault, NoMemory}
 use Rattle.icn_decls.specs.Contexts.{Context, BrokenRule}
 
+-- of each open loop, the innermost first, whether `next` may stand there
 abbrev pub loops_of : Loops → List Bool
 loops_of Kept.None = []
 loops_of (Kept.Inside' next p loops) = next ∷ loops_of loops

@@ -53,7 +53,7 @@ impl<'a> Context<'a> {
         Ok(())
     }
 
-    /// The rule that a `break` breaks here.
+    /// Whether a `break` may stand here. The error is the rule that it breaks.
     pub fn check_break(self, place: Place) -> Result<(), Broken>
         ensures { fault_of result ≡ first_of (break_faults (context_of self.entry) place) }
     {
@@ -63,7 +63,7 @@ impl<'a> Context<'a> {
         }
     }
 
-    /// The rule that a `next` breaks here.
+    /// Whether a `next` may stand here. The error is the rule that it breaks.
     pub fn check_next(self, place: Place) -> Result<(), Broken>
         ensures { fault_of result ≡ first_of (next_faults (context_of self.entry) place) }
     {

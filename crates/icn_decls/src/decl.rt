@@ -1,7 +1,7 @@
 // The first context rule that a declaration breaks.
 ghost use Rattle.std.specs.Prelude.{◌≡◌, ◌++◌, [], OnOk, length, map, nat_lt, if◌then◌else◌};
 ghost use Rattle.std.specs.List.{flat_map};
-ghost use Rattle.icn_profile.specs.Numbers.{most_entries};
+ghost use Rattle.icn_profile.specs.Numbers.{most_names};
 ghost use Rattle.icn_tree.specs.TreeOf.{locals_of, procedure_of, declaration_of};
 ghost use Rattle.icn_decls.specs.Contexts.{fault, outermost};
 ghost use Rattle.icn_decls.specs.Faults.{all_faults, fault_if_met, all_repeated, with_names, declared_names, initial_faults, procedure_faults, record_faults, names_after, declaration_faults, context_faults};
@@ -11,12 +11,12 @@ ghost use Rattle.icn_decls.specs.Views.{Checks, fault_of, first_of};
 use crate::context::Context;
 use crate::expr::{check, check_all};
 use crate::fault::{Broken, ContextFault};
-use icn_profile::MOST_ENTRIES;
+use icn_profile::MOST_NAMES;
 use icn_tree::{Decl, LocalDecl, Name, NameSet, Procedure, Rule};
 use std::alloc::Global;
 
 // How many parameters, locals and statics a procedure may have together, and how many fields a record.
-const MOST: usize = MOST_ENTRIES as usize;
+const MOST: usize = MOST_NAMES as usize;
 
 // The rule that a name breaks which was met, and otherwise meets it.
 fn check_name<'a>(met: &mut NameSet<'a>, name: &'a Name, rule: Rule) -> Result<(), ContextFault>
@@ -63,7 +63,7 @@ fn check_declared(alloc: Global, procedure: &Procedure) -> Result<(), ContextFau
 
 // Whether a procedure declares more than 65535 parameters, locals and statics.
 fn declares_too_many(procedure: &Procedure) -> bool
-    ensures { result ≡ nat_lt most_entries (length (declared_names (procedure_of procedure.now))) }
+    ensures { result ≡ nat_lt most_names (length (declared_names (procedure_of procedure.now))) }
 {
     let mut count = procedure.parameters.len();
     for local in &procedure.locals {
@@ -141,7 +141,7 @@ fn check_declaration<'a>(
     }
 }
 
-/// The first rule that declarations break.
+/// Checks the context rules of declarations. The error is the first rule that they break, with its place, or want of memory.
 pub fn check_declarations(alloc: Global, declarations: &[Decl]) -> Result<(), ContextFault>
     ensures { Checks (context_faults (map declaration_of declarations.now)) result }
 {

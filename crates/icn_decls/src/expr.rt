@@ -9,7 +9,7 @@ use crate::context::{Context, Loops};
 use crate::fault::Broken;
 use icn_tree::{Clause, Expr, LoopKind, Place, Rule};
 
-/// The first rule that an expression breaks, in the order of places.
+/// Checks the context rules of an expression. The error is the first rule that it breaks, in the order of places.
 #[cycle(check)]
 pub fn check(expr: &Expr, context: Context<'_>) -> Result<(), Broken>
     ensures { fault_of result ≡ first_of (faults (context_of context.entry) (tree_of expr.now)) }
@@ -139,7 +139,7 @@ fn check_looped(expr: &Expr, context: Context<'_>, next: bool) -> Result<(), Bro
     check(expr, inside)
 }
 
-/// The first rule that expressions in a row break.
+/// Checks the context rules of expressions in a row. The error is the first rule that they break.
 #[cycle(check)]
 pub fn check_all(exprs: &[Expr], context: Context<'_>) -> Result<(), Broken>
     ensures { fault_of result ≡ first_of (all_faults (context_of context.entry) (all_of exprs.now)) }

@@ -39,6 +39,7 @@ pub struct Broken {
 }
 
 impl Broken {
+    /// This rule is broken at this place.
     pub fn at(place: Place, rule: Rule) -> Self
         ensures rule { result.rule ≡ rule }
         ensures place { result.place ≡ place }

@@ -21,6 +21,7 @@ pub data CellKind : Type 0 where
   ALocal : CellKind
   AnOperand : CellKind
 
+-- the suspension of an open scan
 abbrev pub is_scan : Why → Bool
 is_scan (Scan pair) = true
 is_scan why = false
@@ -35,6 +36,7 @@ shape (Limit count registers) = AMark registers
 shape (Suspension why registers address) = ASuspension (is_scan why) registers
 shape (Operand item) = AnOperand
 
+-- the registers that a cell saved, if it saved some
 abbrev pub outer_of : CellKind → Option Registers
 outer_of (AFrame locals registers) = registers
 outer_of (AMark registers) = Some registers
@@ -47,6 +49,7 @@ abbrev pub operand_count : List CellKind → ℕ
 operand_count (AnOperand ∷ shapes) = suc (operand_count shapes)
 operand_count shapes = 0
 
+-- a frame, of a call or the base
 abbrev pub IsFramed : Option CellKind → Type 0
 IsFramed (Some (AFrame locals registers)) = Unit {0}
 IsFramed shape = ⊥
@@ -56,6 +59,7 @@ abbrev pub IsMarked : Option CellKind → Type 0
 IsMarked (Some (AMark registers)) = Unit {0}
 IsMarked shape = ⊥
 
+-- a suspension, whatever it is for
 abbrev pub IsSuspended : Option CellKind → Type 0
 IsSuspended (Some (ASuspension scan registers)) = Unit {0}
 IsSuspended shape = ⊥
@@ -65,6 +69,7 @@ abbrev pub IsScan : Option CellKind → Type 0
 IsScan (Some (ASuspension true registers)) = Unit {0}
 IsScan shape = ⊥
 
+-- the number of locals of a frame, and 0 of anything else
 abbrev pub count_of : Option CellKind → ℕ
 count_of (Some (AFrame locals registers)) = locals
 count_of shape = 0
@@ -114,6 +119,7 @@ pub record RegistersFit (shapes : List CellKind) (r : Registers) : Type 0 where
   pub leads : RegistersLead shapes r
   pub top : operand_count shapes + bottom shapes r ≡ length shapes
 
+-- registers that were saved, if some were, fit the cells below
 abbrev pub MaySave : List CellKind → Option Registers → Type 0
 MaySave shapes None = Unit {0}
 MaySave shapes (Some r) = RegistersFit shapes r

@@ -50,7 +50,7 @@ impl<K: Stack<StackSlot> + Drop> Model for Frames<K> {
 }
 
 impl<K: Stack<StackSlot> + Drop> Frames<K> {
-    /// A base frame with these locals.
+    /// A base frame with these locals. `AllocError` is want of memory.
     pub fn new(alloc: Global, proc: u32, locals: &[Val], address: u32) -> Result<Self, AllocError>
         ensures { IfOk result (λ m. m.flat ≡ flat.begin proc locals.now address) }
     {
@@ -159,7 +159,8 @@ impl<K: Stack<StackSlot> + Drop> Frames<K> {
         self.cells.reserve(n)
     }
 
-    /// Puts an operand on top.
+    /// Puts an operand on top. `AllocError` is want of memory, which comes only where nothing is spare; the stack is as it
+    /// was then.
     pub fn push(&mut self, x: Item) -> Result<(), AllocError>
         ensures ok { OnOk result (self.new.flat ≡ flat.push x self.old.flat) }
         ensures err { OnErr result (self.new.flat ≡ self.old.flat) }
@@ -197,7 +198,8 @@ impl<K: Stack<StackSlot> + Drop> Frames<K> {
         self.cells.slot_at(self.cells.len() - 1)
     }
 
-    /// Puts an operand on top by its slot, beside which nothing may be kept.
+    /// Puts an operand on top by its slot, beside which nothing may be kept. `AllocError` is want of memory, which comes
+    /// only where nothing is spare; the stack is as it was then.
     #[inline(always)]
     pub fn push_plain(&mut self, slot: StackSlot) -> Result<(), AllocError>
         requires { IsSome (plain_operand slot) }
@@ -247,7 +249,8 @@ impl<K: Stack<StackSlot> + Drop> Frames<K> {
         self.cells.slot_above(self.registers.base, index)
     }
 
-    /// Opens a plain mark, or with a count a limit mark.
+    /// Opens a plain mark, or with a count a limit mark. `AllocError` is want of memory, which comes only where nothing is
+    /// spare; the stack is as it was then.
     pub fn mark(&mut self, label: Option<u32>, count: Option<u64>) -> Result<(), AllocError>
         ensures ok { OnOk result (self.new.flat ≡ flat.open_either label count self.old.flat) }
         ensures err { OnErr result (self.new.flat ≡ self.old.flat) }
@@ -368,7 +371,8 @@ impl<K: Stack<StackSlot> + Drop> Frames<K> {
     }
 
     /// Suspends, and pushes a result if there is one. The mark that goes on is the next outer one for `Alt`, the caller's
-    /// for `Proc`, and else the innermost one; it must be there.
+    /// for `Proc`, and else the innermost one; it must be there. `AllocError` is want of memory; the stack is as it was
+    /// then.
     pub fn suspend(&mut self, why: Why, given: Option<Item>) -> Result<(), AllocError>
         requires { flat.GoesOn why self.old.flat }
         ensures ok { OnOk result
@@ -382,7 +386,7 @@ impl<K: Stack<StackSlot> + Drop> Frames<K> {
     }
 
     /// Leaves the innermost mark, which must not be the frame, suspended, and pushes the operand of a slot, beside which
-    /// nothing may be kept: `suspend` for `Alt`.
+    /// nothing may be kept: `suspend` for `Alt`. `AllocError` is want of memory; the stack is as it was then.
     pub fn suspend_mark_plain(&mut self, slot: StackSlot) -> Result<(), AllocError>
         requires goes_on { flat.at_base self.old.flat ≡ false }
         requires plain { IsSome (plain_operand slot) }
@@ -397,7 +401,7 @@ impl<K: Stack<StackSlot> + Drop> Frames<K> {
     }
 
     /// Suspends the procedure, which must have a caller here, and pushes the operand of a slot, beside which nothing may be
-    /// kept: `suspend` for `Proc`.
+    /// kept: `suspend` for `Proc`. `AllocError` is want of memory; the stack is as it was then.
     pub fn suspend_proc_plain(&mut self, slot: StackSlot) -> Result<(), AllocError>
         requires goes_on { flat.is_base self.old.flat ≡ false }
         requires plain { IsSome (plain_operand slot) }
@@ -411,7 +415,8 @@ impl<K: Stack<StackSlot> + Drop> Frames<K> {
         Ok(())
     }
 
-    /// Suspends a count in the innermost mark, and pushes the integer that it gives.
+    /// Suspends a count in the innermost mark, and pushes the integer that it gives. `AllocError` is want of memory; the
+    /// stack is as it was then.
     pub fn suspend_count(&mut self, count: Count) -> Result<(), AllocError>
         ensures ok { OnOk result (flat.given_to (Some (Items.Val (Vals.Integer count.given)))
             (flat.suspend_by (counting count.given count.last count.step) self.old.flat)
@@ -517,6 +522,7 @@ impl<K: Stack<StackSlot> + Drop> Frames<K> {
     }
 
     /// Opens a procedure frame with these locals, and goes to an address. The level of the call must be a number of 64 bits.
+    /// `AllocError` is want of memory; the stack is as it was then.
     pub fn enter(&mut self, proc: u32, locals: &[Val], address: u32) -> Result<(), AllocError>
         requires { flat.level self.old.flat + 1 < 2 ^ 64 }
         ensures ok { OnOk result (self.new.flat ≡ flat.enter proc locals.now address self.old.flat) }

@@ -117,7 +117,7 @@ pub struct Extra {
     pub pair: Pair,
 }
 
-// What stands where nothing was kept.
+/// What stands where nothing was kept.
 pub fn blank_control() -> Control
     ensures { result ≡ no_control }
 {
@@ -134,7 +134,7 @@ pub fn blank_control() -> Control
     }
 }
 
-// What stands where nothing was kept.
+/// What stands where nothing was kept.
 pub fn blank_extra() -> Extra
     ensures { result ≡ no_extra }
 {
@@ -149,7 +149,7 @@ pub fn blank_extra() -> Extra
     }
 }
 
-// Has something stand at this place, for which there must be room.
+/// Has something stand at this place, for which there must be room.
 pub fn fill(extras: &mut Vec<Extra>, at: u64)
     requires { at < vec_capacity extras.old }
     ensures there { at < vec_len extras.new }
@@ -161,7 +161,7 @@ pub fn fill(extras: &mut Vec<Extra>, at: u64)
     }
 }
 
-// The value at this place.
+/// The value at this place.
 pub fn value_at(extras: &Vec<Extra>, at: u64) -> Val
     ensures { result ≡ (extra_at extras.now.items at).value }
 {
@@ -172,7 +172,7 @@ pub fn value_at(extras: &Vec<Extra>, at: u64) -> Val
     }
 }
 
-// The variable at this place.
+/// The variable at this place.
 pub fn variable_at(extras: &Vec<Extra>, at: u64) -> VarRef
     ensures { result ≡ (extra_at extras.now.items at).variable }
 {
@@ -183,7 +183,7 @@ pub fn variable_at(extras: &Vec<Extra>, at: u64) -> VarRef
     }
 }
 
-// The residual at this place.
+/// The residual at this place.
 pub fn residual_at(extras: &Vec<Extra>, at: u64) -> Residual
     ensures { result ≡ (extra_at extras.now.items at).residual }
 {
@@ -194,7 +194,7 @@ pub fn residual_at(extras: &Vec<Extra>, at: u64) -> Residual
     }
 }
 
-// The pair at this place.
+/// The pair at this place.
 pub fn pair_at(extras: &Vec<Extra>, at: u64) -> Pair
     ensures { result ≡ (extra_at extras.now.items at).pair }
 {
@@ -230,7 +230,7 @@ fn put_variable(extras: &mut Vec<Extra>, at: u64, variable: VarRef)
     extras[at as usize].variable = variable;
 }
 
-// Keeps a residual at this place.
+/// Keeps a residual at this place.
 pub fn put_residual(extras: &mut Vec<Extra>, at: u64, residual: &Residual)
     requires { at < vec_capacity extras.old }
     ensures is { (extra_at extras.new.items at).residual ≡ residual.now }
@@ -241,7 +241,7 @@ pub fn put_residual(extras: &mut Vec<Extra>, at: u64, residual: &Residual)
     extras[at as usize].residual = *residual;
 }
 
-// Keeps a pair at this place.
+/// Keeps a pair at this place.
 pub fn put_pair(extras: &mut Vec<Extra>, at: u64, pair: Pair)
     requires { at < vec_capacity extras.old }
     ensures is { (extra_at extras.new.items at).pair ≡ pair }
@@ -252,7 +252,7 @@ pub fn put_pair(extras: &mut Vec<Extra>, at: u64, pair: Pair)
     extras[at as usize].pair = pair;
 }
 
-// Keeps at one place all that is kept at another.
+/// Keeps at one place all that is kept at another.
 pub fn copy_extra(extras: &mut Vec<Extra>, from: u64, at: u64)
     requires { at < vec_capacity extras.old }
     ensures is { extra_at extras.new.items at ≡ extra_at extras.old.items from }
@@ -268,7 +268,7 @@ pub fn copy_extra(extras: &mut Vec<Extra>, from: u64, at: u64)
     extras[at as usize] = extra;
 }
 
-// The slot of a local at this place, beside which there must be room.
+/// The slot of a local at this place, beside which there must be room.
 pub fn keep_local(extras: &mut Vec<Extra>, at: u64, v: Val) -> StackSlot
     requires { at < vec_capacity extras.old }
     ensures is { (control : Control) → cell_of control (extra_at extras.new.items at) result ≡ CellVariants.Local v }
@@ -376,7 +376,7 @@ fn keep_variable(extras: &mut Vec<Extra>, at: u64, variable: VarRef) -> StackSlo
     }
 }
 
-// The slot of an operand at this place, beside which there must be room.
+/// The slot of an operand at this place, beside which there must be room.
 pub fn keep_operand(extras: &mut Vec<Extra>, at: u64, x: Item) -> StackSlot
     requires { at < vec_capacity extras.old }
     ensures is { (control : Control)
@@ -390,7 +390,7 @@ pub fn keep_operand(extras: &mut Vec<Extra>, at: u64, x: Item) -> StackSlot
     }
 }
 
-// The value of the local at this place.
+/// The value of the local at this place.
 pub fn local_of(extras: &Vec<Extra>, at: u64, slot: StackSlot) -> Val
     ensures { (control : Control) (v : Val)
         → cell_of control (extra_at extras.now.items at) slot ≡ CellVariants.Local v → result ≡ v }
@@ -415,7 +415,7 @@ pub fn local_of(extras: &Vec<Extra>, at: u64, slot: StackSlot) -> Val
     }
 }
 
-// The operand at this place.
+/// The operand at this place.
 pub fn operand_of(extras: &Vec<Extra>, at: u64, slot: StackSlot) -> Item
     ensures { (control : Control) (x : Item)
         → cell_of control (extra_at extras.now.items at) slot ≡ CellVariants.Operand x → result ≡ x }
@@ -460,7 +460,7 @@ pub fn operand_of(extras: &Vec<Extra>, at: u64, slot: StackSlot) -> Item
     }
 }
 
-// Whether a slot is an operand's.
+/// Whether a slot is an operand's.
 pub fn is_operand(slot: StackSlot) -> bool
     ensures { (control : Control) (extra : Extra)
         → result ≡ is_some (operand_in (Some (cell_of control extra slot))) }
@@ -552,7 +552,7 @@ pub fn operand_as_local(slot: StackSlot) -> StackSlot
     }
 }
 
-// Whether something may be kept beside a slot.
+/// Whether something may be kept beside a slot.
 pub fn is_sided(slot: StackSlot) -> bool
     ensures { OnFalse result (IsFree slot) }
 {
@@ -570,7 +570,7 @@ pub fn is_sided(slot: StackSlot) -> bool
     }
 }
 
-// The procedure of a frame.
+/// The procedure of a frame.
 pub fn proc_of(slot: StackSlot) -> u32
     ensures { (control : Control) (extra : Extra)
         → result ≡ flat.proc_of (Some (cell_of control extra slot)) }
@@ -582,7 +582,7 @@ pub fn proc_of(slot: StackSlot) -> u32
     }
 }
 
-// How many locals a frame has.
+/// How many locals a frame has.
 pub fn locals_of(slot: StackSlot) -> u64
     ensures { (control : Control) (extra : Extra)
         → result ≡ flat.locals_of (Some (cell_of control extra slot)) }
@@ -594,7 +594,7 @@ pub fn locals_of(slot: StackSlot) -> u64
     }
 }
 
-// The level of a call.
+/// The level of a call.
 pub fn level_of(slot: StackSlot, level: u64) -> u64
     ensures { (control : Control) (extra : Extra) → control.level ≡ level
         → result ≡ flat.level_of (Some (cell_of control extra slot)) }
@@ -605,7 +605,7 @@ pub fn level_of(slot: StackSlot, level: u64) -> u64
     }
 }
 
-// Whether a slot is the lowest frame's.
+/// Whether a slot is the lowest frame's.
 pub fn is_base_cell(slot: StackSlot) -> bool
     ensures { (control : Control) (extra : Extra)
         → result ≡ flat.is_base_cell (Some (cell_of control extra slot)) }
@@ -616,7 +616,7 @@ pub fn is_base_cell(slot: StackSlot) -> bool
     }
 }
 
-// The label of a plain mark.
+/// The label of a plain mark.
 pub fn label_in(slot: StackSlot) -> Option<u32>
     ensures { (control : Control) (extra : Extra)
         → result ≡ flat.label_in (Some (cell_of control extra slot)) }
@@ -628,7 +628,7 @@ pub fn label_in(slot: StackSlot) -> Option<u32>
     }
 }
 
-// Whether a slot is a plain mark's.
+/// Whether a slot is a plain mark's.
 pub fn is_plain(slot: StackSlot) -> bool
     ensures { (control : Control) (extra : Extra)
         → result ≡ is_plain_cell (Some (cell_of control extra slot)) }
@@ -641,7 +641,7 @@ pub fn is_plain(slot: StackSlot) -> bool
     }
 }
 
-// Whether a slot is that of a mark whose label was set anew.
+/// Whether a slot is that of a mark whose label was set anew.
 pub fn is_relabelled(slot: StackSlot) -> bool
     ensures { (control : Control) (extra : Extra)
         → result ≡ flat.is_relabelled_in (Some (cell_of control extra slot)) }
@@ -652,7 +652,7 @@ pub fn is_relabelled(slot: StackSlot) -> bool
     }
 }
 
-// The count of a limit mark.
+/// The count of a limit mark.
 pub fn count_of(slot: StackSlot) -> u64
     ensures { (control : Control) (extra : Extra) → result ≡ count_in (Some (cell_of control extra slot)) }
 {
@@ -662,7 +662,7 @@ pub fn count_of(slot: StackSlot) -> u64
     }
 }
 
-// The slot of a mark, or with a count of a limit mark.
+/// The slot of a mark, or with a count of a limit mark.
 pub fn mark_slot(label: Option<u32>, count: Option<u64>) -> StackSlot
     ensures { (control : Control) (extra : Extra)
         → cell_of control extra result ≡ flat.opening label count control.saved }
@@ -674,7 +674,7 @@ pub fn mark_slot(label: Option<u32>, count: Option<u64>) -> StackSlot
     }
 }
 
-// The slot of a suspension at this place, beside which there must be room.
+/// The slot of a suspension at this place, beside which there must be room.
 pub fn keep_why(extras: &mut Vec<Extra>, at: u64, why: &Why, address: u32) -> StackSlot
     requires { at < vec_capacity extras.old }
     ensures is { (control : Control)
@@ -698,7 +698,7 @@ pub fn keep_why(extras: &mut Vec<Extra>, at: u64, why: &Why, address: u32) -> St
     }
 }
 
-// Why what is at this place was suspended, where a count ends so.
+/// Why what is at this place was suspended, where a count ends so.
 pub fn why_of(extras: &Vec<Extra>, at: u64, slot: StackSlot, range: CountRange) -> Why
     ensures { (control : Control) (why : Why) (registers : Registers) (address : ℕ)
         → control.range ≡ range
@@ -719,7 +719,7 @@ pub fn why_of(extras: &Vec<Extra>, at: u64, slot: StackSlot, range: CountRange) 
     }
 }
 
-// What a slot tells of why something was suspended.
+/// What a slot tells of why something was suspended.
 pub fn kind_of(slot: StackSlot) -> NewestKind
     ensures { (control : Control) (extra : Extra) (why : Why) (registers : Registers) (address : ℕ)
         → cell_of control extra slot ≡ CellVariants.Suspension why registers address → TellsWhy result why }
@@ -733,7 +733,7 @@ pub fn kind_of(slot: StackSlot) -> NewestKind
     }
 }
 
-// The count that a slot is the suspension of, where it ends so.
+/// The count that a slot is the suspension of, where it ends so.
 pub fn count_held(slot: StackSlot, range: CountRange) -> Option<Count>
     ensures { (control : Control) (extra : Extra) (why : Why) (registers : Registers) (address : ℕ)
         → control.range ≡ range
@@ -750,7 +750,7 @@ pub fn count_held(slot: StackSlot, range: CountRange) -> Option<Count>
     }
 }
 
-// The address at which a suspension goes on.
+/// The address at which a suspension goes on.
 pub fn address_of(slot: StackSlot) -> u32
     ensures { (control : Control) (extra : Extra) (why : Why) (registers : Registers) (address : ℕ)
         → cell_of control extra slot ≡ CellVariants.Suspension why registers address → result ≡ address }
@@ -766,7 +766,7 @@ pub fn address_of(slot: StackSlot) -> u32
     }
 }
 
-// Makes room for something at each of this many places.
+/// Makes room for something at each of this many places. `AllocError` is want of memory; all is as it was then.
 pub fn make_beside(extras: &mut Vec<Extra>, want: u64) -> Result<(), AllocError>
     ensures items { extras.new.items ≡ extras.old.items }
     ensures ok { OnOk result (want ≤ vec_capacity extras.new) }
@@ -779,7 +779,8 @@ pub fn make_beside(extras: &mut Vec<Extra>, want: u64) -> Result<(), AllocError>
     extras.reserve((want - have) as usize)
 }
 
-// Has something stand at each of this many places, which are no fewer than there are.
+/// Has something stand at each of this many places, which are no fewer than there are. `AllocError` is want of memory; all
+/// is as it was then.
 pub fn make_controls(controls: &mut Vec<Control>, want: u64) -> Result<(), AllocError>
     requires { vec_len controls.old ≤ want }
     ensures same { (place : ℕ) → control_at controls.new.items place ≡ control_at controls.old.items place }
@@ -794,7 +795,7 @@ pub fn make_controls(controls: &mut Vec<Control>, want: u64) -> Result<(), Alloc
     Ok(())
 }
 
-// The registers that are kept at this place.
+/// The registers that are kept at this place.
 pub fn saved_of(controls: &Vec<Control>, at: u64) -> Registers
     requires { at < vec_len controls.now }
     ensures { result ≡ (control_at controls.now.items at).saved }
@@ -802,7 +803,7 @@ pub fn saved_of(controls: &Vec<Control>, at: u64) -> Registers
     controls[at as usize].saved
 }
 
-// Where the count ends whose range is kept at this place.
+/// Where the count ends whose range is kept at this place.
 pub fn range_of(controls: &Vec<Control>, at: u64) -> CountRange
     requires { at < vec_len controls.now }
     ensures { result ≡ (control_at controls.now.items at).range }
@@ -810,7 +811,7 @@ pub fn range_of(controls: &Vec<Control>, at: u64) -> CountRange
     controls[at as usize].range
 }
 
-// The level that is kept at this place.
+/// The level that is kept at this place.
 pub fn depth_of(controls: &Vec<Control>, at: u64) -> u64
     requires { at < vec_len controls.now }
     ensures { result ≡ (control_at controls.now.items at).level }
@@ -818,7 +819,7 @@ pub fn depth_of(controls: &Vec<Control>, at: u64) -> u64
     controls[at as usize].level
 }
 
-// The address that is kept at this place.
+/// The address that is kept at this place.
 pub fn return_of(controls: &Vec<Control>, at: u64) -> u32
     requires { at < vec_len controls.now }
     ensures { result ≡ (control_at controls.now.items at).address }
@@ -826,7 +827,7 @@ pub fn return_of(controls: &Vec<Control>, at: u64) -> u32
     controls[at as usize].address
 }
 
-// Keeps registers at this place.
+/// Keeps registers at this place.
 pub fn put_saved(controls: &mut Vec<Control>, at: u64, saved: Registers)
     requires { at < vec_len controls.old }
     ensures is { (control_at controls.new.items at).saved ≡ saved }
@@ -836,7 +837,7 @@ pub fn put_saved(controls: &mut Vec<Control>, at: u64, saved: Registers)
     controls[at as usize].saved = saved;
 }
 
-// Keeps registers, and where a count ends, at this place.
+/// Keeps registers, and where a count ends, at this place.
 pub fn put_counted(controls: &mut Vec<Control>, at: u64, saved: Registers, range: CountRange)
     requires { at < vec_len controls.old }
     ensures saved { (control_at controls.new.items at).saved ≡ saved }
@@ -848,7 +849,7 @@ pub fn put_counted(controls: &mut Vec<Control>, at: u64, saved: Registers, range
     controls[at as usize].range = range;
 }
 
-// Keeps all that a call has at this place.
+/// Keeps all that a call has at this place.
 pub fn put_control(controls: &mut Vec<Control>, at: u64, control: Control)
     requires { at < vec_len controls.old }
     ensures is { control_at controls.new.items at ≡ control }
@@ -858,7 +859,7 @@ pub fn put_control(controls: &mut Vec<Control>, at: u64, control: Control)
     controls[at as usize] = control;
 }
 
-// Keeps at one place what is kept at another.
+/// Keeps at one place what is kept at another.
 pub fn copy_control(controls: &mut Vec<Control>, from: u64, at: u64)
     requires from { from < vec_len controls.old }
     requires at { at < vec_len controls.old }
@@ -870,7 +871,7 @@ pub fn copy_control(controls: &mut Vec<Control>, from: u64, at: u64)
     controls[at as usize] = control;
 }
 
-// Keeps beside a slot at one place what is kept beside it at another.
+/// Keeps beside a slot at one place what is kept beside it at another.
 pub fn copy_beside(
     controls: &mut Vec<Control>,
     extras: &mut Vec<Extra>,

@@ -13,7 +13,7 @@ use crate::stack::Stack;
 use icn_value::{Pair, Val};
 use std::alloc::AllocError;
 
-// The registers of a procedure whose frame is at this height, as it begins.
+/// The registers of a procedure whose frame is at this height, as it begins.
 pub fn at_frame(height: u64) -> Registers
     ensures { result ≡ flat.registers_at height }
 {
@@ -25,7 +25,7 @@ pub fn at_frame(height: u64) -> Registers
     }
 }
 
-// Puts locals on top, for which there must be room.
+/// Puts locals on top, for which there must be room.
 pub fn put_locals<K: Stack<StackSlot> + Drop>(cells: &mut Cells<K>, locals: &[Val])
     requires { length locals.now ≤ cells.old.spare }
     ensures { cells.new.cells ≡ flat.put_above locals.now cells.old.cells }
@@ -35,7 +35,7 @@ pub fn put_locals<K: Stack<StackSlot> + Drop>(cells: &mut Cells<K>, locals: &[Va
     }
 }
 
-// The newest open scan after a suspension.
+/// The newest open scan after a suspension.
 pub fn scan_after(why: &Why, height: u64, older: Option<u64>, scan: Option<u64>) -> Option<u64>
     ensures { result ≡ flat.scan_by why.now height older scan }
 {
@@ -46,7 +46,7 @@ pub fn scan_after(why: &Why, height: u64, older: Option<u64>, scan: Option<u64>)
     }
 }
 
-// The height of the highest cell below the operands of the mark in these registers.
+/// The height of the highest cell below the operands of the mark in these registers.
 pub fn bottom_of<K: Stack<StackSlot> + Drop>(cells: &Cells<K>, r: Registers) -> u64
     requires { FrameAt (map shape cells.now.cells) r.base }
     ensures { result ≡ bottom (map shape cells.now.cells) r }
@@ -63,8 +63,8 @@ pub fn bottom_of<K: Stack<StackSlot> + Drop>(cells: &Cells<K>, r: Registers) -> 
     }
 }
 
-// Puts a suspension on top, with the cells between two heights above it, and gives the suspension's height. There is room
-// for a result then.
+/// Puts a suspension on top, with the cells between two heights above it, and gives the suspension's height. There is room
+/// for a result then. `AllocError` is want of memory; the cells are as they were then.
 pub fn hang<K: Stack<StackSlot> + Drop>(
     cells: &mut Cells<K>,
     why: &Why,
@@ -89,7 +89,7 @@ pub fn hang<K: Stack<StackSlot> + Drop>(
     Ok(height)
 }
 
-// The same with the suspension of a count.
+/// The same with the suspension of a count. `AllocError` is want of memory; the cells are as they were then.
 pub fn hang_count<K: Stack<StackSlot> + Drop>(
     cells: &mut Cells<K>,
     count: Count,
@@ -115,7 +115,7 @@ pub fn hang_count<K: Stack<StackSlot> + Drop>(
     Ok(height)
 }
 
-// Whether two heights are one, or neither is there.
+/// Whether two heights are one, or neither is there.
 pub fn is_same(a: Option<u64>, b: Option<u64>) -> bool
     ensures { result ≡ flat.is_same a b }
 {
@@ -126,7 +126,7 @@ pub fn is_same(a: Option<u64>, b: Option<u64>) -> bool
     }
 }
 
-// From an open scan through older ones to the last before a given one.
+/// From an open scan through older ones to the last before a given one.
 pub fn oldest_from<K: Stack<StackSlot> + Drop>(
     cells: &Cells<K>,
     until: Option<u64>,
@@ -148,7 +148,7 @@ pub fn oldest_from<K: Stack<StackSlot> + Drop>(
     None
 }
 
-// The scan that was the newest when another was opened.
+/// The scan that was the newest when another was opened.
 pub fn older_than<K: Stack<StackSlot> + Drop>(cells: &Cells<K>, height: u64) -> Option<u64>
     requires { KindAt IsScan (map shape cells.now.cells) height }
     ensures { result ≡ flat.older_scan cells.now.cells (Some height) }
@@ -156,7 +156,7 @@ pub fn older_than<K: Stack<StackSlot> + Drop>(cells: &Cells<K>, height: u64) -> 
     cells.saved_at(height - 1).scan
 }
 
-// Exchanges the pair of a scan's frame.
+/// Exchanges the pair of a scan's frame.
 pub fn swap_at<K: Stack<StackSlot> + Drop>(cells: &mut Cells<K>, height: u64, pair: Pair) -> Pair
     requires { KindAt IsScan (map shape cells.old.cells) height }
     ensures swaps { flat.SwapsAt height pair cells.old.cells result cells.new.cells }

@@ -50,6 +50,8 @@ value_in all (CoexpVal id) = ACoexp id
 abbrev pub values_in : Extent → Val × Val → Value × Value
 values_in all pair = (value_in all pair.0, value_in all pair.1)
 
+-- a text is of the heap, and a structure has a number below the count of its type; other values ask for
+-- nothing
 abbrev pub LiveBy : Extent → Val → Type 0
 LiveBy all NullVal = ⊤
 LiveBy all (IntegerVal n) = ⊤
@@ -95,5 +97,6 @@ LiveBy-prop all (SetVal id) = le_prop
 LiveBy-prop all (TableVal id) = le_prop
 LiveBy-prop all (CoexpVal id) = le_prop
 
+-- there is one proof at most that a value is of a heap
 pub IsLive-prop : (all : Extent) (val : Val) → IsProp (IsLive all val)
 IsLive-prop all val = hlevel LiveBy-prop

@@ -52,18 +52,23 @@ parts strings lists sets tables records coexps cells limits = record {
 abbrev pub list_in : Extent → NumberedList Val → NumberedList Value
 list_in all list = record { items = map (value_in all) list.items; number = list.number }
 
+-- what a held member stands for is what its key stands for
 abbrev pub member_in : Key × Val → Value
 member_in member = key_value member.0
 
+-- the members that a held set stands for, in their order
 abbrev pub set_in : List (Key × Val) → List Value
 set_in members = map member_in members
 
+-- the key and the value that a held pair stands for
 abbrev pub pair_in : Extent → Key × Entry → Value × Value
 pair_in all pair = (key_value pair.0, value_in all pair.1.value)
 
+-- the table that a held table stands for
 abbrev pub table_in : Extent → Entries → Table
 table_in all table = record { default = value_in all table.default; pairs = map (pair_in all) table.pairs }
 
+-- the record that a held record stands for
 abbrev pub record_in : Extent → HeldRecord → Record
 record_in all held = record { kind = held.kind; fields = map (value_in all) held.values }
 
@@ -80,6 +85,7 @@ heap_over all parts = record {
   bounds = limits_of parts.limits;
 }
 
+-- the texts of the parts, and how many structures of each type they have
 abbrev pub extent_in : Parts → Extent
 extent_in parts = record {
   strings = parts.strings;
@@ -154,6 +160,7 @@ pub record IsSoundPair (all : Extent) (pair : Key × Entry) : Type 0 where
   pub formed : IsKey pair.0
   pub alike : same (key_value pair.0) (value_in all pair.1.key) ≡ true
 
+-- the default and each pair of a table are of the heap
 pub record IsSoundTable (all : Extent) (table : Entries) : Type 0 where
   pub default : IsLive all table.default
   pub pairs : All (IsSoundPair all) table.pairs
@@ -206,5 +213,6 @@ AreSound-prop all parts =
 IsCharged-prop : (parts : Parts) → IsProp (IsCharged parts)
 IsCharged-prop parts = hlevel props
 
+-- there is one proof at most that the parts of a heap are sound
 pub IsSound-prop : (parts : Parts) → IsProp (IsSoundHeap parts)
 IsSound-prop parts = hlevel (AreSound-prop, IsCharged-prop)

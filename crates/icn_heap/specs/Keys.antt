@@ -36,6 +36,7 @@ pub record IsCset (cset : Cset) : Type 0 where
   pub length : length cset.words ≡ 4
   pub words : All (λ word. word < 2 ^ 64) cset.words
 
+-- a cset that is a key stands in four words; other keys ask for nothing
 abbrev pub IsKeyBy : Key → Type 0
 IsKeyBy (Chars cset) = IsCset cset
 IsKeyBy key = Unit {0}
@@ -60,5 +61,6 @@ IsKeyBy-prop (Set id) = Unit-prop
 IsKeyBy-prop (Table id) = Unit-prop
 IsKeyBy-prop (Coexp id) = Unit-prop
 
+-- there is one proof at most that a key is formed
 pub IsKey-prop : (key : Key) → IsProp (IsKey key)
 IsKey-prop key = hlevel IsKeyBy-prop

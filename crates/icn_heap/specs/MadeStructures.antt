@@ -6,6 +6,7 @@ use Rattle.icn_value.specs.Sameness.{same, has_value}
 use Rattle.icn_value.specs.Store.{Heap, Table}
 use Rattle.icn_value.specs.Changes.{ChangedHeap, and_then, charged_cells}
 
+-- a set of these members goes behind the others, without a charge
 abbrev pub having_members : List Value → Heap → Heap
 having_members members heap = record heap { sets = heap.sets ++ members ∷ [] }
 
@@ -14,6 +15,7 @@ abbrev pub made_set_of : Heap → List Value → ChangedHeap
 made_set_of heap members =
     and_then (charged_cells heap (1 + length members)) (λ paid. Ok (having_members members paid))
 
+-- this table goes behind the others, without a charge
 abbrev pub having_table_of : Table → Heap → Heap
 having_table_of table heap = record heap { tables = heap.tables ++ table ∷ [] }
 

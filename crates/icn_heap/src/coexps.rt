@@ -14,7 +14,8 @@ impl Heap {
     ghost use Rattle.icn_heap.specs.Heaps.{extent_of, heap_of};
 
     /// Adds a co-expression, which has given nothing. It costs a cell, and one more for each of its parameters and locals. `&main` has
-    /// number 0, and those that are added have the numbers from 1 on.
+    /// number 0, and those that are added have the numbers from 1 on. The error is the limit that refuses the charge, or
+    /// want of memory; the heap is then as it was.
     #[tactic(auto, unfolding(crate::specs::Heaps::extent_of, crate::specs::Heaps::heap_of))]
     pub fn charge_coexp(&mut self, locals: u64) -> Result<(), Full>
         ensures live { OnOk result (IsLive (extent_of self.new) (Coexp (length (heap_of self.old).coexps))) }

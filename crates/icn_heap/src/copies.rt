@@ -21,7 +21,8 @@ impl Heap {
     ghost use Rattle.icn_heap.specs.Heaps.{extent_of, heap_of};
 
     /// Makes a set of these values, each of them once, in the order in which they first come. It costs a cell, and one more for each member.
-    /// The members are gathered before the limit is looked at.
+    /// The members are gathered before the limit is looked at. The error is the limit that refuses the charge, or want of
+    /// memory; the heap is then as it was.
     #[tactic(auto, unfolding(crate::specs::Heaps::extent_of, crate::specs::Heaps::heap_of))]
     pub fn set_from(&mut self, vals: &[Val]) -> Result<Val, Full>
         requires { All (IsLive (extent_of self.old)) vals.now }
@@ -41,7 +42,8 @@ impl Heap {
         Ok(Val::Set(id))
     }
 
-    /// Makes a set of the members of a set. It costs a cell, and one more for each member.
+    /// Makes a set of the members of a set. It costs a cell, and one more for each member. The error is the limit that
+    /// refuses the charge, or else want of memory; the heap is then as it was.
     #[tactic(auto, unfolding(crate::specs::Heaps::extent_of, crate::specs::Heaps::heap_of))]
     pub fn copy_set(&mut self, set: u32) -> Result<Val, Full>
         requires { IsLive (extent_of self.old) (Set set) }
@@ -63,7 +65,8 @@ impl Heap {
     }
 
     /// Makes a set of the members of one set, and behind them those of another that are new. It costs a cell, and one more for each member.
-    /// The members are gathered before the limit is looked at.
+    /// The members are gathered before the limit is looked at. The error is the limit that refuses the charge, or want of
+    /// memory; the heap is then as it was.
     pub fn union(&mut self, first: u32, second: u32) -> Result<Val, Full>
         requires first { IsLive (extent_of self.old) (Set first) }
         requires second { IsLive (extent_of self.old) (Set second) }
@@ -85,7 +88,8 @@ impl Heap {
     }
 
     /// Makes a set of the members of one set that are not in another. It costs a cell, and one more for each member. The members are
-    /// gathered before the limit is looked at.
+    /// gathered before the limit is looked at. The error is the limit that refuses the charge, or want of memory; the heap
+    /// is then as it was.
     pub fn difference(&mut self, first: u32, second: u32) -> Result<Val, Full>
         requires first { IsLive (extent_of self.old) (Set first) }
         requires second { IsLive (extent_of self.old) (Set second) }
@@ -104,7 +108,8 @@ impl Heap {
     }
 
     /// Makes a set of the members of one set that are in another. It costs a cell, and one more for each member. The members are gathered
-    /// before the limit is looked at.
+    /// before the limit is looked at. The error is the limit that refuses the charge, or want of memory; the heap is then as
+    /// it was.
     pub fn intersection(&mut self, first: u32, second: u32) -> Result<Val, Full>
         requires first { IsLive (extent_of self.old) (Set first) }
         requires second { IsLive (extent_of self.old) (Set second) }

@@ -4,7 +4,7 @@ ghost use Rattle.std.specs.Vec.{vec_len};
 
 use std::alloc::AllocError;
 
-// Adds a count of 0, or leaves all as it was.
+/// Adds a count of 0. `AllocError` is want of memory, and all is as it was then.
 pub fn add_count(counts: &mut Vec<u64>) -> Result<(), AllocError>
     ensures ok { OnOk result (counts.new.items ≡ counts.old.items ++ 0 ∷ []) }
     ensures err { OnErr result (counts.new.items ≡ counts.old.items) }
@@ -13,7 +13,7 @@ pub fn add_count(counts: &mut Vec<u64>) -> Result<(), AllocError>
     Ok(())
 }
 
-// Raises a count by one.
+/// Raises a count by one.
 pub fn raise_at(counts: &mut Vec<u64>, id: u32)
     requires there { id < vec_len counts.old }
     requires small { slice_index counts.old.items id + 1 < 2 ^ 64 }
@@ -22,7 +22,7 @@ pub fn raise_at(counts: &mut Vec<u64>, id: u32)
     counts[id as usize] += 1;
 }
 
-// A count.
+/// How many results the co-expression of this number gave.
 pub fn count_of_results(counts: &Vec<u64>, id: u32) -> u64
     requires { id < vec_len counts.now }
     ensures { result ≡ slice_index counts.now.items id }

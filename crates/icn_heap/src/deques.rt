@@ -9,7 +9,7 @@ use icn_structs::Deque;
 use icn_value::Val;
 use std::alloc::{AllocError, Global};
 
-// A new list of these items.
+/// A new list of these items, the leftmost numbered 1. `AllocError` is want of memory.
 pub fn deque_of(alloc: Global, items: &[Val]) -> Result<Deque<Val>, AllocError>
     requires few { length items.now < 2 ^ 32 }
     ensures items { IfOk result (λ list. list.items ≡ items.now) }
@@ -22,7 +22,7 @@ pub fn deque_of(alloc: Global, items: &[Val]) -> Result<Deque<Val>, AllocError>
     Ok(list)
 }
 
-// A new list of one value so many times.
+/// A new list of one value `n` times, the leftmost numbered 1. `AllocError` is want of memory.
 pub fn deque_of_copies(alloc: Global, n: u64, fill: Val) -> Result<Deque<Val>, AllocError>
     requires few { n < 2 ^ 32 }
     ensures items { IfOk result (λ list. list.items ≡ replicate n fill) }
@@ -35,7 +35,7 @@ pub fn deque_of_copies(alloc: Global, n: u64, fill: Val) -> Result<Deque<Val>, A
     Ok(list)
 }
 
-// Adds a list, or leaves all as it was.
+/// Adds a list behind the others. `AllocError` is want of memory, and all is as it was then.
 pub fn add_list(lists: &mut Vec<Deque<Val>>, list: Deque<Val>) -> Result<(), AllocError>
     ensures ok { OnOk result (lists.new.items ≡ lists.old.items ++ list ∷ []) }
     ensures err { OnErr result (lists.new.items ≡ lists.old.items) }
@@ -44,7 +44,7 @@ pub fn add_list(lists: &mut Vec<Deque<Val>>, list: Deque<Val>) -> Result<(), All
     Ok(())
 }
 
-// Adds an item at the right of a list.
+/// Adds an item at the right of a list. `AllocError` is want of memory, and all is as it was then.
 pub fn put_at(lists: &mut Vec<Deque<Val>>, list: u32, val: Val) -> Result<(), AllocError>
     requires there { list < vec_len lists.old }
     requires numbers_fit { FitsSigned w64
@@ -56,7 +56,7 @@ pub fn put_at(lists: &mut Vec<Deque<Val>>, list: u32, val: Val) -> Result<(), Al
     lists[list as usize].put(val)
 }
 
-// Adds an item at the left of a list.
+/// Adds an item at the left of a list. `AllocError` is want of memory, and all is as it was then.
 pub fn push_at(lists: &mut Vec<Deque<Val>>, list: u32, val: Val) -> Result<(), AllocError>
     requires there { list < vec_len lists.old }
     requires numbers_fit { FitsSigned w64 ((slice_index_or lists.old.items list no_vals).number -ℤ pos 1) }
@@ -67,7 +67,7 @@ pub fn push_at(lists: &mut Vec<Deque<Val>>, list: u32, val: Val) -> Result<(), A
     lists[list as usize].push(val)
 }
 
-// Takes the item at the left of a list.
+/// Takes the item at the left of a list. `None` comes exactly where the list is empty.
 pub fn get_at(lists: &mut Vec<Deque<Val>>, list: u32) -> Option<Val>
     requires { list < vec_len lists.old }
     ensures item { result ≡ leftmost (slice_index_or lists.old.items list no_vals) }
@@ -77,7 +77,7 @@ pub fn get_at(lists: &mut Vec<Deque<Val>>, list: u32) -> Option<Val>
     lists[list as usize].get()
 }
 
-// Takes the item at the right of a list.
+/// Takes the item at the right of a list. `None` comes exactly where the list is empty.
 pub fn pull_at(lists: &mut Vec<Deque<Val>>, list: u32) -> Option<Val>
     requires { list < vec_len lists.old }
     ensures item { result ≡ rightmost (slice_index_or lists.old.items list no_vals) }
@@ -87,7 +87,7 @@ pub fn pull_at(lists: &mut Vec<Deque<Val>>, list: u32) -> Option<Val>
     lists[list as usize].pull()
 }
 
-// Puts another item in the place of the one with this number, and answers whether there was one.
+/// Puts another item in the place of the one with this number, and answers whether there was one.
 pub fn set_at(lists: &mut Vec<Deque<Val>>, list: u32, n: i64, val: Val) -> bool
     requires { list < vec_len lists.old }
     ensures found { result ≡ is_some (item_numbered (slice_index_or lists.old.items list no_vals) n) }
@@ -97,7 +97,7 @@ pub fn set_at(lists: &mut Vec<Deque<Val>>, list: u32, n: i64, val: Val) -> bool
     lists[list as usize].set_number(n, val)
 }
 
-// A list.
+/// The list of this number, to be read.
 pub fn list_ref(lists: &Vec<Deque<Val>>, list: u32) -> &Deque<Val>
     requires { list < vec_len lists.now }
     ensures { result.now ≡ slice_index_or lists.now.items list no_vals }

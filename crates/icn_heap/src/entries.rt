@@ -29,7 +29,7 @@ pub struct Entries {
     pub pairs: Pairs<Key, Entry>,
 }
 
-// Adds a table without pairs, or leaves all as it was.
+/// Adds a table without pairs, with this default. `AllocError` is want of memory, and all is as it was then.
 pub fn add_table(alloc: Global, tables: &mut Vec<Entries>, default: Val) -> Result<(), AllocError>
     ensures ok { OnOk result
         (tables.new.items ≡ tables.old.items ++ record { default = default; pairs = [] } ∷ []) }
@@ -42,7 +42,7 @@ pub fn add_table(alloc: Global, tables: &mut Vec<Entries>, default: Val) -> Resu
     Ok(())
 }
 
-// Adds a table, or leaves all as it was.
+/// Adds a table behind the others. `AllocError` is want of memory, and all is as it was then.
 pub fn add_entries(tables: &mut Vec<Entries>, table: Entries) -> Result<(), AllocError>
     ensures ok { OnOk result (tables.new.items ≡ tables.old.items ++ table ∷ []) }
     ensures err { OnErr result (tables.new.items ≡ tables.old.items) }
@@ -51,7 +51,7 @@ pub fn add_entries(tables: &mut Vec<Entries>, table: Entries) -> Result<(), Allo
     Ok(())
 }
 
-// Stores a pair under its key among others.
+/// Stores a pair under its key among others: a key that is there keeps its place. `AllocError` is want of memory.
 #[tactic(auto, using(crate::proofs::KeyTests::same_tests))]
 pub fn join_entry(pairs: &mut Pairs<Key, Entry>, key: Key, entry: Entry) -> Result<(), AllocError>
     ensures { OnOk result (pairs.new ≡ with_value_of key_eq pairs.old key entry) }
@@ -60,7 +60,7 @@ pub fn join_entry(pairs: &mut Pairs<Key, Entry>, key: Key, entry: Entry) -> Resu
     Ok(())
 }
 
-// The pair of a key of a table.
+/// The pair of a key of a table. `None` comes exactly where the key is not there.
 #[tactic(auto, using(crate::proofs::KeyTests::same_tests))]
 pub fn entry_at(tables: &Vec<Entries>, table: u32, key: &Key) -> Option<Entry>
     requires { table < vec_len tables.now }
@@ -69,14 +69,14 @@ pub fn entry_at(tables: &Vec<Entries>, table: u32, key: &Key) -> Option<Entry>
     tables[table as usize].pairs.look(key)
 }
 
-// The value of a pair that was found.
+/// The value of a pair that was found, or `None` where none was.
 pub fn value_found(found: Option<Entry>) -> Option<Val>
     ensures { result ≡ option_map entry_value found }
 {
     Some(found?.value)
 }
 
-// The key and the value of a pair that was found.
+/// The key and the value of a pair that was found, or `None` where none was.
 pub fn vals_found(found: Option<Entry>) -> Option<(Val, Val)>
     ensures { result ≡ option_map entry_vals found }
 {
@@ -84,7 +84,7 @@ pub fn vals_found(found: Option<Entry>) -> Option<(Val, Val)>
     Some((entry.key, entry.value))
 }
 
-// Stores a pair under its key in a table, or leaves all as it was.
+/// Stores a pair under its key in a table. `AllocError` is want of memory, and all is as it was then.
 #[tactic(auto, using(crate::proofs::KeyTests::same_tests))]
 pub fn entry_stored_at(
     tables: &mut Vec<Entries>,
@@ -101,7 +101,7 @@ pub fn entry_stored_at(
     Ok(())
 }
 
-// The pair at a place of a table.
+/// The pair at a place of a table, counted from 0. `None` comes exactly where there is no such place.
 pub fn pair_at(tables: &Vec<Entries>, table: u32, place: u64) -> Option<Entry>
     requires { table < vec_len tables.now }
     ensures { result
@@ -111,7 +111,7 @@ pub fn pair_at(tables: &Vec<Entries>, table: u32, place: u64) -> Option<Entry>
     Some(entry)
 }
 
-// Removes the pair of this key, and answers whether there was one.
+/// Removes the pair of this key, and answers whether there was one.
 #[tactic(auto, using(crate::proofs::KeyTests::same_tests))]
 pub fn entry_removed_at(tables: &mut Vec<Entries>, table: u32, key: &Key) -> bool
     requires { table < vec_len tables.old }
@@ -123,7 +123,7 @@ pub fn entry_removed_at(tables: &mut Vec<Entries>, table: u32, key: &Key) -> boo
     tables[table as usize].pairs.remove(key)
 }
 
-// The default of a table.
+/// The value of the keys that a table does not have.
 pub fn default_of(tables: &Vec<Entries>, table: u32) -> Val
     requires { table < vec_len tables.now }
     ensures { result ≡ (slice_index_or tables.now.items table no_entries).default }
@@ -131,7 +131,7 @@ pub fn default_of(tables: &Vec<Entries>, table: u32) -> Val
     tables[table as usize].default
 }
 
-// How many pairs a table has.
+/// How many pairs a table has.
 pub fn count_of(tables: &Vec<Entries>, table: u32) -> u64
     requires { table < vec_len tables.now }
     ensures count { result ≡ length (slice_index_or tables.now.items table no_entries).pairs }
@@ -140,7 +140,7 @@ pub fn count_of(tables: &Vec<Entries>, table: u32) -> u64
     tables[table as usize].pairs.len()
 }
 
-// No pair of a table has the key of another. A call does nothing: it tells a caller's proof so.
+/// No pair of a table has the key of another. A call does nothing: it tells a caller's proof so.
 #[tactic(auto, using(crate::proofs::KeyTests::same_tests))]
 pub fn keys_of_pairs_differ(tables: &Vec<Entries>, table: u32)
     requires { table < vec_len tables.now }

@@ -34,14 +34,14 @@ impl Fields {
         })
     }
 
-    // The number of its constructor.
+    /// The number of its constructor among all constructors.
     pub fn kind(&self) -> u16
         ensures { result ≡ self.now.kind }
     {
         self.kind
     }
 
-    // The value of a field.
+    /// The value of a field, by its place from 0 on.
     pub fn get(&self, n: u16) -> Val
         requires { n < length self.now.values }
         ensures { result ≡ slice_index_or self.now.values n Null }
@@ -49,7 +49,7 @@ impl Fields {
         self.values[n as usize]
     }
 
-    // The values of the fields.
+    /// The values of the fields, in the order of their places.
     pub fn values(&self) -> &[Val]
         ensures { result.now ≡ self.now.values }
     {
@@ -64,7 +64,7 @@ impl Fields {
         self.values[n as usize] = val;
     }
 
-    // How many fields there are.
+    /// How many fields there are.
     pub fn len(&self) -> u64
         ensures count { result ≡ length self.now.values }
         ensures small { result < 2 ^ 63 }
@@ -73,7 +73,7 @@ impl Fields {
     }
 }
 
-// Adds a record of these values, or leaves all as it was.
+/// Adds a record of these values. `AllocError` is want of memory, and all is as it was then.
 pub fn add_record(
     alloc: Global,
     records: &mut Vec<Fields>,
@@ -88,7 +88,7 @@ pub fn add_record(
     Ok(())
 }
 
-// Gives a field of a record another value.
+/// Gives a field of a record another value.
 pub fn field_set_at(records: &mut Vec<Fields>, rec: u32, n: u16, val: Val)
     requires there { rec < vec_len records.old }
     requires field { n < length (slice_index_or records.old.items rec no_fields).values }
@@ -99,7 +99,7 @@ pub fn field_set_at(records: &mut Vec<Fields>, rec: u32, n: u16, val: Val)
     records[rec as usize].set(n, val);
 }
 
-// A record.
+/// The record of this number, to be read.
 pub fn record_ref(records: &Vec<Fields>, rec: u32) -> &Fields
     requires { rec < vec_len records.now }
     ensures { result.now ≡ slice_index_or records.now.items rec no_fields }

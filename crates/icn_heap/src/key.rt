@@ -24,7 +24,7 @@ pub enum Key {
     Coexp(u32),
 }
 
-// A text as a key.
+/// A text as a key, for which its bytes are copied. `AllocError` is want of memory.
 pub fn text_key(alloc: Global, bytes: &[u8]) -> Result<Key, AllocError>
     ensures value { IfOk result (λ key. key_value key ≡ Text bytes.now) }
     ensures formed { IfOk result IsKey }
@@ -34,7 +34,7 @@ pub fn text_key(alloc: Global, bytes: &[u8]) -> Result<Key, AllocError>
     Ok(Key::Text(held))
 }
 
-// A cset as a key.
+/// A cset as a key.
 pub fn chars_key(cset: Cset) -> Key
     ensures value { key_value result ≡ Chars (members_of cset) }
     ensures formed { IsKey result }

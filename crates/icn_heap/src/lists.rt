@@ -18,7 +18,8 @@ impl Heap {
     ghost use Rattle.icn_heap.specs.HeapParts.{list_in};
     ghost use Rattle.icn_heap.specs.Heaps.{extent_of, heap_of};
 
-    /// Makes a list of one value so many times. It costs a cell, and one more for each item.
+    /// Makes a list of one value so many times. It costs a cell, and one more for each item. The error is the limit that
+    /// refuses the charge, or else want of memory; the heap is then as it was.
     #[tactic(auto, unfolding(crate::specs::Heaps::extent_of, crate::specs::Heaps::heap_of))]
     pub fn make_list(&mut self, n: u64, fill: Val) -> Result<Val, Full>
         requires { IsLive (extent_of self.old) fill }
@@ -41,7 +42,8 @@ impl Heap {
         Ok(Val::List(id))
     }
 
-    /// Makes a list of these items. It costs a cell, and one more for each item.
+    /// Makes a list of these items. It costs a cell, and one more for each item. The error is the limit that refuses the
+    /// charge, or else want of memory; the heap is then as it was.
     #[tactic(auto, unfolding(crate::specs::Heaps::extent_of, crate::specs::Heaps::heap_of))]
     pub fn list_from(&mut self, items: &[Val]) -> Result<Val, Full>
         requires { All (IsLive (extent_of self.old)) items.now }
@@ -64,7 +66,8 @@ impl Heap {
         Ok(Val::List(id))
     }
 
-    /// Adds an item at the right of a list. It costs a cell.
+    /// Adds an item at the right of a list. It costs a cell. The error is the limit that refuses the charge, or else want of
+    /// memory; the heap is then as it was.
     #[tactic(auto, unfolding(crate::specs::Heaps::extent_of, crate::specs::Heaps::heap_of))]
     pub fn put(&mut self, list: u32, val: Val) -> Result<(), Full>
         requires list { IsLive (extent_of self.old) (List list) }
@@ -83,7 +86,8 @@ impl Heap {
         Ok(())
     }
 
-    /// Adds an item at the left of a list. It costs a cell.
+    /// Adds an item at the left of a list. It costs a cell. The error is the limit that refuses the charge, or else want of
+    /// memory; the heap is then as it was.
     #[tactic(auto, unfolding(crate::specs::Heaps::extent_of, crate::specs::Heaps::heap_of))]
     pub fn push(&mut self, list: u32, val: Val) -> Result<(), Full>
         requires list { IsLive (extent_of self.old) (List list) }

@@ -14,7 +14,7 @@ use std::alloc::{AllocError, Global};
 /// A set: each member, as it came, under its key.
 pub type MemberMap = Pairs<Key, Val>;
 
-// Adds a set without members, or leaves all as it was.
+/// Adds a set without members. `AllocError` is want of memory, and all is as it was then.
 pub fn add_set(alloc: Global, sets: &mut Vec<MemberMap>) -> Result<(), AllocError>
     ensures ok { OnOk result (sets.new.items ≡ sets.old.items ++ [] ∷ []) }
     ensures err { OnErr result (sets.new.items ≡ sets.old.items) }
@@ -23,7 +23,7 @@ pub fn add_set(alloc: Global, sets: &mut Vec<MemberMap>) -> Result<(), AllocErro
     Ok(())
 }
 
-// Adds a set, or leaves all as it was.
+/// Adds a set behind the others. `AllocError` is want of memory, and all is as it was then.
 pub fn add_members(sets: &mut Vec<MemberMap>, members: MemberMap) -> Result<(), AllocError>
     ensures ok { OnOk result (sets.new.items ≡ sets.old.items ++ members ∷ []) }
     ensures err { OnErr result (sets.new.items ≡ sets.old.items) }
@@ -32,7 +32,7 @@ pub fn add_members(sets: &mut Vec<MemberMap>, members: MemberMap) -> Result<(), 
     Ok(())
 }
 
-// Joins a member under its key to the others, unless that key is there.
+/// Joins a member under its key to the others, unless that key is there. `AllocError` is want of memory.
 #[tactic(auto, using(crate::proofs::KeyTests::same_tests))]
 pub fn join_member(members: &mut MemberMap, key: Key, val: Val) -> Result<(), AllocError>
     ensures { OnOk result (members.new ≡ with_entry members.old key val) }
@@ -43,7 +43,7 @@ pub fn join_member(members: &mut MemberMap, key: Key, val: Val) -> Result<(), Al
     Ok(())
 }
 
-// Whether a set has a member of this key.
+/// Whether a set has a member of this key.
 #[tactic(auto, using(crate::proofs::KeyTests::same_tests))]
 pub fn has_at(sets: &Vec<MemberMap>, set: u32, key: &Key) -> bool
     requires { set < vec_len sets.now }
@@ -52,7 +52,7 @@ pub fn has_at(sets: &Vec<MemberMap>, set: u32, key: &Key) -> bool
     sets[set as usize].look(key).is_some()
 }
 
-// Stores a member under its key in a set, or leaves all as it was.
+/// Stores a member under its key in a set. `AllocError` is want of memory, and all is as it was then.
 #[tactic(auto, using(crate::proofs::KeyTests::same_tests))]
 pub fn member_stored_at(
     sets: &mut Vec<MemberMap>,
@@ -70,7 +70,7 @@ pub fn member_stored_at(
     Ok(())
 }
 
-// The member at a place of a set.
+/// The member at a place of a set, counted from 0. `None` comes exactly where there is no such place.
 pub fn member_at(sets: &Vec<MemberMap>, set: u32, place: u64) -> Option<Val>
     requires { set < vec_len sets.now }
     ensures { result ≡ option_map member_val (slice_get (slice_index_or sets.now.items set []) place) }
@@ -79,7 +79,7 @@ pub fn member_at(sets: &Vec<MemberMap>, set: u32, place: u64) -> Option<Val>
     Some(val)
 }
 
-// Removes the member of this key, and answers whether there was one.
+/// Removes the member of this key, and answers whether there was one.
 #[tactic(auto, using(crate::proofs::KeyTests::same_tests))]
 pub fn member_removed_at(sets: &mut Vec<MemberMap>, set: u32, key: &Key) -> bool
     requires { set < vec_len sets.old }
@@ -90,7 +90,7 @@ pub fn member_removed_at(sets: &mut Vec<MemberMap>, set: u32, key: &Key) -> bool
     sets[set as usize].remove(key)
 }
 
-// How many members a set has.
+/// How many members a set has.
 pub fn count_at(sets: &Vec<MemberMap>, set: u32) -> u64
     requires { set < vec_len sets.now }
     ensures count { result ≡ length (slice_index_or sets.now.items set []) }
@@ -99,7 +99,7 @@ pub fn count_at(sets: &Vec<MemberMap>, set: u32) -> u64
     sets[set as usize].len()
 }
 
-// No member of a set has the key of another. A call does nothing: it tells a caller's proof so.
+/// No member of a set has the key of another. A call does nothing: it tells a caller's proof so.
 #[tactic(auto, using(crate::proofs::KeyTests::same_tests))]
 pub fn keys_of_members_differ(sets: &Vec<MemberMap>, set: u32)
     requires { set < vec_len sets.now }

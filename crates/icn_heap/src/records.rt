@@ -13,7 +13,8 @@ impl Heap {
     ghost use Rattle.icn_heap.specs.Heaps.{extent_of, heap_of};
 
     /// Makes a record of the constructor with this number among all constructors. It costs a cell, and one more for each field.
-    /// The number of a field has 16 bits, so there are at most 2^16.
+    /// The number of a field has 16 bits, so there are at most 2^16. The error is the limit that refuses the charge, or else
+    /// want of memory; the heap is then as it was.
     #[tactic(auto, unfolding(crate::specs::Heaps::extent_of, crate::specs::Heaps::heap_of))]
     pub fn make_rec(&mut self, kind: u16, fields: &[Val]) -> Result<Val, Full>
         requires live { All (IsLive (extent_of self.old)) fields.now }

@@ -19,7 +19,8 @@ impl Heap {
     ghost use Rattle.icn_heap.specs.Texts.{is_text};
     ghost use Rattle.icn_heap.specs.Heaps.{extent_of, heap_of};
 
-    /// Makes a set without members. It costs a cell.
+    /// Makes a set without members. It costs a cell. The error is the limit that refuses the charge, or else want of memory;
+    /// the heap is then as it was.
     #[tactic(auto, unfolding(crate::specs::Heaps::extent_of, crate::specs::Heaps::heap_of))]
     pub fn make_set(&mut self) -> Result<Val, Full>
         ensures live { IfOk result (IsLive (extent_of self.new)) }
@@ -49,7 +50,8 @@ impl Heap {
         Ok(self.has_member(set, &key))
     }
 
-    /// Adds a member to a set. A new one goes last, and costs a cell. A text is copied before the limit is looked at.
+    /// Adds a member to a set. A new one goes last, and costs a cell. A text is copied before the limit is looked at. The
+    /// error is the limit that refuses the charge, or want of memory; the heap is then as it was.
     #[tactic(auto, unfolding(crate::specs::Heaps::extent_of, crate::specs::Heaps::heap_of))]
     pub fn add(&mut self, set: u32, val: Val) -> Result<(), Full>
         requires set { IsLive (extent_of self.old) (Set set) }

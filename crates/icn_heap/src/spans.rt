@@ -6,6 +6,7 @@ ghost use Rattle.icn_heap.specs.RegionRefusals.{strings_full};
 use icn_strings::ByteRange;
 use icn_value::{Full, Span};
 
+/// A range of the region as the span that stands for it.
 pub fn span_of(range: ByteRange) -> Span
     ensures { range_of result ≡ range }
 {
@@ -15,6 +16,7 @@ pub fn span_of(range: ByteRange) -> Span
     }
 }
 
+/// The range of the region that a span stands for.
 pub fn as_range(span: Span) -> ByteRange
     ensures { result ≡ range_of span }
 {
@@ -24,6 +26,7 @@ pub fn as_range(span: Span) -> ByteRange
     }
 }
 
+/// What a region refuses, as a heap says it: the limit of strings, or want of memory.
 pub fn full_of(full: icn_strings::RegionFull) -> Full
     ensures { result ≡ strings_full full }
 {

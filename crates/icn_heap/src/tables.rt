@@ -21,7 +21,8 @@ impl Heap {
     ghost use Rattle.icn_heap.specs.Texts.{is_text};
     ghost use Rattle.icn_heap.specs.Heaps.{extent_of, heap_of};
 
-    /// Makes a table without pairs, with this value for keys that are not there. It costs a cell.
+    /// Makes a table without pairs, with this value for keys that are not there. It costs a cell. The error is the limit
+    /// that refuses the charge, or else want of memory; the heap is then as it was.
     #[tactic(auto, unfolding(crate::specs::Heaps::extent_of, crate::specs::Heaps::heap_of))]
     pub fn make_table(&mut self, default: Val) -> Result<Val, Full>
         requires { IsLive (extent_of self.old) default }
@@ -81,7 +82,8 @@ impl Heap {
     }
 
     /// Stores a value at a key of a table. A key that is there keeps its place. A new one goes last, and costs a cell. A text is copied
-    /// before the limit is looked at.
+    /// before the limit is looked at. The error is the limit that refuses the charge, or want of memory; the heap is then as
+    /// it was.
     #[tactic(auto, unfolding(crate::specs::Heaps::extent_of, crate::specs::Heaps::heap_of))]
     pub fn store(&mut self, table: u32, key: Val, val: Val) -> Result<(), Full>
         requires table { IsLive (extent_of self.old) (Table table) }

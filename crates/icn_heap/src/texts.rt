@@ -11,7 +11,8 @@ impl Heap {
     ghost use Rattle.icn_heap.specs.Extents.{IsText, text_in, KeepsValues};
     ghost use Rattle.icn_heap.specs.Heaps.{extent_of, heap_of};
 
-    /// Makes a text of these bytes, and charges them.
+    /// Makes a text of these bytes, and charges them. The error is the limit that refuses the charge, or else want of
+    /// memory; the heap is then as it was.
     pub fn build(&mut self, bytes: &[u8]) -> Result<Span, Full>
         ensures live { IfOk result (IsText (extent_of self.new)) }
         ensures bytes { IfOk result (λ span. text_in (extent_of self.new) span ≡ bytes.now) }
@@ -27,7 +28,8 @@ impl Heap {
         }
     }
 
-    /// Makes a text of the bytes of `a` and then those of `b`, and charges both.
+    /// Makes a text of the bytes of `a` and then those of `b`, and charges both. The error is the limit that refuses the
+    /// charge, or else want of memory; the heap is then as it was.
     #[tactic(auto, unfolding(crate::specs::Heaps::extent_of))]
     pub fn join(&mut self, a: Span, b: Span) -> Result<Span, Full>
         requires first { IsText (extent_of self.old) a }

@@ -1,6 +1,7 @@
 pub mod InstrNumbers
 pub mod EntryLoop
 pub mod GlobalLoop
+pub mod HeadLoop
 pub mod ProcedureLoop
 pub mod WritingLoop
 pub mod SpelledFields

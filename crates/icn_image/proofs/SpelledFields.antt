@@ -1,6 +1,6 @@
 -- What is read at the front is what was spelled, and what was spelled is read again: bytes, numbers, places and tables.
 use Rattle.std.proofs.Common.{◌≡◌, ℕ, zero, suc, ◌+◌, ◌^◌, ◌<◌, ◌≤◌, Bool, true, false, cond, ltb, ◌&&◌, List, [], ◌∷◌, ◌++◌, length, get_or, take, drop, Result, Ok, Err, refl, sym, ap, subst, ◌∙◌, append_assoc, arith, inl, inr}
-use Rattle.std.specs.Prelude.{nat_lt}
+use Rattle.std.specs.Prelude.{nat_le, nat_lt}
 use Rattle.std.specs.List.{flat_map, list_all}
 use Rattle.std.specs.Int.{Width, w16, w32, w64, byte_len, from_le_bytes, to_le_bytes}
 use Rattle.std.proofs.lemmas.Bool.{cases_lt, ltb-true, ltb-false, lt-ltb, le-ltb, leb-true, le-leb, and_parts, and_from}
@@ -9,8 +9,8 @@ use Rattle.std.proofs.lemmas.List.Concat.{flat_map-cons}
 use Rattle.std.proofs.lemmas.Nat.{le_bytes_2, le_bytes_4, le_bytes_8, from_le_bytes-to_le_bytes_2, from_le_bytes-to_le_bytes_4, from_le_bytes-to_le_bytes_8}
 use Rattle.icn_tree.specs.declared.rule.Rule.{Rule}
 use Rattle.icn_tree.specs.declared.rule.Rule.TheVariants.{I2, I4}
-use Rattle.icn_code.specs.Rules.{is_byte, is_count}
-use Rattle.icn_image.specs.Readers.{◌>>=◌, Reader, bytes_at, number_at, index_at, times, table_at}
+use Rattle.icn_code.specs.Rules.{is_byte}
+use Rattle.icn_image.specs.Readers.{◌>>=◌, Reader, bytes_at, number_at, count_at, index_at, times, table_at, bounded_table_at}
 use Rattle.icn_image.specs.Spelling.{table}
 
 -- each number is that of a byte
@@ -90,8 +90,9 @@ bytes_again text rest n len =
 
 -- ---- numbers
 
--- numbers of this width go up to the limit
+-- numbers of this width go up to the limit, which has room for those of 16 bits
 pub record IsWide (w : Width) (limit : ℕ) : Type 0 where
+  pub room : 65536 ≤ limit
   pub len : (n : ℕ) → length (to_le_bytes w n) ≡ byte_len w
   pub back : (bytes : List ℕ) → length bytes ≡ byte_len w → IsBytes bytes → to_le_bytes w (from_le_bytes w bytes) ≡ bytes
   pub again : (n : ℕ) → n < limit → from_le_bytes w (to_le_bytes w n) ≡ n
@@ -99,6 +100,7 @@ pub record IsWide (w : Width) (limit : ℕ) : Type 0 where
 
 pub wide16 : IsWide w16 65536
 wide16 = record {
+  room = omega arith;
   len = λ n. refl;
   back = λ bytes len fits. le_bytes_2 bytes _ len fits refl;
   again = λ n lt. from_le_bytes-to_le_bytes_2 n lt;
@@ -107,6 +109,7 @@ wide16 = record {
 
 pub wide32 : IsWide w32 (2 ^ 32)
 wide32 = record {
+  room = omega arith;
   len = λ n. refl;
   back = λ bytes len fits. le_bytes_4 bytes _ len fits refl;
   again = λ n lt. from_le_bytes-to_le_bytes_4 n lt;
@@ -115,6 +118,7 @@ wide32 = record {
 
 pub wide64 : IsWide w64 (2 ^ 64)
 wide64 = record {
+  room = omega arith;
   len = λ n. refl;
   back = λ bytes len fits. le_bytes_8 bytes _ len fits refl;
   again = λ n lt. from_le_bytes-to_le_bytes_8 n lt;
@@ -139,31 +143,46 @@ number_again w limit wide n rest lt = rw (bytes_again (to_le_bytes w n) rest (by
 pub number_reads : (w : Width) (limit : ℕ) → IsWide w limit → Reads ℕ (number_at w) (to_le_bytes w) (λ n. nat_lt n limit)
 number_reads w limit wide = record { takes = number_takes w limit wide; again = number_again w limit wide }
 
-pub count_below : (n : ℕ) → nat_lt n 65536 ≡ true → is_count n ≡ true
-count_below n e = le-leb n 65535 (omega (arith, ltb-true n 65536 e))
+-- counts that are judged
 
-pub below_count : (n : ℕ) → is_count n ≡ true → nat_lt n 65536 ≡ true
-below_count n e = lt-ltb n 65536 (omega (arith, leb-true n 65535 e))
+count_takes : (w : Width) (limit : ℕ) → IsWide w limit → (most : ℕ) (bytes : List ℕ) (x : ℕ × List ℕ) → IsBytes bytes → count_at w most bytes ≡ Ok x
+    → Takes bytes (to_le_bytes w x.0) x.1 × (nat_le x.0 most ≡ true)
+unfolding count_at
+count_takes w limit wide most bytes x fits e =
+    let a = bind_parts (number_at w bytes) (λ n. cond (nat_le n.0 most) (Ok n) (Err I4)) x e in
+    let t = (number_reads w limit wide).takes bytes a.0 fits a.1 in
+    let g = passed_parts (nat_le a.0.0 most) I4 a.0 x a.2 in
+    subst (λ (y : ℕ × List ℕ). Takes bytes (to_le_bytes w y.0) y.1 × (nat_le y.0 most ≡ true)) g.1 (t.0, g.0)
+
+count_again : (w : Width) (limit : ℕ) → IsWide w limit → (most : ℕ) → most < limit → (n : ℕ) (rest : List ℕ) → nat_le n most ≡ true
+    → count_at w most (to_le_bytes w n ++ rest) ≡ Ok (n, rest)
+unfolding count_at
+count_again w limit wide most few n rest le =
+    rw ((number_reads w limit wide).again n rest (lt-ltb n limit (omega (arith, leb-true n most le, few))), le) refl
+
+-- a count is read as it is spelled, where it is not above its bound
+pub count_reads : (w : Width) (limit : ℕ) → IsWide w limit → (most : ℕ) → most < limit → Reads ℕ (count_at w most) (to_le_bytes w) (λ n. nat_le n most)
+count_reads w limit wide most few = record { takes = count_takes w limit wide most; again = count_again w limit wide most few }
 
 -- ---- places
 
-place_takes : (w : Width) → IsWide w 65536 → (count : ℕ) (bytes : List ℕ) (x : ℕ × List ℕ) → IsBytes bytes → index_at w count bytes ≡ Ok x
+place_takes : (w : Width) (limit : ℕ) → IsWide w limit → (count : ℕ) (bytes : List ℕ) (x : ℕ × List ℕ) → IsBytes bytes → index_at w count bytes ≡ Ok x
     → Takes bytes (to_le_bytes w x.0) x.1 × (nat_lt x.0 count ≡ true)
 unfolding index_at
-place_takes w wide count bytes x fits e =
+place_takes w limit wide count bytes x fits e =
     let a = bind_parts (number_at w bytes) (λ n. cond (ltb n.0 count) (Ok n) (Err I4)) x e in
-    let t = (number_reads w 65536 wide).takes bytes a.0 fits a.1 in
+    let t = (number_reads w limit wide).takes bytes a.0 fits a.1 in
     let g = passed_parts (ltb a.0.0 count) I4 a.0 x a.2 in
     subst (λ (y : ℕ × List ℕ). Takes bytes (to_le_bytes w y.0) y.1 × (nat_lt y.0 count ≡ true)) g.1 (t.0, g.0)
 
-place_again : (w : Width) → IsWide w 65536 → (count : ℕ) → count ≤ 65535 → (n : ℕ) (rest : List ℕ) → nat_lt n count ≡ true
+place_again : (w : Width) (limit : ℕ) → IsWide w limit → (count : ℕ) → count ≤ limit → (n : ℕ) (rest : List ℕ) → nat_lt n count ≡ true
     → index_at w count (to_le_bytes w n ++ rest) ≡ Ok (n, rest)
 unfolding index_at
-place_again w wide count few n rest lt = rw ((number_reads w 65536 wide).again n rest (lt-ltb n 65536 (omega (arith, ltb-true n count lt, few))), lt) refl
+place_again w limit wide count few n rest lt = rw ((number_reads w limit wide).again n rest (lt-ltb n limit (omega (arith, ltb-true n count lt, few))), lt) refl
 
 -- an index is read as it is spelled, where it is one of the table
-pub place_reads : (w : Width) → IsWide w 65536 → (count : ℕ) → count ≤ 65535 → Reads ℕ (index_at w count) (to_le_bytes w) (λ n. nat_lt n count)
-place_reads w wide count few = record { takes = place_takes w wide count; again = place_again w wide count few }
+pub place_reads : (w : Width) (limit : ℕ) → IsWide w limit → (count : ℕ) → count ≤ limit → Reads ℕ (index_at w count) (to_le_bytes w) (λ n. nat_lt n count)
+place_reads w limit wide count few = record { takes = place_takes w limit wide count; again = place_again w limit wide count few }
 
 -- ---- entries one behind the other
 
@@ -195,30 +214,61 @@ times_again A read spelling keeps reads (x ∷ xs) rest all =
     ∙ rw (reads.again x (flat_map spelling xs ++ rest) p.0, times_again A read spelling keeps reads xs rest p.1) refl
 
 -- a table: how many entries, and the entries
-abbrev pub all_keep : {A : Type 0} → (A → Bool) → List A → Bool
-all_keep keeps xs = is_count (length xs) && list_all keeps xs
+abbrev pub all_keep : {A : Type 0} → ℕ → (A → Bool) → List A → Bool
+all_keep limit keeps xs = nat_lt (length xs) limit && list_all keeps xs
 
-table_takes : (w : Width) → IsWide w 65536 → (A : Type 0) (read : Reader A) (spelling : A → List ℕ) (keeps : A → Bool) → Reads A read spelling keeps
+table_takes : (w : Width) (limit : ℕ) → IsWide w limit → (A : Type 0) (read : Reader A) (spelling : A → List ℕ) (keeps : A → Bool) → Reads A read spelling keeps
     → (bytes : List ℕ) (x : List A × List ℕ) → IsBytes bytes → table_at w read bytes ≡ Ok x
-    → Takes bytes (table w spelling x.0) x.1 × (all_keep keeps x.0 ≡ true)
+    → Takes bytes (table w spelling x.0) x.1 × (all_keep limit keeps x.0 ≡ true)
 unfolding table_at
-table_takes w wide A read spelling keeps reads bytes x fits e =
+table_takes w limit wide A read spelling keeps reads bytes x fits e =
     let a = bind_parts (number_at w bytes) (λ n. times read n.0 n.1) x e in
-    let t = (number_reads w 65536 wide).takes bytes a.0 fits a.1 in
+    let t = (number_reads w limit wide).takes bytes a.0 fits a.1 in
     let s = times_takes A read spelling keeps reads a.0.0 a.0.1 x t.0.rest_fits a.2 in
     let both = takes_then bytes (to_le_bytes w a.0.0) a.0.1 (flat_map spelling x.0) x.1 t.0 s.0 in
-    (rw s.1 both, and_from (is_count (length x.0)) (list_all keeps x.0) (le-leb _ _ (omega (arith, s.1, ltb-true _ _ t.1))) s.2)
+    (rw s.1 both, and_from (nat_lt (length x.0) limit) (list_all keeps x.0) (lt-ltb _ _ (omega (arith, s.1, ltb-true _ _ t.1))) s.2)
 
-table_again : (w : Width) → IsWide w 65536 → (A : Type 0) (read : Reader A) (spelling : A → List ℕ) (keeps : A → Bool) → Reads A read spelling keeps
-    → (xs : List A) (rest : List ℕ) → all_keep keeps xs ≡ true → table_at w read (table w spelling xs ++ rest) ≡ Ok (xs, rest)
+table_again : (w : Width) (limit : ℕ) → IsWide w limit → (A : Type 0) (read : Reader A) (spelling : A → List ℕ) (keeps : A → Bool) → Reads A read spelling keeps
+    → (xs : List A) (rest : List ℕ) → all_keep limit keeps xs ≡ true → table_at w read (table w spelling xs ++ rest) ≡ Ok (xs, rest)
 unfolding table_at
-table_again w wide A read spelling keeps reads xs rest all =
-    let p = and_parts (is_count (length xs)) (list_all keeps xs) all in
-    let lt : nat_lt (length xs) 65536 ≡ true = lt-ltb _ _ (omega (arith, leb-true _ _ p.0)) in
+table_again w limit wide A read spelling keeps reads xs rest all =
+    let p = and_parts (nat_lt (length xs) limit) (list_all keeps xs) all in
     ap (table_at w read) (append_assoc (to_le_bytes w (length xs)) (flat_map spelling xs) rest)
-    ∙ rw ((number_reads w 65536 wide).again (length xs) (flat_map spelling xs ++ rest) lt) (times_again A read spelling keeps reads xs rest p.1)
+    ∙ rw ((number_reads w limit wide).again (length xs) (flat_map spelling xs ++ rest) p.0) (times_again A read spelling keeps reads xs rest p.1)
 
-pub table_reads : (w : Width) → IsWide w 65536 → (A : Type 0) (read : Reader A) (spelling : A → List ℕ) (keeps : A → Bool) → Reads A read spelling keeps
-    → Reads (List A) (table_at w read) (table w spelling) (all_keep keeps)
-table_reads w wide A read spelling keeps reads =
-    record { takes = table_takes w wide A read spelling keeps reads; again = table_again w wide A read spelling keeps reads }
+pub table_reads : (w : Width) (limit : ℕ) → IsWide w limit → (A : Type 0) (read : Reader A) (spelling : A → List ℕ) (keeps : A → Bool) → Reads A read spelling keeps
+    → Reads (List A) (table_at w read) (table w spelling) (all_keep limit keeps)
+table_reads w limit wide A read spelling keeps reads =
+    record { takes = table_takes w limit wide A read spelling keeps reads; again = table_again w limit wide A read spelling keeps reads }
+
+-- ---- tables whose count is judged
+
+abbrev pub few_keep : {A : Type 0} → ℕ → (A → Bool) → List A → Bool
+few_keep most keeps xs = nat_le (length xs) most && list_all keeps xs
+
+bounded_takes : (w : Width) (limit : ℕ) → IsWide w limit → (most : ℕ) → most < limit → (A : Type 0) (read : Reader A) (spelling : A → List ℕ)
+    (keeps : A → Bool) → Reads A read spelling keeps → (bytes : List ℕ) (x : List A × List ℕ) → IsBytes bytes → bounded_table_at w most read bytes ≡ Ok x
+    → Takes bytes (table w spelling x.0) x.1 × (few_keep most keeps x.0 ≡ true)
+unfolding bounded_table_at
+bounded_takes w limit wide most short A read spelling keeps reads bytes x fits e =
+    let a = bind_parts (count_at w most bytes) (λ n. times read n.0 n.1) x e in
+    let t = (count_reads w limit wide most short).takes bytes a.0 fits a.1 in
+    let s = times_takes A read spelling keeps reads a.0.0 a.0.1 x t.0.rest_fits a.2 in
+    let both = takes_then bytes (to_le_bytes w a.0.0) a.0.1 (flat_map spelling x.0) x.1 t.0 s.0 in
+    (rw s.1 both, and_from (nat_le (length x.0) most) (list_all keeps x.0) (le-leb _ _ (omega (arith, s.1, leb-true _ _ t.1))) s.2)
+
+bounded_again : (w : Width) (limit : ℕ) → IsWide w limit → (most : ℕ) → most < limit → (A : Type 0) (read : Reader A) (spelling : A → List ℕ)
+    (keeps : A → Bool) → Reads A read spelling keeps → (xs : List A) (rest : List ℕ) → few_keep most keeps xs ≡ true
+    → bounded_table_at w most read (table w spelling xs ++ rest) ≡ Ok (xs, rest)
+unfolding bounded_table_at
+bounded_again w limit wide most short A read spelling keeps reads xs rest all =
+    let p = and_parts (nat_le (length xs) most) (list_all keeps xs) all in
+    ap (bounded_table_at w most read) (append_assoc (to_le_bytes w (length xs)) (flat_map spelling xs) rest)
+    ∙ rw ((count_reads w limit wide most short).again (length xs) (flat_map spelling xs ++ rest) p.0) (times_again A read spelling keeps reads xs rest p.1)
+
+pub bounded_reads : (w : Width) (limit : ℕ) → IsWide w limit → (most : ℕ) → most < limit → (A : Type 0) (read : Reader A) (spelling : A → List ℕ)
+    (keeps : A → Bool) → Reads A read spelling keeps → Reads (List A) (bounded_table_at w most read) (table w spelling) (few_keep most keeps)
+bounded_reads w limit wide most short A read spelling keeps reads = record {
+  takes = bounded_takes w limit wide most short A read spelling keeps reads;
+  again = bounded_again w limit wide most short A read spelling keeps reads;
+}

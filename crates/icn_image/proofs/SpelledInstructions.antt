@@ -1,6 +1,6 @@
 -- Instructions: what is read is spelled so, and what is spelled so is read again.
 use Rattle.std.proofs.Common.{◌≡◌, ℕ, ◌^◌, ◌<◌, ◌≤◌, Bool, true, false, cond, eqb, List, [], ◌∷◌, ◌++◌, Option, Some as Found, None as Missing, Ok, refl, sym, ap, subst, ◌∙◌, ◌⊎◌, inl, inr, arith}
-use Rattle.std.specs.Prelude.{find, option_map, nat_lt}
+use Rattle.std.specs.Prelude.{find, option_map, nat_le, nat_lt}
 use Rattle.std.specs.List.{list_all, AllByRecursion}
 use Rattle.std.specs.Int.{Width, w32}
 use Rattle.std.proofs.lemmas.Bool.{ltb-true, lt-ltb, leb-true, and_parts, cond-true, eqb-true}
@@ -131,79 +131,117 @@ instr_found n k instr e = found n k instr (eqb n 8) (eqb n 11) refl refl e
 -- ---- operands
 
 -- the tables of a code are within their bounds
-pub record IsBounded (scope : TableSizes) : Type 0 where
-  pub integers : scope.integers ≤ 65535
-  pub strings : scope.strings ≤ 65535
-  pub csets : scope.csets ≤ 65535
-  pub globals : scope.globals ≤ 65535
-  pub fields : scope.fields ≤ 65535
-  pub variables : scope.variables ≤ 65535
-  pub statics : scope.statics ≤ 65535
+pub record IsBounded (limit : ℕ) (scope : TableSizes) : Type 0 where
+  pub room : 65536 ≤ limit
+  pub integers : scope.integers ≤ limit
+  pub strings : scope.strings ≤ limit
+  pub csets : scope.csets ≤ limit
+  pub globals : scope.globals ≤ limit
+  pub fields : scope.fields ≤ limit
+  pub variables : scope.variables ≤ limit
+  pub statics : scope.statics ≤ limit
   pub labels : scope.labels < 2 ^ 32
 
-abbrev HasRoom : Option Operand → ℕ → Type 0
-HasRoom Missing n = ⊥
-HasRoom (Found Nothing) n = n ≡ 0
-HasRoom (Found Number) n = nat_lt n 65536 ≡ true
-HasRoom (Found Label) n = nat_lt n (2 ^ 32) ≡ true
+abbrev HasRoom : ℕ → Option Operand → ℕ → Type 0
+HasRoom limit Missing n = ⊥
+HasRoom limit (Found Nothing) n = n ≡ 0
+HasRoom limit (Found Number) n = nat_lt n limit ≡ true
+HasRoom limit (Found Label) n = nat_lt n (2 ^ 32) ≡ true
 
-has_room : (scope : TableSizes) → IsBounded scope → (instr : Instr) → names_there scope instr ≡ true
-    → HasRoom (operand_of (instr_number instr)) (operand_value instr)
-has_room scope bounded Pnull e = refl
-has_room scope bounded (Int n) e = lt-ltb _ _ (omega (arith, ltb-true n scope.integers e, bounded.integers))
-has_room scope bounded (Str n) e = lt-ltb _ _ (omega (arith, ltb-true n scope.strings e, bounded.strings))
-has_room scope bounded (Cset n) e = lt-ltb _ _ (omega (arith, ltb-true n scope.csets e, bounded.csets))
-has_room scope bounded (Local n) e = lt-ltb _ _ (omega (arith, ltb-true n scope.variables e, bounded.variables))
-has_room scope bounded (Static n) e = lt-ltb _ _ (omega (arith, ltb-true n scope.statics e, bounded.statics))
-has_room scope bounded (Global n) e = lt-ltb _ _ (omega (arith, ltb-true n scope.globals e, bounded.globals))
-has_room scope bounded (Keywd k) e = lt-ltb _ _ (keyword_small k)
-has_room scope bounded Pop e = refl
-has_room scope bounded Dup e = refl
-has_room scope bounded (Apply o) e = lt-ltb _ _ (op_small o)
-has_room scope bounded (Llist n) e = lt-ltb _ _ (omega (arith, leb-true n 65535 e))
-has_room scope bounded (Field n) e = lt-ltb _ _ (omega (arith, ltb-true n scope.fields e, bounded.fields))
-has_room scope bounded (Invoke n) e = lt-ltb _ _ (omega (arith, leb-true n 65535 e))
-has_room scope bounded Appl e = refl
-has_room scope bounded (Mark n) e = lt-ltb _ _ (omega (arith, leb-true n scope.labels e, bounded.labels))
-has_room scope bounded Mark0 e = refl
-has_room scope bounded Unmark e = refl
-has_room scope bounded Eret e = refl
-has_room scope bounded Esusp e = refl
-has_room scope bounded Limit e = refl
-has_room scope bounded Lsusp e = refl
-has_room scope bounded Efail e = refl
-has_room scope bounded (Chfail n) e = lt-ltb _ _ (omega (arith, leb-true n scope.labels e, bounded.labels))
-has_room scope bounded (Goto n) e = lt-ltb _ _ (omega (arith, leb-true n scope.labels e, bounded.labels))
-has_room scope bounded (Loop n) e = lt-ltb _ _ (omega (arith, leb-true n scope.labels e, bounded.labels))
-has_room scope bounded Bscan e = refl
-has_room scope bounded Escan e = refl
-has_room scope bounded Ccase e = refl
-has_room scope bounded (Init n) e = lt-ltb _ _ (omega (arith, leb-true n scope.labels e, bounded.labels))
-has_room scope bounded Psusp e = refl
-has_room scope bounded Pret e = refl
-has_room scope bounded Pfail e = refl
-has_room scope bounded (Create n) e = lt-ltb _ _ (omega (arith, leb-true n scope.labels e, bounded.labels))
-has_room scope bounded Coact e = refl
-has_room scope bounded Coret e = refl
-has_room scope bounded Cofail e = refl
+-- what an instruction names is there, and what it counts is below the limit
+abbrev pub names_below : ℕ → TableSizes → Instr → Bool
+names_below limit scope Pnull = true
+names_below limit scope (Int n) = nat_lt n scope.integers
+names_below limit scope (Str n) = nat_lt n scope.strings
+names_below limit scope (Cset n) = nat_lt n scope.csets
+names_below limit scope (Local n) = nat_lt n scope.variables
+names_below limit scope (Static n) = nat_lt n scope.statics
+names_below limit scope (Global n) = nat_lt n scope.globals
+names_below limit scope (Keywd n) = true
+names_below limit scope Pop = true
+names_below limit scope Dup = true
+names_below limit scope (Apply n) = true
+names_below limit scope (Llist n) = nat_lt n limit
+names_below limit scope (Field n) = nat_lt n scope.fields
+names_below limit scope (Invoke n) = nat_lt n limit
+names_below limit scope Appl = true
+names_below limit scope (Mark n) = nat_le n scope.labels
+names_below limit scope Mark0 = true
+names_below limit scope Unmark = true
+names_below limit scope Eret = true
+names_below limit scope Esusp = true
+names_below limit scope Limit = true
+names_below limit scope Lsusp = true
+names_below limit scope Efail = true
+names_below limit scope (Chfail n) = nat_le n scope.labels
+names_below limit scope (Goto n) = nat_le n scope.labels
+names_below limit scope (Loop n) = nat_le n scope.labels
+names_below limit scope Bscan = true
+names_below limit scope Escan = true
+names_below limit scope Ccase = true
+names_below limit scope (Init n) = nat_le n scope.labels
+names_below limit scope Psusp = true
+names_below limit scope Pret = true
+names_below limit scope Pfail = true
+names_below limit scope (Create n) = nat_le n scope.labels
+names_below limit scope Coact = true
+names_below limit scope Coret = true
+names_below limit scope Cofail = true
 
-operand_takes : (w : Width) → IsWide w 65536 → (form : Option Operand) (bytes : List ℕ) (x : ℕ × List ℕ) → IsBytes bytes → operand_at w form bytes ≡ Ok x
-    → Takes bytes (operand w form x.0) x.1
-operand_takes w wide Missing bytes x fits e = absurd cc
-operand_takes w wide (Found Nothing) bytes x fits e =
-    record {
-      parts = ap (λ (y : ℕ × List ℕ). y.1) (done_injective (0, bytes) x e);
-      rest_fits = subst (λ (y : ℕ × List ℕ). IsBytes y.1) (done_injective (0, bytes) x e) fits;
-    }
-operand_takes w wide (Found Number) bytes x fits e = ((number_reads w 65536 wide).takes bytes x fits e).0
-operand_takes w wide (Found Label) bytes x fits e = ((number_reads w32 (2 ^ 32) wide32).takes bytes x fits e).0
+has_room : (limit : ℕ) (scope : TableSizes) → IsBounded limit scope → (instr : Instr) → names_below limit scope instr ≡ true
+    → HasRoom limit (operand_of (instr_number instr)) (operand_value instr)
+has_room limit scope bounded Pnull e = refl
+has_room limit scope bounded (Int n) e = lt-ltb _ _ (omega (arith, ltb-true n scope.integers e, bounded.integers))
+has_room limit scope bounded (Str n) e = lt-ltb _ _ (omega (arith, ltb-true n scope.strings e, bounded.strings))
+has_room limit scope bounded (Cset n) e = lt-ltb _ _ (omega (arith, ltb-true n scope.csets e, bounded.csets))
+has_room limit scope bounded (Local n) e = lt-ltb _ _ (omega (arith, ltb-true n scope.variables e, bounded.variables))
+has_room limit scope bounded (Static n) e = lt-ltb _ _ (omega (arith, ltb-true n scope.statics e, bounded.statics))
+has_room limit scope bounded (Global n) e = lt-ltb _ _ (omega (arith, ltb-true n scope.globals e, bounded.globals))
+has_room limit scope bounded (Keywd k) e = lt-ltb _ _ (omega (arith, keyword_small k, bounded.room))
+has_room limit scope bounded Pop e = refl
+has_room limit scope bounded Dup e = refl
+has_room limit scope bounded (Apply o) e = lt-ltb _ _ (omega (arith, op_small o, bounded.room))
+has_room limit scope bounded (Llist n) e = e
+has_room limit scope bounded (Field n) e = lt-ltb _ _ (omega (arith, ltb-true n scope.fields e, bounded.fields))
+has_room limit scope bounded (Invoke n) e = e
+has_room limit scope bounded Appl e = refl
+has_room limit scope bounded (Mark n) e = lt-ltb _ _ (omega (arith, leb-true n scope.labels e, bounded.labels))
+has_room limit scope bounded Mark0 e = refl
+has_room limit scope bounded Unmark e = refl
+has_room limit scope bounded Eret e = refl
+has_room limit scope bounded Esusp e = refl
+has_room limit scope bounded Limit e = refl
+has_room limit scope bounded Lsusp e = refl
+has_room limit scope bounded Efail e = refl
+has_room limit scope bounded (Chfail n) e = lt-ltb _ _ (omega (arith, leb-true n scope.labels e, bounded.labels))
+has_room limit scope bounded (Goto n) e = lt-ltb _ _ (omega (arith, leb-true n scope.labels e, bounded.labels))
+has_room limit scope bounded (Loop n) e = lt-ltb _ _ (omega (arith, leb-true n scope.labels e, bounded.labels))
+has_room limit scope bounded Bscan e = refl
+has_room limit scope bounded Escan e = refl
+has_room limit scope bounded Ccase e = refl
+has_room limit scope bounded (Init n) e = lt-ltb _ _ (omega (arith, leb-true n scope.labels e, bounded.labels))
+has_room limit scope bounded Psusp e = refl
+has_room limit scope bounded Pret e = refl
+has_room limit scope bounded Pfail e = refl
+has_room limit scope bounded (Create n) e = lt-ltb _ _ (omega (arith, leb-true n scope.labels e, bounded.labels))
+has_room limit scope bounded Coact e = refl
+has_room limit scope bounded Coret e = refl
+has_room limit scope bounded Cofail e = refl
 
-operand_again : (w : Width) → IsWide w 65536 → (form : Option Operand) (n : ℕ) (rest : List ℕ) → HasRoom form n
+operand_takes : (w : Width) (limit : ℕ) → IsWide w limit → (form : Option Operand) (bytes : List ℕ) (x : ℕ × List ℕ) → IsBytes bytes → operand_at w form bytes ≡ Ok x
+    → Takes bytes (operand w form x.0) x.1 × HasRoom limit form x.0
+operand_takes w limit wide Missing bytes x fits e = absurd cc
+operand_takes w limit wide (Found Nothing) bytes x fits e =
+    subst (λ (y : ℕ × List ℕ). Takes bytes [] y.1 × (y.0 ≡ 0)) (done_injective (0, bytes) x e) (record { parts = refl; rest_fits = fits }, refl)
+operand_takes w limit wide (Found Number) bytes x fits e = (number_reads w limit wide).takes bytes x fits e
+operand_takes w limit wide (Found Label) bytes x fits e = (number_reads w32 (2 ^ 32) wide32).takes bytes x fits e
+
+operand_again : (w : Width) (limit : ℕ) → IsWide w limit → (form : Option Operand) (n : ℕ) (rest : List ℕ) → HasRoom limit form n
     → operand_at w form (operand w form n ++ rest) ≡ Ok (n, rest)
-operand_again w wide Missing n rest room = absurd room
-operand_again w wide (Found Nothing) n rest room = ap (λ (m : ℕ). Ok (m, rest)) (sym room)
-operand_again w wide (Found Number) n rest room = (number_reads w 65536 wide).again n rest room
-operand_again w wide (Found Label) n rest room = (number_reads w32 (2 ^ 32) wide32).again n rest room
+operand_again w limit wide Missing n rest room = absurd room
+operand_again w limit wide (Found Nothing) n rest room = ap (λ (m : ℕ). Ok (m, rest)) (sym room)
+operand_again w limit wide (Found Number) n rest room = (number_reads w limit wide).again n rest room
+operand_again w limit wide (Found Label) n rest room = (number_reads w32 (2 ^ 32) wide32).again n rest room
 
 -- an operand of an instruction without one is not spelled
 same_operand : (w : Width) (n k : ℕ) (instr : Instr) → instr_number instr ≡ n → Same k instr → n ∷ operand w (operand_of n) k ≡ instruction w instr
@@ -215,6 +253,98 @@ same_operand w n k instr number (inl nothing) =
 same_operand w n k instr number (inr same) =
     ap (λ (m : ℕ). m ∷ operand w (operand_of m) k) (sym number) ∙ ap (λ (m : ℕ). instr_number instr ∷ operand w (operand_of (instr_number instr)) m) (sym same)
 
+-- what is counted is below the limit, where the operand has room
+counts_below : (limit : ℕ) (scope : TableSizes) (instr : Instr) → names_there scope instr ≡ true
+    → (operand_of (instr_number instr) ≡ Found Nothing) ⊎ HasRoom limit (operand_of (instr_number instr)) (operand_value instr)
+    → names_below limit scope instr ≡ true
+counts_below limit scope Pnull e room = e
+counts_below limit scope (Int n) e room = e
+counts_below limit scope (Str n) e room = e
+counts_below limit scope (Cset n) e room = e
+counts_below limit scope (Local n) e room = e
+counts_below limit scope (Static n) e room = e
+counts_below limit scope (Global n) e room = e
+counts_below limit scope (Keywd n) e room = e
+counts_below limit scope Pop e room = e
+counts_below limit scope Dup e room = e
+counts_below limit scope (Apply n) e room = e
+counts_below limit scope (Llist n) e (inl nothing) = absurd cc
+counts_below limit scope (Llist n) e (inr room) = room
+counts_below limit scope (Field n) e room = e
+counts_below limit scope (Invoke n) e (inl nothing) = absurd cc
+counts_below limit scope (Invoke n) e (inr room) = room
+counts_below limit scope Appl e room = e
+counts_below limit scope (Mark n) e room = e
+counts_below limit scope Mark0 e room = e
+counts_below limit scope Unmark e room = e
+counts_below limit scope Eret e room = e
+counts_below limit scope Esusp e room = e
+counts_below limit scope Limit e room = e
+counts_below limit scope Lsusp e room = e
+counts_below limit scope Efail e room = e
+counts_below limit scope (Chfail n) e room = e
+counts_below limit scope (Goto n) e room = e
+counts_below limit scope (Loop n) e room = e
+counts_below limit scope Bscan e room = e
+counts_below limit scope Escan e room = e
+counts_below limit scope Ccase e room = e
+counts_below limit scope (Init n) e room = e
+counts_below limit scope Psusp e room = e
+counts_below limit scope Pret e room = e
+counts_below limit scope Pfail e room = e
+counts_below limit scope (Create n) e room = e
+counts_below limit scope Coact e room = e
+counts_below limit scope Coret e room = e
+counts_below limit scope Cofail e room = e
+
+-- what names what is there below the limit names what is there
+names_are : (limit : ℕ) (scope : TableSizes) (instr : Instr) → names_below limit scope instr ≡ true → names_there scope instr ≡ true
+names_are limit scope Pnull e = e
+names_are limit scope (Int n) e = e
+names_are limit scope (Str n) e = e
+names_are limit scope (Cset n) e = e
+names_are limit scope (Local n) e = e
+names_are limit scope (Static n) e = e
+names_are limit scope (Global n) e = e
+names_are limit scope (Keywd n) e = e
+names_are limit scope Pop e = e
+names_are limit scope Dup e = e
+names_are limit scope (Apply n) e = e
+names_are limit scope (Llist n) e = refl
+names_are limit scope (Field n) e = e
+names_are limit scope (Invoke n) e = refl
+names_are limit scope Appl e = e
+names_are limit scope (Mark n) e = e
+names_are limit scope Mark0 e = e
+names_are limit scope Unmark e = e
+names_are limit scope Eret e = e
+names_are limit scope Esusp e = e
+names_are limit scope Limit e = e
+names_are limit scope Lsusp e = e
+names_are limit scope Efail e = e
+names_are limit scope (Chfail n) e = e
+names_are limit scope (Goto n) e = e
+names_are limit scope (Loop n) e = e
+names_are limit scope Bscan e = e
+names_are limit scope Escan e = e
+names_are limit scope Ccase e = e
+names_are limit scope (Init n) e = e
+names_are limit scope Psusp e = e
+names_are limit scope Pret e = e
+names_are limit scope Pfail e = e
+names_are limit scope (Create n) e = e
+names_are limit scope Coact e = e
+names_are limit scope Coret e = e
+names_are limit scope Cofail e = e
+
+-- the operand that was read has room as that of the instruction, or this has none
+room_of : (limit n k : ℕ) (instr : Instr) → instr_number instr ≡ n → Same k instr → HasRoom limit (operand_of n) k
+    → (operand_of (instr_number instr) ≡ Found Nothing) ⊎ HasRoom limit (operand_of (instr_number instr)) (operand_value instr)
+room_of limit n k instr number (inl nothing) room = inl nothing
+room_of limit n k instr number (inr same) room =
+    inr (subst (λ (m : ℕ). HasRoom limit (operand_of (instr_number instr)) m) (sym same)
+    (subst (λ (m : ℕ). HasRoom limit (operand_of m) k) (sym number) room))
+
 -- ---- instructions
 
 there_ok : (scope : TableSizes) (o : Option Instr) (instr : Instr) → there scope o ≡ Ok instr → (o ≡ Found instr) × (names_there scope instr ≡ true)
@@ -223,31 +353,32 @@ there_ok scope (Found i) instr e =
     let g = passed_parts (names_there scope i) I4 i instr e in
     (ap (λ (j : Instr). Found j) g.1, subst (λ (j : Instr). names_there scope j ≡ true) g.1 g.0)
 
-instr_takes : (w : Width) → IsWide w 65536 → (scope : TableSizes) (bytes : List ℕ) (x : Instr × List ℕ) → IsBytes bytes → instr_at w scope bytes ≡ Ok x
-    → Takes bytes (instruction w x.0) x.1 × (names_there scope x.0 ≡ true)
+instr_takes : (w : Width) (limit : ℕ) → IsWide w limit → (scope : TableSizes) (bytes : List ℕ) (x : Instr × List ℕ) → IsBytes bytes → instr_at w scope bytes ≡ Ok x
+    → Takes bytes (instruction w x.0) x.1 × (names_below limit scope x.0 ≡ true)
 unfolding instr_at
-instr_takes w wide scope [] x fits e = absurd cc
-instr_takes w wide scope (n ∷ bytes) x fits e =
+instr_takes w limit wide scope [] x fits e = absurd cc
+instr_takes w limit wide scope (n ∷ bytes) x fits e =
     let a = bind_parts (operand_at w (operand_of n) bytes) (λ k. there scope (instr_of n k.0) >>= λ instr. Ok (instr, k.1)) x e in
     let b = bind_parts (there scope (instr_of n a.0.0)) (λ instr. Ok (instr, a.0.1)) x a.2 in
-    let t = operand_takes w wide (operand_of n) bytes a.0 (IsBytes-rest n bytes fits) a.1 in
+    let t = operand_takes w limit wide (operand_of n) bytes a.0 (IsBytes-rest n bytes fits) a.1 in
     let names = there_ok scope (instr_of n a.0.0) b.0 b.1 in
     let number = instr_found n a.0.0 b.0 names.0 in
     let took : Takes (n ∷ bytes) (instruction w b.0) a.0.1 = subst (λ (text : List ℕ). Takes (n ∷ bytes) text a.0.1)
-    (same_operand w n a.0.0 b.0 number.0 number.1) (takes_byte n bytes (operand w (operand_of n) a.0.0) a.0.1 fits t) in
-    subst (λ (y : Instr × List ℕ). Takes (n ∷ bytes) (instruction w y.0) y.1 × (names_there scope y.0 ≡ true)) (done_injective (b.0, a.0.1) x b.2)
-    (took, names.1)
+    (same_operand w n a.0.0 b.0 number.0 number.1) (takes_byte n bytes (operand w (operand_of n) a.0.0) a.0.1 fits t.0) in
+    let below = counts_below limit scope b.0 names.1 (room_of limit n a.0.0 b.0 number.0 number.1 t.1) in
+    subst (λ (y : Instr × List ℕ). Takes (n ∷ bytes) (instruction w y.0) y.1 × (names_below limit scope y.0 ≡ true)) (done_injective (b.0, a.0.1) x b.2)
+    (took, below)
 
-instr_again : (w : Width) → IsWide w 65536 → (scope : TableSizes) → IsBounded scope → (instr : Instr) (rest : List ℕ) → names_there scope instr ≡ true
+instr_again : (w : Width) (limit : ℕ) → IsWide w limit → (scope : TableSizes) → IsBounded limit scope → (instr : Instr) (rest : List ℕ) → names_below limit scope instr ≡ true
     → instr_at w scope (instruction w instr ++ rest) ≡ Ok (instr, rest)
 unfolding instr_at
-instr_again w wide scope bounded instr rest names =
+instr_again w limit wide scope bounded instr rest names =
     let read : operand_at w (operand_of (instr_number instr)) (operand w (operand_of (instr_number instr)) (operand_value instr) ++ rest)
     ≡ Ok (operand_value instr, rest) =
-    operand_again w wide (operand_of (instr_number instr)) (operand_value instr) rest (has_room scope bounded instr names) in
+    operand_again w limit wide (operand_of (instr_number instr)) (operand_value instr) rest (has_room limit scope bounded instr names) in
     let made : there scope (instr_of (instr_number instr) (operand_value instr)) ≡ Ok instr = ap (there scope) (instr_back instr)
-    ∙ cond-true (names_there scope instr) _ _ names in
+    ∙ cond-true (names_there scope instr) _ _ (names_are limit scope instr names) in
     ap (λ r. r >>= λ k. there scope (instr_of (instr_number instr) k.0) >>= λ i. Ok (i, k.1)) read ∙ ap (λ r. r >>= λ i. Ok (i, rest)) made
 
-pub instr_reads : (w : Width) → IsWide w 65536 → (scope : TableSizes) → IsBounded scope → Reads Instr (instr_at w scope) (instruction w) (names_there scope)
-instr_reads w wide scope bounded = record { takes = instr_takes w wide scope; again = instr_again w wide scope bounded }
+pub instr_reads : (w : Width) (limit : ℕ) → IsWide w limit → (scope : TableSizes) → IsBounded limit scope → Reads Instr (instr_at w scope) (instruction w) (names_below limit scope)
+instr_reads w limit wide scope bounded = record { takes = instr_takes w limit wide scope; again = instr_again w limit wide scope bounded }

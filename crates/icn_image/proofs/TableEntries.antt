@@ -1,41 +1,40 @@
 -- The entries of the tables of strings, csets, integers and records.
 use Rattle.std.proofs.Common.{◌≡◌, ℕ, ℤ, pos, negsuc, suc, ◌-◌, ◌^◌, ◌<◌, ◌≤◌, Bool, true, false, cond, ltb, eqb, ◌&&◌, List, ◌++◌, length, Ok, refl, sym, ap, subst, ◌∙◌, append_assoc, arith}
-use Rattle.std.specs.Prelude.{nat_lt}
+use Rattle.std.specs.Prelude.{nat_le, nat_lt}
 use Rattle.std.specs.List.{flat_map, list_all}
 use Rattle.std.specs.Int.{Width, w64, to_le_bytes, cast_signed, cast_unsigned}
 use Rattle.std.specs.Int.RustNames.{FitsSigned}
-use Rattle.std.proofs.lemmas.Bool.{ltb-true, ltb-false, lt-ltb, leb-true, le-leb, and_parts, and_from, eq-eqb, eqb-true}
+use Rattle.std.proofs.lemmas.Bool.{ltb-true, ltb-false, lt-ltb, and_parts, and_from, eq-eqb, eqb-true}
 use Rattle.std.proofs.lemmas.Int.{to_z-of_z, of_z-to_z}
 use Rattle.icn_value.specs.declared.cset.Cset.{Cset}
 use Rattle.icn_code.specs.Codes.{RecordType}
-use Rattle.icn_code.specs.Rules.{is_byte, is_count, is_string, is_cset, is_word, is_integer, is_record}
-use Rattle.icn_image.specs.Readers.{◌>>=◌, bytes_at, number_at, index_at, times, table_at}
+use Rattle.icn_code.specs.Rules.{is_byte, is_string_below, is_cset, is_word, is_integer, is_record}
+use Rattle.icn_image.specs.Readers.{◌>>=◌, bytes_at, number_at, index_at, times, bounded_table_at}
 use Rattle.icn_image.specs.Reading.{string_at, cset_at, integer_at, record_at}
 use Rattle.icn_image.specs.Spelling.{table, string, cset, integer, record_type}
-use Rattle.icn_image.proofs.SpelledFields.{IsBytes, all_bytes, bind_parts, done_injective, Takes, takes_then, Reads, bytes_take, bytes_again, IsWide, wide64, number_reads, place_reads, times_takes, times_again, table_reads}
+use Rattle.icn_image.proofs.SpelledFields.{IsBytes, all_bytes, bind_parts, done_injective, Takes, takes_then, Reads, bytes_take, bytes_again, IsWide, wide64, number_reads, place_reads, times_takes, times_again, bounded_reads}
 
 -- ---- strings
 
-string_takes : (w : Width) → IsWide w 65536 → (bytes : List ℕ) (x : List ℕ × List ℕ) → IsBytes bytes → string_at w bytes ≡ Ok x
-    → Takes bytes (string w x.0) x.1 × (is_string x.0 ≡ true)
+string_takes : (w : Width) (limit : ℕ) → IsWide w limit → (bytes : List ℕ) (x : List ℕ × List ℕ) → IsBytes bytes → string_at w bytes ≡ Ok x
+    → Takes bytes (string w x.0) x.1 × (is_string_below limit x.0 ≡ true)
 unfolding string_at
-string_takes w wide bytes x fits e =
+string_takes w limit wide bytes x fits e =
     let a = bind_parts (number_at w bytes) (λ n. bytes_at n.0 n.1) x e in
-    let t = (number_reads w 65536 wide).takes bytes a.0 fits a.1 in
+    let t = (number_reads w limit wide).takes bytes a.0 fits a.1 in
     let s = bytes_take a.0.0 a.0.1 x t.0.rest_fits a.2 in
     let both = takes_then bytes (to_le_bytes w a.0.0) a.0.1 x.0 x.1 t.0 s.0 in
-    (rw s.1 both, and_from (is_count (length x.0)) (list_all is_byte x.0) (le-leb _ _ (omega (arith, s.1, ltb-true _ _ t.1))) (all_bytes x.0 s.2))
+    (rw s.1 both, and_from (nat_lt (length x.0) limit) (list_all is_byte x.0) (lt-ltb _ _ (omega (arith, s.1, ltb-true _ _ t.1))) (all_bytes x.0 s.2))
 
-string_again : (w : Width) → IsWide w 65536 → (text rest : List ℕ) → is_string text ≡ true → string_at w (string w text ++ rest) ≡ Ok (text, rest)
+string_again : (w : Width) (limit : ℕ) → IsWide w limit → (text rest : List ℕ) → is_string_below limit text ≡ true → string_at w (string w text ++ rest) ≡ Ok (text, rest)
 unfolding string_at
-string_again w wide text rest keeps =
-    let p = and_parts (is_count (length text)) (list_all is_byte text) keeps in
-    let lt : nat_lt (length text) 65536 ≡ true = lt-ltb _ _ (omega (arith, leb-true _ _ p.0)) in
+string_again w limit wide text rest keeps =
+    let p = and_parts (nat_lt (length text) limit) (list_all is_byte text) keeps in
     ap (string_at w) (append_assoc (to_le_bytes w (length text)) text rest)
-    ∙ rw ((number_reads w 65536 wide).again (length text) (text ++ rest) lt) (bytes_again text rest (length text) refl)
+    ∙ rw ((number_reads w limit wide).again (length text) (text ++ rest) p.0) (bytes_again text rest (length text) refl)
 
-pub string_reads : (w : Width) → IsWide w 65536 → Reads (List ℕ) (string_at w) (string w) is_string
-string_reads w wide = record { takes = string_takes w wide; again = string_again w wide }
+pub string_reads : (w : Width) (limit : ℕ) → IsWide w limit → Reads (List ℕ) (string_at w) (string w) (is_string_below limit)
+string_reads w limit wide = record { takes = string_takes w limit wide; again = string_again w limit wide }
 
 -- ---- csets
 
@@ -100,39 +99,39 @@ integer_reads = record { takes = integer_takes; again = integer_again }
 
 -- ---- records
 
-record_takes : (w : Width) → IsWide w 65536 → (strings fields : ℕ) → strings ≤ 65535 → fields ≤ 65535 → (bytes : List ℕ) (x : RecordType × List ℕ)
+record_takes : (w : Width) (limit : ℕ) → IsWide w limit → (strings fields : ℕ) → strings ≤ limit → fields ≤ 65535 → (bytes : List ℕ) (x : RecordType × List ℕ)
     → IsBytes bytes → record_at w strings fields bytes ≡ Ok x
     → Takes bytes (record_type w x.0) x.1 × (is_record strings fields x.0 ≡ true)
 unfolding record_at
-record_takes w wide strings fields few_strings few_fields bytes x fits e =
+record_takes w limit wide strings fields few_strings few_fields bytes x fits e =
     let a = bind_parts (index_at w strings bytes)
-    (λ name. table_at w (index_at w fields) name.1 >>= λ places. Ok (record { name = name.0; fields = places.0 }, places.1)) x e in
-    let b = bind_parts (table_at w (index_at w fields) a.0.1) (λ places. Ok (record { name = a.0.0; fields = places.0 }, places.1)) x a.2 in
-    let t = (place_reads w wide strings few_strings).takes bytes a.0 fits a.1 in
-    let s = (table_reads w wide ℕ (index_at w fields) (to_le_bytes w) (λ n. nat_lt n fields) (place_reads w wide fields few_fields)).takes a.0.1 b.0
+    (λ name. bounded_table_at w 65535 (index_at w fields) name.1 >>= λ places. Ok (record { name = name.0; fields = places.0 }, places.1)) x e in
+    let b = bind_parts (bounded_table_at w 65535 (index_at w fields) a.0.1) (λ places. Ok (record { name = a.0.0; fields = places.0 }, places.1)) x a.2 in
+    let t = (place_reads w limit wide strings few_strings).takes bytes a.0 fits a.1 in
+    let s = (bounded_reads w limit wide 65535 (omega (arith, wide.room)) ℕ (index_at w fields) (to_le_bytes w) (λ n. nat_lt n fields) (place_reads w limit wide fields (omega (arith, few_fields, wide.room)))).takes a.0.1 b.0
     t.0.rest_fits b.1 in
     let both = takes_then bytes (to_le_bytes w a.0.0) a.0.1 (table w (to_le_bytes w) b.0.0) b.0.1 t.0 s.0 in
-    let p = and_parts (is_count (length b.0.0)) (list_all (λ n. nat_lt n fields) b.0.0) s.1 in
+    let p = and_parts (nat_le (length b.0.0) 65535) (list_all (λ n. nat_lt n fields) b.0.0) s.1 in
     let keeps : is_record strings fields (record { name = a.0.0; fields = b.0.0 }) ≡ true =
-    and_from (nat_lt a.0.0 strings && is_count (length b.0.0)) (list_all (λ n. nat_lt n fields) b.0.0)
-    (and_from (nat_lt a.0.0 strings) (is_count (length b.0.0)) t.1 p.0) p.1 in
+    and_from (nat_lt a.0.0 strings && nat_le (length b.0.0) 65535) (list_all (λ n. nat_lt n fields) b.0.0)
+    (and_from (nat_lt a.0.0 strings) (nat_le (length b.0.0) 65535) t.1 p.0) p.1 in
     subst (λ (y : RecordType × List ℕ). Takes bytes (record_type w y.0) y.1 × (is_record strings fields y.0 ≡ true))
     (done_injective (record { name = a.0.0; fields = b.0.0 }, b.0.1) x b.2) (both, keeps)
 
-record_again : (w : Width) → IsWide w 65536 → (strings fields : ℕ) → strings ≤ 65535 → fields ≤ 65535 → (kind : RecordType) (rest : List ℕ)
+record_again : (w : Width) (limit : ℕ) → IsWide w limit → (strings fields : ℕ) → strings ≤ limit → fields ≤ 65535 → (kind : RecordType) (rest : List ℕ)
     → is_record strings fields kind ≡ true → record_at w strings fields (record_type w kind ++ rest) ≡ Ok (kind, rest)
 unfolding record_at
-record_again w wide strings fields few_strings few_fields kind rest keeps =
-    let p = and_parts (nat_lt kind.name strings && is_count (length kind.fields)) (list_all (λ n. nat_lt n fields) kind.fields) keeps in
-    let q = and_parts (nat_lt kind.name strings) (is_count (length kind.fields)) p.0 in
-    let all = and_from (is_count (length kind.fields)) (list_all (λ n. nat_lt n fields) kind.fields) q.1 p.1 in
+record_again w limit wide strings fields few_strings few_fields kind rest keeps =
+    let p = and_parts (nat_lt kind.name strings && nat_le (length kind.fields) 65535) (list_all (λ n. nat_lt n fields) kind.fields) keeps in
+    let q = and_parts (nat_lt kind.name strings) (nat_le (length kind.fields) 65535) p.0 in
+    let all = and_from (nat_le (length kind.fields) 65535) (list_all (λ n. nat_lt n fields) kind.fields) q.1 p.1 in
     ap (record_at w strings fields) (append_assoc (to_le_bytes w kind.name) (table w (to_le_bytes w) kind.fields) rest)
     ∙ rw (
-      (place_reads w wide strings few_strings).again kind.name (table w (to_le_bytes w) kind.fields ++ rest) q.0,
-      (table_reads w wide ℕ (index_at w fields) (to_le_bytes w) (λ n. nat_lt n fields) (place_reads w wide fields few_fields)).again kind.fields rest all,
+      (place_reads w limit wide strings few_strings).again kind.name (table w (to_le_bytes w) kind.fields ++ rest) q.0,
+      (bounded_reads w limit wide 65535 (omega (arith, wide.room)) ℕ (index_at w fields) (to_le_bytes w) (λ n. nat_lt n fields) (place_reads w limit wide fields (omega (arith, few_fields, wide.room)))).again kind.fields rest all,
     ) refl
 
-pub record_reads : (w : Width) → IsWide w 65536 → (strings fields : ℕ) → strings ≤ 65535 → fields ≤ 65535
+pub record_reads : (w : Width) (limit : ℕ) → IsWide w limit → (strings fields : ℕ) → strings ≤ limit → fields ≤ 65535
     → Reads RecordType (record_at w strings fields) (record_type w) (is_record strings fields)
-record_reads w wide strings fields few_strings few_fields =
-    record { takes = record_takes w wide strings fields few_strings few_fields; again = record_again w wide strings fields few_strings few_fields }
+record_reads w limit wide strings fields few_strings few_fields =
+    record { takes = record_takes w limit wide strings fields few_strings few_fields; again = record_again w limit wide strings fields few_strings few_fields }

@@ -1,5 +1,5 @@
 -- Reading from the front of bytes, with the first rule that is broken from the left.
-use Rattle.std.specs.Prelude.{◌≡◌, ℕ, zero, suc, List, [], ◌∷◌, length, take, drop, Result, Ok, Err, nat_lt, if◌then◌else◌}
+use Rattle.std.specs.Prelude.{◌≡◌, ℕ, zero, suc, List, [], ◌∷◌, length, take, drop, Result, Ok, Err, nat_le, nat_lt, if◌then◌else◌}
 use Rattle.std.specs.Int.{Width, byte_len, from_le_bytes}
 use Rattle.icn_tree.specs.declared.rule.Rule.{Rule}
 use Rattle.icn_tree.specs.declared.rule.Rule.TheVariants.{I2, I4}
@@ -40,6 +40,12 @@ number_at width bytes = do
   number ← bytes_at (byte_len width) bytes
   Ok (from_le_bytes width number.0, number.1)
 
+-- a count that is at most this one, which is judged as it is read
+unfoldable pub count_at : Width → ℕ → Reader ℕ
+count_at width most bytes = do
+  count ← number_at width bytes
+  if nat_le count.0 most then Ok count else Err I4
+
 -- a place in a table of so many entries
 unfoldable pub index_at : Width → ℕ → Reader ℕ
 index_at width count bytes = do
@@ -58,4 +64,10 @@ times read (suc n) bytes = do
 unfoldable pub table_at : {A : Type 0} → Width → Reader A → Reader (List A)
 table_at width read bytes = do
   count ← number_at width bytes
+  times read count.0 count.1
+
+-- a table of at most so many entries
+unfoldable pub bounded_table_at : {A : Type 0} → Width → ℕ → Reader A → Reader (List A)
+bounded_table_at width most read bytes = do
+  count ← count_at width most bytes
   times read count.0 count.1

@@ -1,8 +1,8 @@
 -- The code that bytes spell, or the first rule that is broken, from the left.
 use Rattle.std.specs.Prelude.{◌==◌, ℕ, ℤ, zero, suc, ◌+◌, Bool, true, false, ◌&&◌, List, [], ◌∷◌, length, drop, Option, Some, None, Result, Ok, Err, nat_eq, nat_le, nat_lt, slice_index_or, if◌then◌else◌}
 use Rattle.std.specs.List.{list_all, starts_with}
-use Rattle.std.specs.Int.{Width, w16, w32, w64, cast_signed}
-use Rattle.icn_profile.specs.Numbers.{most_entries}
+use Rattle.std.specs.Int.{Width, w32, w64, cast_signed}
+use Rattle.icn_profile.specs.Numbers.{most_fields, most_procedures, most_statics, most_variables}
 use Rattle.icn_tree.specs.declared.rule.Rule.{Rule}
 use Rattle.icn_tree.specs.declared.rule.Rule.TheVariants.{I1, I3, I4, I5}
 use Rattle.icn_text.specs.declared.func.Func.{Func}
@@ -18,12 +18,14 @@ use Rattle.icn_image.specs.declared.head.ImageHead.{ImageHead}
 use Rattle.icn_image.specs.declared.operand.Operand.{Operand}
 use Rattle.icn_image.specs.declared.operand.Operand.TheVariants.{Nothing, Number, Label}
 use Rattle.icn_image.specs.declared.scope.TableSizes.{TableSizes}
-use Rattle.icn_image.specs.Readers.{◌>>=◌, Reader, bytes_at, byte_at, number_at, index_at, times, table_at}
+use Rattle.icn_image.specs.Readers.{◌>>=◌, Reader, bytes_at, byte_at, number_at, count_at, index_at, times, table_at, bounded_table_at}
 use Rattle.icn_image.specs.Operands.{operand_of, instr_of}
 use Rattle.icn_image.specs.Scopes.{names_there}
 use Rattle.icn_tree.specs.NameSets.{NameTest, none_met, with_name}
 use Rattle.icn_image.specs.Fronts.{FrontTables, with_procs, with_instrs, scope_of}
-use Rattle.icn_image.specs.Spelling.{image_head}
+use Rattle.icn_image.specs.declared.version.Version.{Version}
+use Rattle.icn_image.specs.declared.version.Version.TheVariants.{First, Second}
+use Rattle.icn_image.specs.Versions.{width_of, image_head}
 
 -- ---- the tables in front of the procedures
 
@@ -49,7 +51,7 @@ integer_at bytes = do
 unfoldable pub record_at : Width → ℕ → ℕ → Reader RecordType
 record_at width strings fields bytes = do
   name ← index_at width strings bytes
-  places ← table_at width (index_at width fields) name.1
+  places ← bounded_table_at width most_fields (index_at width fields) name.1
   Ok (record { name = name.0; fields = places.0 }, places.1)
 
 -- ---- globals
@@ -106,8 +108,8 @@ front_at width bytes = do
   strings ← table_at width (string_at width) bytes
   csets ← table_at width cset_at strings.1
   integers ← table_at width integer_at csets.1
-  fields ← table_at width (index_at width (length strings.0)) integers.1
-  records ← table_at width (record_at width (length strings.0) (length fields.0)) fields.1
+  fields ← bounded_table_at width most_fields (index_at width (length strings.0)) integers.1
+  records ← bounded_table_at width most_fields (record_at width (length strings.0) (length fields.0)) fields.1
   globals ← globals_at width strings.0 (length records.0) records.1
   Ok (
     record {
@@ -130,20 +132,26 @@ collects_at parameters bytes = do
   if flag.0 == 0 then Ok (false, flag.1)
       else (if (flag.0 == 1) && nat_lt 0 parameters then Ok (true, flag.1) else Err I3)
 
--- the other locals, with the parameters at most 65535
+-- the other locals, which are judged together with the parameters
 unfoldable pub locals_at : Width → ℕ → Reader ℕ
 locals_at width parameters bytes = do
   locals ← number_at width bytes
-  if nat_le (parameters + locals.0) most_entries then Ok locals else Err I4
+  if nat_le (parameters + locals.0) most_variables then Ok locals else Err I4
 
--- what an image says of a procedure in front of all instructions
-unfoldable pub head_at : Width → ℕ → Reader ImageHead
-head_at width strings bytes = do
+-- the statics of a procedure, behind procedures that have so many together
+unfoldable pub statics_at : Width → ℕ → Reader ℕ
+statics_at width before bytes = do
+  statics ← count_at width most_variables bytes
+  if nat_le (before + statics.0) most_statics then Ok statics else Err I4
+
+-- what an image says of a procedure in front of all instructions, behind procedures that have so many statics together
+unfoldable pub head_at : Width → ℕ → ℕ → Reader ImageHead
+head_at width strings before bytes = do
   name ← index_at width strings bytes
   parameters ← number_at width name.1
   collects ← collects_at parameters.0 parameters.1
   locals ← locals_at width parameters.0 collects.1
-  statics ← number_at width locals.1
+  statics ← statics_at width before locals.1
   instrs ← number_at w32 statics.1
   Ok (
     record {
@@ -157,6 +165,14 @@ head_at width strings bytes = do
     instrs.1,
   )
 
+-- what it says of so many procedures, behind those that have so many statics together
+unfoldable pub heads_from : Width → ℕ → ℕ → ℕ → Reader (List ImageHead)
+heads_from width strings before zero bytes = Ok ([], bytes)
+heads_from width strings before (suc n) bytes = do
+  first ← head_at width strings before bytes
+  others ← heads_from width strings (before + first.0.statics) n first.1
+  Ok (first.0 ∷ others.0, others.1)
+
 -- the number of a global's procedure is judged where their count is known
 abbrev pub has_proc : ℕ → Start → Bool
 has_proc procs (Procedure place) = nat_lt place procs
@@ -168,8 +184,8 @@ have_procs procs globals = list_all (λ global. has_proc procs global.start) glo
 -- that of all procedures, among which are those that globals begin with
 unfoldable pub heads_at : Width → FrontTables → Reader (List ImageHead)
 heads_at width front bytes = do
-  count ← number_at width bytes
-  if have_procs count.0 front.globals then times (head_at width (length front.strings)) count.0 count.1
+  count ← count_at width most_procedures bytes
+  if have_procs count.0 front.globals then heads_from width (length front.strings) 0 count.0 count.1
       else Err I4
 
 -- ---- instructions
@@ -216,13 +232,15 @@ tables_at width bytes = do
   procs ← procs_at width front.0 heads.0 heads.1
   Ok (with_procs front.0 procs.0, procs.1)
 
--- the bytes behind the image's head
-abbrev pub behind_head : List ℕ → Result (List ℕ) Rule
-behind_head bytes = if starts_with nat_eq bytes image_head then Ok (drop 8 bytes) else Err I1
+-- the version of an image, by its head
+abbrev pub version_at : Reader Version
+version_at bytes =
+    if starts_with nat_eq bytes (image_head First) then Ok (First, drop 8 bytes)
+    else (if starts_with nat_eq bytes (image_head Second) then Ok (Second, drop 8 bytes) else Err I1)
 
--- the tables that an image spells, or the first rule that it breaks; nothing may stand behind them
+-- the tables that an image of either version spells, or the first rule that it breaks; nothing may stand behind them
 unfoldable pub image_read : List ℕ → Result Tables Rule
 image_read bytes = do
-  rest ← behind_head bytes
-  tables ← tables_at w16 rest
+  version ← version_at bytes
+  tables ← tables_at (width_of version.0) version.1
   if length tables.1 == 0 then Ok tables.0 else Err I5

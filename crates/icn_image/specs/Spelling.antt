@@ -1,7 +1,7 @@
 -- The one spelling of each code.
 use Rattle.std.specs.Prelude.{ℕ, ℤ, Bool, true, false, List, [], ◌∷◌, ◌++◌, length, map, Option, Some}
 use Rattle.std.specs.List.{flat_map}
-use Rattle.std.specs.Int.{Width, w16, w32, w64, to_le_bytes, cast_unsigned}
+use Rattle.std.specs.Int.{Width, w32, w64, to_le_bytes, cast_unsigned}
 use Rattle.icn_text.specs.Funcs.{func_number}
 use Rattle.icn_value.specs.declared.cset.Cset.{Cset}
 use Rattle.icn_code.specs.declared.code.Global.{Global}
@@ -14,10 +14,9 @@ use Rattle.icn_image.specs.declared.operand.Operand.{Operand}
 use Rattle.icn_image.specs.declared.operand.Operand.TheVariants.{Number, Label}
 use Rattle.icn_image.specs.Fronts.{FrontTables, head_of}
 use Rattle.icn_image.specs.Operands.{instr_number, operand_value, operand_of}
-
--- `Icn9img` and the version
-abbrev pub image_head : List ℕ
-image_head = 73 ∷ 99 ∷ 110 ∷ 57 ∷ 105 ∷ 109 ∷ 103 ∷ 1 ∷ []
+use Rattle.icn_image.specs.declared.version.Version.{Version}
+use Rattle.icn_image.specs.declared.version.Version.TheVariants.{Second}
+use Rattle.icn_image.specs.Versions.{width_of, image_head}
 
 -- how many entries there are, and the entries
 abbrev pub table : {A : Type 0} → Width → (A → List ℕ) → List A → List ℕ
@@ -90,6 +89,12 @@ front_of tables = record {
   globals = tables.globals;
 }
 
--- the image of a code, with numbers of 16 bits
-unfoldable pub image_of : Tables → List ℕ
-image_of tables = image_head ++ (front w16 (front_of tables) ++ procs w16 tables.procs)
+-- the image of a code in this version
+unfoldable pub image_in : Version → Tables → List ℕ
+image_in version tables =
+    image_head version
+    ++ (front (width_of version) (front_of tables) ++ procs (width_of version) tables.procs)
+
+-- the image of a code as it is written: in the second version
+abbrev pub image_of : Tables → List ℕ
+image_of tables = image_in Second tables

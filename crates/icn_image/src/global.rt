@@ -1,13 +1,14 @@
 // The table of globals.
 ghost use Rattle.std.specs.Prelude.{◌≡◌, [], IfOk, slice_index_or};
-ghost use Rattle.std.specs.Int.{w16};
 ghost use Rattle.icn_code.specs.Rules.{name_of};
 ghost use Rattle.icn_tree.specs.NameSets.{has, none_met, with_name};
 ghost use Rattle.icn_image.specs.Readers.{Gives};
 ghost use Rattle.icn_image.specs.Reading.{func_start, global_at, globals_at, globals_from, new_name_at, start_at, start_of};
+ghost use Rattle.icn_image.specs.Versions.{width_of};
 
 use crate::fault::ImageFault;
 use crate::number::{byte_at, number_at, place_at};
+use crate::version::Version;
 use icn_code::Start;
 use icn_defs::func_numbered;
 use icn_tree::{Bytes, NameSet, Rule};
@@ -30,14 +31,14 @@ fn start_of(records: usize, kind: u8, number: u32) -> Result<Start, ImageFault>
 }
 
 #[tactic(auto, unfolding(crate::specs::Reading::start_at))]
-fn start_at(records: usize, bytes: &[u8]) -> Result<(Start, &[u8]), ImageFault>
-    ensures { Gives (λ x. (x.0, x.1.now)) result (start_at w16 records bytes.now) }
+fn start_at(version: Version, records: usize, bytes: &[u8]) -> Result<(Start, &[u8]), ImageFault>
+    ensures { Gives (λ x. (x.0, x.1.now)) result (start_at (width_of version) records bytes.now) }
 {
     let (kind, rest) = byte_at(bytes)?;
     if kind > 3 {
         return Err(ImageFault::Broken(Rule::I3));
     }
-    let (number, rest) = number_at(rest)?;
+    let (number, rest) = number_at(version, rest)?;
     let start = start_of(records, kind, number)?;
     Ok((start, rest))
 }
@@ -45,15 +46,16 @@ fn start_at(records: usize, bytes: &[u8]) -> Result<(Start, &[u8]), ImageFault>
 // The place of a name that no global has yet, which is met now.
 #[tactic(auto, unfolding(crate::specs::Reading::new_name_at))]
 fn new_name_at<'a, 'b>(
+    version: Version,
     strings: &'a [Bytes],
     met: &mut NameSet<'a>,
     bytes: &'b [u8],
 ) -> Result<(u32, &'b [u8]), ImageFault>
-    ensures gives { Gives (λ x. (x.0, x.1.now)) result (new_name_at w16 strings.now (has met.old) bytes.now) }
+    ensures gives { Gives (λ x. (x.0, x.1.now)) result (new_name_at (width_of version) strings.now (has met.old) bytes.now) }
     ensures has { IfOk result
         (λ x. has met.new ≡ with_name (has met.old) (slice_index_or strings.now x.0 [])) }
 {
-    let (name, rest) = place_at(strings.len(), bytes)?;
+    let (name, rest) = place_at(version, strings.len(), bytes)?;
     if met.meet(strings[name as usize].as_slice())? {
         Ok((name, rest))
     } else {
@@ -63,35 +65,37 @@ fn new_name_at<'a, 'b>(
 
 #[tactic(auto, unfolding(crate::specs::Reading::global_at))]
 fn global_at<'a, 'b>(
+    version: Version,
     strings: &'a [Bytes],
     records: usize,
     met: &mut NameSet<'a>,
     bytes: &'b [u8],
 ) -> Result<(icn_code::Global, &'b [u8]), ImageFault>
     ensures gives { Gives (λ x. (x.0, x.1.now)) result
-        (global_at w16 strings.now records (has met.old) bytes.now) }
+        (global_at (width_of version) strings.now records (has met.old) bytes.now) }
     ensures has { IfOk result (λ x. has met.new ≡ with_name (has met.old) (name_of strings.now x.0)) }
 {
-    let (name, rest) = new_name_at(strings, met, bytes)?;
-    let (start, rest) = start_at(records, rest)?;
+    let (name, rest) = new_name_at(version, strings, met, bytes)?;
+    let (start, rest) = start_at(version, records, rest)?;
     Ok((icn_code::Global { name, start }, rest))
 }
 
 fn so_many_globals<'b>(
     alloc: Global,
+    version: Version,
     strings: &[Bytes],
     records: usize,
     count: u32,
     bytes: &'b [u8],
 ) -> Result<(Vec<icn_code::Global>, &'b [u8]), ImageFault>
     ensures { Gives (λ x. (x.0.items, x.1.now)) result
-        (globals_from w16 strings.now records none_met count bytes.now) }
+        (globals_from (width_of version) strings.now records none_met count bytes.now) }
 {
     let mut met = NameSet::new(alloc);
     let mut globals = Vec::new(alloc);
     let mut rest = bytes;
     for _ in 0..count {
-        let (global, after) = global_at(strings, records, &mut met, rest)?;
+        let (global, after) = global_at(version, strings, records, &mut met, rest)?;
         globals.push(global)?;
         rest = after;
     }
@@ -102,12 +106,13 @@ fn so_many_globals<'b>(
 #[tactic(auto, unfolding(crate::specs::Reading::globals_at))]
 pub fn globals_at<'b>(
     alloc: Global,
+    version: Version,
     strings: &[Bytes],
     records: usize,
     bytes: &'b [u8],
 ) -> Result<(Vec<icn_code::Global>, &'b [u8]), ImageFault>
-    ensures { Gives (λ x. (x.0.items, x.1.now)) result (globals_at w16 strings.now records bytes.now) }
+    ensures { Gives (λ x. (x.0.items, x.1.now)) result (globals_at (width_of version) strings.now records bytes.now) }
 {
-    let (count, rest) = number_at(bytes)?;
-    so_many_globals(alloc, strings, records, count, rest)
+    let (count, rest) = number_at(version, bytes)?;
+    so_many_globals(alloc, version, strings, records, count, rest)
 }

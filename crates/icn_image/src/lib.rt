@@ -13,6 +13,7 @@ mod reading;
 mod scope;
 mod spelling_laws;
 mod table;
+mod version;
 mod writing;
 
 pub use fault::ImageFault;

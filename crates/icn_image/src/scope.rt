@@ -2,7 +2,6 @@
 ghost use Rattle.std.specs.Prelude.{◌≡◌};
 
 use icn_code::Instr;
-use icn_profile::MOST_ENTRIES;
 
 // How many there are of what an instruction can name.
 #[derive(Clone, Copy, Debug)]
@@ -34,7 +33,6 @@ impl TableSizes {
             Instr::Static(place) => u64::from(place) < self.statics,
             Instr::Global(place) => u64::from(place) < self.globals,
             Instr::Field(place) => u64::from(place) < self.fields,
-            Instr::Llist(count) | Instr::Invoke(count) => count <= MOST_ENTRIES as u32,
             Instr::Mark(label)
             | Instr::Chfail(label)
             | Instr::Goto(label)

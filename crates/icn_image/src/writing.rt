@@ -1,7 +1,7 @@
 // Writing an image.
 ghost use Rattle.std.specs.Prelude.{◌≡◌, ◌∷◌, ◌++◌, IfOk, OnOk, map};
 ghost use Rattle.std.specs.List.{flat_map};
-ghost use Rattle.std.specs.Int.{to_le_bytes, w16, w32, w64};
+ghost use Rattle.std.specs.Int.{to_le_bytes, w32, w64};
 ghost use Rattle.icn_code.specs.Codes.{proc_of, procs_of, record_of, records_of};
 ghost use Rattle.icn_code.specs.CodeTables.{tables_of};
 ghost use Rattle.icn_image.specs.Fronts.{head_of};
@@ -13,25 +13,18 @@ use icn_tree::Bytes;
 use icn_value::Cset;
 use std::alloc::{AllocError, Global};
 
-// `Icn9img` and the version.
-pub const IMAGE_HEAD: [u8; 8] = *b"Icn9img\x01";
+// The head of an image that is written, of the second version: `Icn9img` and the version.
+pub const IMAGE_HEAD: [u8; 8] = *b"Icn9img\x02";
 
-// A count, a length, a place in a table or an operand. This alone knows how wide they are.
+// A count, a length, a place in a table, an operand or a label.
 fn put_number(out: &mut Vec<u8>, number: usize) -> Result<(), AllocError>
-    ensures { OnOk result (out.new.items ≡ out.old.items ++ to_le_bytes w16 number) }
-{
-    out.extend_from_slice(&number.to_le_bytes()[..2])
-}
-
-// A label, or how many instructions a procedure has.
-fn put_label(out: &mut Vec<u8>, number: usize) -> Result<(), AllocError>
     ensures { OnOk result (out.new.items ≡ out.old.items ++ to_le_bytes w32 number) }
 {
     out.extend_from_slice(&number.to_le_bytes()[..4])
 }
 
 fn put_strings(out: &mut Vec<u8>, strings: &[Bytes]) -> Result<(), AllocError>
-    ensures { OnOk result (out.new.items ≡ out.old.items ++ table w16 (string w16) strings.now) }
+    ensures { OnOk result (out.new.items ≡ out.old.items ++ table w32 (string w32) strings.now) }
 {
     put_number(out, strings.len())?;
     for string in strings {
@@ -53,7 +46,7 @@ fn put_words(out: &mut Vec<u8>, words: &[u64; 4]) -> Result<(), AllocError>
 }
 
 fn put_csets(out: &mut Vec<u8>, csets: &[Cset]) -> Result<(), AllocError>
-    ensures { OnOk result (out.new.items ≡ out.old.items ++ table w16 cset csets.now) }
+    ensures { OnOk result (out.new.items ≡ out.old.items ++ table w32 cset csets.now) }
 {
     put_number(out, csets.len())?;
     for cset in csets {
@@ -63,7 +56,7 @@ fn put_csets(out: &mut Vec<u8>, csets: &[Cset]) -> Result<(), AllocError>
 }
 
 fn put_integers(out: &mut Vec<u8>, integers: &[i64]) -> Result<(), AllocError>
-    ensures { OnOk result (out.new.items ≡ out.old.items ++ table w16 integer integers.now) }
+    ensures { OnOk result (out.new.items ≡ out.old.items ++ table w32 integer integers.now) }
 {
     put_number(out, integers.len())?;
     for integer in integers {
@@ -74,7 +67,7 @@ fn put_integers(out: &mut Vec<u8>, integers: &[i64]) -> Result<(), AllocError>
 
 // A table of places.
 fn put_places(out: &mut Vec<u8>, places: &[u32]) -> Result<(), AllocError>
-    ensures { OnOk result (out.new.items ≡ out.old.items ++ table w16 (to_le_bytes w16) places.now) }
+    ensures { OnOk result (out.new.items ≡ out.old.items ++ table w32 (to_le_bytes w32) places.now) }
 {
     put_number(out, places.len())?;
     for place in places {
@@ -85,7 +78,7 @@ fn put_places(out: &mut Vec<u8>, places: &[u32]) -> Result<(), AllocError>
 
 fn put_records(out: &mut Vec<u8>, records: &[LinkedRecord]) -> Result<(), AllocError>
     ensures { OnOk result
-        (out.new.items ≡ out.old.items ++ table w16 (record_type w16) (records_of records.now)) }
+        (out.new.items ≡ out.old.items ++ table w32 (record_type w32) (records_of records.now)) }
 {
     put_number(out, records.len())?;
     for kind in records {
@@ -96,14 +89,14 @@ fn put_records(out: &mut Vec<u8>, records: &[LinkedRecord]) -> Result<(), AllocE
 }
 
 fn put_kind(out: &mut Vec<u8>, kind: u8, number: usize) -> Result<(), AllocError>
-    ensures { OnOk result (out.new.items ≡ out.old.items ++ kind ∷ to_le_bytes w16 number) }
+    ensures { OnOk result (out.new.items ≡ out.old.items ++ kind ∷ to_le_bytes w32 number) }
 {
     out.push(kind)?;
     put_number(out, number)
 }
 
 fn put_start(out: &mut Vec<u8>, start: Start) -> Result<(), AllocError>
-    ensures { OnOk result (out.new.items ≡ out.old.items ++ kind_and_number w16 start) }
+    ensures { OnOk result (out.new.items ≡ out.old.items ++ kind_and_number w32 start) }
 {
     match start {
         Start::Null => put_kind(out, 0, 0),
@@ -114,7 +107,7 @@ fn put_start(out: &mut Vec<u8>, start: Start) -> Result<(), AllocError>
 }
 
 fn put_globals(out: &mut Vec<u8>, globals: &[icn_code::Global]) -> Result<(), AllocError>
-    ensures { OnOk result (out.new.items ≡ out.old.items ++ table w16 (global w16) globals.now) }
+    ensures { OnOk result (out.new.items ≡ out.old.items ++ table w32 (global w32) globals.now) }
 {
     put_number(out, globals.len())?;
     for global in globals {
@@ -125,19 +118,19 @@ fn put_globals(out: &mut Vec<u8>, globals: &[icn_code::Global]) -> Result<(), Al
 }
 
 fn put_head(out: &mut Vec<u8>, proc: &LinkedProcedure) -> Result<(), AllocError>
-    ensures { OnOk result (out.new.items ≡ out.old.items ++ head w16 (head_of (proc_of proc.now))) }
+    ensures { OnOk result (out.new.items ≡ out.old.items ++ head w32 (head_of (proc_of proc.now))) }
 {
     put_number(out, proc.name as usize)?;
     put_number(out, proc.parameters as usize)?;
     out.push(u8::from(proc.collects))?;
     put_number(out, proc.locals as usize)?;
     put_number(out, proc.statics as usize)?;
-    put_label(out, proc.instrs.len())
+    put_number(out, proc.instrs.len())
 }
 
 fn put_heads(out: &mut Vec<u8>, procs: &[LinkedProcedure]) -> Result<(), AllocError>
     ensures { OnOk result
-        (out.new.items ≡ out.old.items ++ table w16 (head w16) (map head_of (procs_of procs.now))) }
+        (out.new.items ≡ out.old.items ++ table w32 (head w32) (map head_of (procs_of procs.now))) }
 {
     put_number(out, procs.len())?;
     for proc in procs {
@@ -147,20 +140,19 @@ fn put_heads(out: &mut Vec<u8>, procs: &[LinkedProcedure]) -> Result<(), AllocEr
 }
 
 fn put_instr(out: &mut Vec<u8>, instr: Instr) -> Result<(), AllocError>
-    ensures { OnOk result (out.new.items ≡ out.old.items ++ instruction w16 instr) }
+    ensures { OnOk result (out.new.items ≡ out.old.items ++ instruction w32 instr) }
 {
     let number = instr_number(instr);
     let value = operand_value(instr) as usize;
     out.push(number)?;
     match operand_of(number) {
-        Some(Operand::Number) => put_number(out, value),
-        Some(Operand::Label) => put_label(out, value),
-        _ => Ok(()),
+        Some(Operand::Number | Operand::Label) => put_number(out, value),
+        Some(Operand::Nothing) | None => Ok(()),
     }
 }
 
 fn put_body(out: &mut Vec<u8>, instrs: &[Instr]) -> Result<(), AllocError>
-    ensures { OnOk result (out.new.items ≡ out.old.items ++ flat_map (instruction w16) instrs.now) }
+    ensures { OnOk result (out.new.items ≡ out.old.items ++ flat_map (instruction w32) instrs.now) }
 {
     for instr in instrs {
         put_instr(out, *instr)?;
@@ -170,7 +162,7 @@ fn put_body(out: &mut Vec<u8>, instrs: &[Instr]) -> Result<(), AllocError>
 
 // The instructions of all procedures.
 fn put_bodies(out: &mut Vec<u8>, procs: &[LinkedProcedure]) -> Result<(), AllocError>
-    ensures { OnOk result (out.new.items ≡ out.old.items ++ flat_map (body w16) (procs_of procs.now)) }
+    ensures { OnOk result (out.new.items ≡ out.old.items ++ flat_map (body w32) (procs_of procs.now)) }
 {
     for proc in procs {
         put_body(out, &proc.instrs)?;
@@ -178,8 +170,8 @@ fn put_bodies(out: &mut Vec<u8>, procs: &[LinkedProcedure]) -> Result<(), AllocE
     Ok(())
 }
 
-/// The image of a code, byte by byte: `read_image` reads it as the same code. An error is want of memory.
-#[tactic(auto, unfolding(crate::specs::Spelling::image_of))]
+/// The image of a code in the second version, byte by byte: `read_image` reads it as the same code. An error is want of memory.
+#[tactic(auto, unfolding(crate::specs::Spelling::image_in))]
 pub fn write_image(alloc: Global, code: &Code) -> Result<Vec<u8>, AllocError>
     ensures spelled { IfOk result (λ bytes. bytes.items ≡ image_of (tables_of code.now)) }
 {

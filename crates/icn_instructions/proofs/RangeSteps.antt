@@ -1,5 +1,6 @@
 -- What the rules of a code and of its store give of what instructions name.
-use Rattle.std.proofs.Common.{◌≡◌, ◌<◌, ◌≤◌, ◌+◌, ◌*◌, ◌^◌, ℕ, zero, suc, Bool, true, false, ◌&&◌, List, [], ◌∷◌, length, take, map, slice_get, get_or, Option, Some, None, refl, sym, ap, ◌∙◌, subst, arith, ltb-true, leb-true}
+use Rattle.std.proofs.Common.{◌≡◌, ◌<◌, ◌≤◌, ◌+◌, ◌^◌, ℕ, zero, suc, Bool, true, false, ◌&&◌, List, [], ◌∷◌, length, take, map, slice_get, get_or, Option, Some, None, refl, sym, ap, ◌∙◌, subst, arith, ltb-true, leb-true}
+use Rattle.std.specs.Prelude.{slice_index_or}
 use Rattle.std.specs.List.{list_all, sum_by}
 use Rattle.std.specs.Option.{option_map, option_map_or}
 use Rattle.std.proofs.lemmas.List.{length-map}
@@ -20,6 +21,7 @@ use Rattle.icn_control.specs.Machines.{extent, store_seen, world_reach}
 use Rattle.icn_control.specs.declared.machine.Machine.{Machine}
 use Rattle.icn_control.proofs.LiveFrames.{own_count}
 use Rattle.icn_run.specs.InstructionNeeds.{HasVariables}
+use Rattle.icn_instructions.specs.FirstStatics.{AreFirstStatics}
 use Rattle.icn_instructions.specs.Ranges.{IsInRange, MayName}
 
 pub range_as : (tables : Tables) (proc : ℕ) (i j : Instr) → i ≡ j → IsInRange tables proc i → IsInRange tables proc j
@@ -80,6 +82,24 @@ static_there tables proc k r =
     let low : k < r.entry.statics = ltb-true k r.entry.statics r.rule in
     omega (arith, low, static_within tables proc r.entry r.there)
 
+looked_up : (firsts : List ℕ) (place first : ℕ) → slice_get firsts place ≡ Some first → slice_index_or firsts place 0 ≡ first
+looked_up [] place first at = cc
+looked_up (x ∷ firsts) zero first at = same_Some _ _ at
+looked_up (x ∷ firsts) (suc place) first at = looked_up firsts place first at
+
+-- the first static of a procedure that was looked up
+pub first_static : (tables : Tables) (proc place k : ℕ) (firsts : List ℕ) → IsInRange tables proc (Instrs.Static k) → AreFirstStatics tables firsts
+    → place ≡ proc → slice_index_or firsts place 0 ≡ statics_before tables proc
+first_static tables proc place k firsts r are same =
+    ap (λ (n : ℕ). slice_index_or firsts n 0) same
+    ∙ looked_up firsts proc (statics_before tables proc) (are.each proc (slice_get_within tables.procs proc r.entry r.there))
+
+pub first_within : (tables : Tables) (proc place k : ℕ) (firsts : List ℕ) → IsInRange tables proc (Instrs.Static k) → AreFirstStatics tables firsts
+    → place ≡ proc → place < length firsts
+first_within tables proc place k firsts r are same =
+    subst (λ (n : ℕ). n < length firsts) (sym same)
+    (slice_get_within firsts proc (statics_before tables proc) (are.each proc (slice_get_within tables.procs proc r.entry r.there)))
+
 -- Rules
 
 left : (a b : Bool) → (a && b) ≡ true → a ≡ true
@@ -99,26 +119,13 @@ procs_fit : (tables : Tables) → keeps_rules tables ≡ true → list_all (is_p
 unfolding keeps_rules
 procs_fit tables e = right _ _ e
 
-few_procs : (tables : Tables) → keeps_rules tables ≡ true → length tables.procs ≤ 65535
-unfolding keeps_rules
-few_procs tables e = leb-true _ _ (right _ _ (left _ _ (left _ _ (left _ _ (left _ _ (left _ _ (left _ _ (left _ _ (left _ _ e)))))))))
-
-few_of : (tables : Tables) (entry : Proc) → is_proc tables entry ≡ true → entry.statics ≤ 65535
-few_of tables entry e = leb-true _ _ (right _ _ (left _ _ (left _ _ e)))
-
-few_sum : (tables : Tables) (procs : List Proc) → list_all (is_proc tables) procs ≡ true → sum_by statics_of procs ≤ 65535 * length procs
-few_sum tables [] h = omega arith
-few_sum tables (p ∷ procs) h =
-    let one : p.statics ≤ 65535 = few_of tables p (left (is_proc tables p) (list_all (is_proc tables) procs) h) in
-    let rest : sum_by statics_of procs ≤ 65535 * length procs = few_sum tables procs (right (is_proc tables p) (list_all (is_proc tables) procs) h) in
-    omega (arith, one, rest, sum_by-cons statics_of p procs)
-
 -- the number of a static has 32 bits
 pub few_statics : (tables : Tables) → keeps_rules tables ≡ true → static_count tables < 2 ^ 32
-few_statics tables rules =
-    let sum : static_count tables ≤ 65535 * length tables.procs = few_sum tables tables.procs (procs_fit tables rules) in
-    let few : length tables.procs ≤ 65535 = few_procs tables rules in
-    omega (arith, sum, few)
+unfolding keeps_rules
+few_statics tables e =
+    let counted = right _ _ (left _ _ (left _ _ (left _ _ (left _ _ (left _ _ (left _ _ (left _ _ (left _ _ e)))))))) in
+    let few : static_count tables ≤ 4294967295 = leb-true _ _ (right _ _ counted) in
+    omega (arith, few)
 
 -- an instruction that stands in a code is in range
 pub instr_in_range : (tables : Tables) (proc place : ℕ) (instr : Instr) → keeps_rules tables ≡ true → slice_get (instrs_of tables proc) place ≡ Some instr

@@ -1,3 +1,4 @@
 pub mod Groups
 pub mod Ranges
 pub mod InstructionEffects
+pub mod FirstStatics

@@ -7,6 +7,7 @@ ghost use Rattle.icn_vars.specs.Outcomes.{IsLiveHalt};
 ghost use Rattle.icn_run.specs.Step.{stuck};
 ghost use Rattle.icn_control.specs.Machines.{ComesTo, IsSoundMachine, does, stack_of, stack_seen, store_seen, world_reach};
 ghost use Rattle.icn_instructions.specs.InstructionEffects.{HasMemory};
+ghost use Rattle.icn_instructions.specs.FirstStatics.{AreFirstStatics};
 ghost use Rattle.icn_instructions.specs.Groups.{group_of, takes_no_memory};
 ghost use Rattle.icn_run.specs.InstructionNeeds.{HasCaseMark, HasVariables};
 ghost use Rattle.icn_instructions.specs.Ranges.{IsInRange};
@@ -25,18 +26,20 @@ use icn_value::{Item, Val};
 use icn_vars::Halt;
 
 /// Does an instruction that performs no row and calls nothing, where the place is that of the next one. The rooms for operands
-/// and for values are used again, whatever they hold.
+/// and for values are used again, whatever they hold. The numbers of the first statics of the code's procedures are handed in.
 ///
 /// The error is that of an operand's value, one of the instruction (101 and 205 of a limit, 103 and 306 of a scan, 118 and 215 of
 /// a co-expression, 307 where cells are charged), or want of memory.
 pub fn do_instruction<K: Stack<Cell> + Drop>(
     m: &mut Machine<K>,
     code: &Code,
+    firsts: &[u32],
     instr: Instr,
     items: &mut Vec<Item>,
     vals: &mut Vec<Val>,
 ) -> Result<RunState, Halt>
     requires kind { group_of instr ≢ Groups.Application }
+    requires firsts { AreFirstStatics (tables_of code.now) firsts.now }
     requires runs { IsSome m.old.stacks.table.running }
     requires sound { IsSoundMachine (tables_of code.now) m.old }
     requires goes_on { (outside : Outside) × (does (tables_of code.now) outside instr m.old ≢ stuck) }
@@ -53,7 +56,7 @@ pub fn do_instruction<K: Stack<Cell> + Drop>(
     ensures no_memory { takes_no_memory instr ≡ true → HasMemory result }
 {
     match group_of(instr) {
-        InstrGroup::Stack => match do_on_stack(m.stacks.frames(), code, instr) {
+        InstrGroup::Stack => match do_on_stack(m.stacks.frames(), code, firsts, instr) {
             Ok(()) => Ok(RunState::Running),
             Err(_) => Err(Halt::NoMemory),
         },

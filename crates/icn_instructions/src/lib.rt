@@ -8,7 +8,6 @@ mod in_world;
 mod instructions;
 mod on_machine;
 mod on_stack;
-mod statics;
 
 pub use groups::{InstrGroup, group_of};
 pub use instructions::do_instruction;

@@ -7,12 +7,12 @@ ghost use Rattle.icn_vars.specs.Worlds.{Reach};
 ghost use Rattle.icn_control.specs.LiveStacks.{IsLiveStack};
 ghost use Rattle.icn_control.specs.StackViews.{GoesOnIn, stack_in};
 ghost use Rattle.icn_instructions.specs.InstructionEffects.{LacksNothing};
+ghost use Rattle.icn_instructions.specs.FirstStatics.{AreFirstStatics};
 ghost use Rattle.icn_instructions.specs.Groups.{group_of, takes_no_memory};
 ghost use Rattle.icn_run.specs.InstructionNeeds.{HasCaseMark};
 ghost use Rattle.icn_instructions.specs.Ranges.{IsInRange, MayName};
 ghost use Rattle.icn_instructions.specs.declared.groups.InstrGroup.TheVariants as Groups;
 
-use crate::statics::first_static;
 use icn_code::{Code, Instr};
 use icn_control::{
     change_label, drop_operand, duplicate, give_suspended, go_to, open_mark, push_below, push_cset,
@@ -21,13 +21,16 @@ use icn_control::{
 use icn_frames::{Cell, Frames, Stack};
 use std::alloc::AllocError;
 
-/// Does an instruction that touches nothing but the stack that runs. The error is want of memory.
+/// Does an instruction that touches nothing but the stack that runs, in a code with these first statics of its procedures. The
+/// error is want of memory.
 pub fn do_on_stack<K: Stack<Cell> + Drop>(
     frames: &mut Frames<K>,
     code: &Code,
+    firsts: &[u32],
     instr: Instr,
 ) -> Result<(), AllocError>
     requires group { group_of instr ≡ Groups.Stack }
+    requires firsts { AreFirstStatics (tables_of code.now) firsts.now }
     requires goes_on { LacksNothing (tables_of code.now) instr frames.old.flat }
     requires in_range { IsInRange (tables_of code.now) (flat.proc frames.old.flat) instr }
     requires case_mark { (all : Extent) × HasCaseMark instr (stack_in all frames.old.flat) }
@@ -45,7 +48,7 @@ pub fn do_on_stack<K: Stack<Cell> + Drop>(
         Instr::Cset(place) => push_cset(frames, code, place),
         Instr::Local(place) => push_local(frames, place),
         Instr::Static(place) => {
-            let first = first_static(code, frames.proc());
+            let first = firsts[frames.proc() as usize];
             push_static(frames, first, place)
         }
         Instr::Global(place) => push_global(frames, place),

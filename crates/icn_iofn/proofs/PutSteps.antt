@@ -1,13 +1,15 @@
 -- How puts on files add up to what a line puts.
-use Rattle.std.proofs.Common.{◌≡◌, ◌∙◌, refl, sym, ap, subst, ℕ, Bool, true, false, List, [], ◌∷◌, ◌++◌, Result, Ok, Err, append_assoc, append-nil, length, arith}
+use Rattle.std.proofs.Common.{◌≡◌, ◌∙◌, refl, sym, ap, subst, ℕ, Bool, true, false, List, [], ◌∷◌, ◌++◌, inl, inr, ◌≤◌, Result, Ok, Err, append_assoc, append-nil, length, arith}
 use Rattle.std.specs.Prelude.{◌&&◌, not, map, OnErr, OnOk, IfErr, IfOk, IsErrOf, IsErrAnd, if◌then◌else◌}
 use Rattle.std.specs.List.{All}
 use Rattle.std.proofs.lemmas.List.Elements.{All-tail}
 use Rattle.icn_host.specs.Counts.{CountsOnce}
-use Rattle.icn_host.specs.Sinks.{SinkState, GainsPart}
+use Rattle.std.specs.Io.KnownBytes.{Keeps}
+use Rattle.icn_host.specs.Sinks.{SinkState, Gains, GainsPart}
 use Rattle.icn_host.specs.declared.fault.Fault.{Fault}
 use Rattle.icn_host.specs.declared.fault.Fault.TheVariants.{Failed, NoMemory}
-use Rattle.icn_host.proofs.SinkSteps.{part_nothing, part_more}
+use Rattle.icn_host.proofs.SinkSteps.{gains_nothing, part_nothing, part_more}
+use Rattle.icn_host.proofs.KeptSteps.{gains_keeps, part_kept}
 use Rattle.icn_value.specs.declared.val.Val.{Val}
 use Rattle.icn_value.specs.declared.val.Val.TheVariants as Vals
 use Rattle.icn_value.specs.declared.val.File.{File as HeldFile}
@@ -16,10 +18,10 @@ use Rattle.icn_value.specs.Store.{Outside}
 use Rattle.icn_defs.specs.InputOutput.{WriteArgument, Puts, Selects, newline, put_on, put_pieces}
 use Rattle.icn_heap.specs.Extents.{Extent, IsLive, value_in}
 use Rattle.icn_args.specs.RowWords.{the_text}
-use Rattle.icn_streams.specs.Handed.{KeepsFaultCounts, FailsOnce, WantsOnce}
+use Rattle.icn_streams.specs.Handed.{KeepsFaultCounts, FailsOnce, LeavesSink, WantsOnce}
 use Rattle.icn_streams.proofs.CallSequences.{puts_nothing, puts_then, then_puts_part}
 use Rattle.icn_streams.proofs.IdleCalls.{keeps_counts_refl}
-use Rattle.icn_iofn.specs.PutPieces.{HasEffect, BrokenBy, GainsOutputs, GainedPart, KeepsBoth, Outputs, PutsOn, PutsPartOn, StopsEffect, errors_failed, errors_part, errors_wanted, file_after, line_put, output_failed, output_part, output_wanted, outputs, piece_in, pieces_in, text_of_piece, uncounted, waiting_text}
+use Rattle.icn_iofn.specs.PutPieces.{HasEffect, BrokenBy, GainsOutputs, GainedPart, IsOneSettled, KeepsBoth, Outputs, PutsBehind, PutsOn, PutsPartBehind, PutsPartOn, StopsEffect, errors_failed, errors_part, errors_wanted, file_after, line_put, output_failed, output_part, output_wanted, other_failed, other_wanted, outputs, piece_in, pieces_in, put_failed, put_wanted, text_of_piece, uncounted, waiting_text}
 
 -- Puts on a file
 
@@ -151,37 +153,142 @@ gained_part_on {file} {text} puts o = record {
   errors = record { text = errors_part file text; is = errors_is file text o; gains = puts.errors };
 }
 
--- One put
+-- One put, once the other output is settled
 
-pub output_broken : (r : Result (Unit {0}) Fault) (a b e : SinkState) (file : File) (text : List ℕ) → file ≡ Output → OnErr r (GainsPart a.held b.held text)
-    → CountsOnce a.faults b.faults (IsErrOf r Failed) → CountsOnce a.wants b.wants (IsErrOf r NoMemory)
-    → IfErr r (PutsPartOn file text (outputs a e) (outputs b e))
-output_broken (Ok _) a b e file text is gains faults wants = tt
-output_broken (Err Failed) a b e file text is gains faults wants = rw is (record {
-  output = gains;
-  errors = part_nothing e.held [];
-  cause = output_failed (record { faults = faults.rose refl; wants = wants.stayed (λ h. cc) }) (keeps_counts_refl e);
-})
-output_broken (Err NoMemory) a b e file text is gains faults wants = rw is (record {
-  output = gains;
-  errors = part_nothing e.held [];
-  cause = output_wanted (record { faults = faults.stayed (λ h. cc); wants = wants.rose refl }) (keeps_counts_refl e);
-})
+ok_not_err : (done : Unit {0}) (fault : Fault) → IsErrOf {T = Unit {0}} (Ok done) fault → ⊥
+ok_not_err done fault h = cc
 
-pub errors_broken : (r : Result (Unit {0}) Fault) (a b o : SinkState) (file : File) (text : List ℕ) → file ≡ Errout → OnErr r (GainsPart a.held b.held text)
-    → CountsOnce a.faults b.faults (IsErrOf r Failed) → CountsOnce a.wants b.wants (IsErrOf r NoMemory)
-    → IfErr r (PutsPartOn file text (outputs o a) (outputs o b))
-errors_broken (Ok _) a b o file text is gains faults wants = tt
-errors_broken (Err Failed) a b o file text is gains faults wants = rw is (record {
-  output = part_nothing o.held [];
-  errors = gains;
-  cause = errors_failed (keeps_counts_refl o) (record { faults = faults.rose refl; wants = wants.stayed (λ h. cc) });
+failed_no_want : IsErrOf {T = Unit {0}} (Err Failed) NoMemory → ⊥
+failed_no_want h = cc
+
+want_not_failed : IsErrOf {T = Unit {0}} (Err NoMemory) Failed → ⊥
+want_not_failed h = cc
+
+-- the other output was settled
+pub other_settled : {other now : SinkState} (done : Unit {0}) → Keeps other.held now.held
+    → CountsOnce other.faults now.faults (IsErrOf {T = Unit {0}} (Ok done) Failed)
+    → CountsOnce other.wants now.wants (IsErrOf {T = Unit {0}} (Ok done) NoMemory) → LeavesSink other now
+other_settled done same faults wants = record {
+  held = same;
+  counts = record { faults = faults.stayed (ok_not_err done Failed); wants = wants.stayed (ok_not_err done NoMemory) };
+}
+
+other_broken : (text : List ℕ) (sink other now : SinkState) (fault : Fault) → Keeps other.held now.held
+    → CountsOnce other.faults now.faults (IsErrOf {T = Unit {0}} (Err fault) Failed)
+    → CountsOnce other.wants now.wants (IsErrOf {T = Unit {0}} (Err fault) NoMemory) → PutsPartBehind text sink sink other now fault
+other_broken text sink other now Failed same faults wants =
+    other_failed refl same (record { faults = faults.rose refl; wants = wants.stayed failed_no_want })
+other_broken text sink other now NoMemory same faults wants =
+    other_wanted refl same (record { faults = faults.stayed want_not_failed; wants = wants.rose refl })
+
+-- it could not be settled
+pub settling_breaks : (text : List ℕ) (sink other now : SinkState) (fault : Fault) (r : Result (Unit {0}) Fault) → IsErrAnd r (λ f. f ≡ fault)
+    → Keeps other.held now.held → CountsOnce other.faults now.faults (IsErrOf {T = Unit {0}} (Err fault) Failed)
+    → CountsOnce other.wants now.wants (IsErrOf {T = Unit {0}} (Err fault) NoMemory) → IfErr r (PutsPartBehind text sink sink other now)
+settling_breaks text sink other now fault (Ok _) is same faults wants = tt
+settling_breaks text sink other now fault (Err f) is same faults wants =
+    subst (λ e. PutsPartBehind text sink sink other now e) (sym is) (other_broken text sink other now fault same faults wants)
+
+-- the text was put
+pub puts_behind : (text : List ℕ) (before after other now : SinkState) (r : Result (Unit {0}) Fault) → OnOk r (Gains before.held after.held text)
+    → CountsOnce before.faults after.faults (IsErrOf r Failed) → CountsOnce before.wants after.wants (IsErrOf r NoMemory) → LeavesSink other now
+    → OnOk r (PutsBehind text before after other now)
+puts_behind text before after other now (Ok done) gains faults wants left = record {
+  gains = gains;
+  counts = record { faults = faults.stayed (ok_not_err done Failed); wants = wants.stayed (ok_not_err done NoMemory) };
+  left = left;
+}
+puts_behind text before after other now (Err fault) gains faults wants left = tt
+
+-- it was not put whole
+pub breaks_behind : (text : List ℕ) (before after other now : SinkState) (r : Result (Unit {0}) Fault)
+    → OnErr r (GainsPart before.held after.held text) → CountsOnce before.faults after.faults (IsErrOf r Failed)
+    → CountsOnce before.wants after.wants (IsErrOf r NoMemory) → LeavesSink other now → IfErr r (PutsPartBehind text before after other now)
+breaks_behind text before after other now (Ok done) part faults wants left = tt
+breaks_behind text before after other now (Err Failed) part faults wants left =
+    put_failed part (record { faults = faults.rose refl; wants = wants.stayed failed_no_want }) left
+breaks_behind text before after other now (Err NoMemory) part faults wants left =
+    put_wanted part (record { faults = faults.stayed want_not_failed; wants = wants.rose refl }) left
+
+-- as a put on a file
+
+none_gained : (a b : SinkState) → Keeps a.held b.held → Gains a.held b.held []
+none_gained a b same = gains_keeps (gains_nothing a.held) same
+
+none_part : (a b : SinkState) → Keeps a.held b.held → GainsPart a.held b.held []
+none_part a b same = part_kept [] same
+
+pub output_put : (r : Result (Unit {0}) Fault) (o o' e e' : SinkState) (file : File) (text : List ℕ) → file ≡ Output
+    → OnOk r (PutsBehind text o o' e e') → OnOk r (PutsOn file text (outputs o e) (outputs o' e'))
+output_put (Ok _) o o' e e' file text is puts = rw is (record {
+  output = puts.gains;
+  errors = none_gained e e' puts.left.held;
+  counts = record { output = puts.counts; errors = puts.left.counts };
 })
-errors_broken (Err NoMemory) a b o file text is gains faults wants = rw is (record {
-  output = part_nothing o.held [];
-  errors = gains;
-  cause = errors_wanted (keeps_counts_refl o) (record { faults = faults.stayed (λ h. cc); wants = wants.rose refl });
+output_put (Err _) o o' e e' file text is puts = tt
+
+pub errors_put : (r : Result (Unit {0}) Fault) (o o' e e' : SinkState) (file : File) (text : List ℕ) → file ≡ Errout
+    → OnOk r (PutsBehind text e e' o o') → OnOk r (PutsOn file text (outputs o e) (outputs o' e'))
+errors_put (Ok _) o o' e e' file text is puts = rw is (record {
+  output = none_gained o o' puts.left.held;
+  errors = puts.gains;
+  counts = record { output = puts.left.counts; errors = puts.counts };
 })
+errors_put (Err _) o o' e e' file text is puts = tt
+
+output_part_by : (o o' e e' : SinkState) (text : List ℕ) (fault : Fault) → PutsPartBehind text o o' e e' fault
+    → PutsPartOn Output text (outputs o e) (outputs o' e') fault
+output_part_by o o' e e' text _ (put_failed part fails left) =
+    record { output = part; errors = none_part e e' left.held; cause = output_failed fails left.counts }
+output_part_by o o' e e' text _ (put_wanted part wants left) =
+    record { output = part; errors = none_part e e' left.held; cause = output_wanted wants left.counts }
+output_part_by o o' e e' text _ (other_failed same kept fails) = record {
+  output = subst (λ (s : SinkState). GainsPart o.held s.held text) (sym same) (part_nothing o.held text);
+  errors = none_part e e' kept;
+  cause = errors_failed (subst (λ (s : SinkState). KeepsFaultCounts o s) (sym same) (keeps_counts_refl o)) fails;
+}
+output_part_by o o' e e' text _ (other_wanted same kept wants) = record {
+  output = subst (λ (s : SinkState). GainsPart o.held s.held text) (sym same) (part_nothing o.held text);
+  errors = none_part e e' kept;
+  cause = errors_wanted (subst (λ (s : SinkState). KeepsFaultCounts o s) (sym same) (keeps_counts_refl o)) wants;
+}
+
+errors_part_by : (o o' e e' : SinkState) (text : List ℕ) (fault : Fault) → PutsPartBehind text e e' o o' fault
+    → PutsPartOn Errout text (outputs o e) (outputs o' e') fault
+errors_part_by o o' e e' text _ (put_failed part fails left) =
+    record { output = none_part o o' left.held; errors = part; cause = errors_failed left.counts fails }
+errors_part_by o o' e e' text _ (put_wanted part wants left) =
+    record { output = none_part o o' left.held; errors = part; cause = errors_wanted left.counts wants }
+errors_part_by o o' e e' text _ (other_failed same kept fails) = record {
+  output = none_part o o' kept;
+  errors = subst (λ (s : SinkState). GainsPart e.held s.held text) (sym same) (part_nothing e.held text);
+  cause = output_failed fails (subst (λ (s : SinkState). KeepsFaultCounts e s) (sym same) (keeps_counts_refl e));
+}
+errors_part_by o o' e e' text _ (other_wanted same kept wants) = record {
+  output = none_part o o' kept;
+  errors = subst (λ (s : SinkState). GainsPart e.held s.held text) (sym same) (part_nothing e.held text);
+  cause = output_wanted wants (subst (λ (s : SinkState). KeepsFaultCounts e s) (sym same) (keeps_counts_refl e));
+}
+
+pub output_broken : (r : Result (Unit {0}) Fault) (o o' e e' : SinkState) (file : File) (text : List ℕ) → file ≡ Output
+    → IfErr r (PutsPartBehind text o o' e e') → IfErr r (PutsPartOn file text (outputs o e) (outputs o' e'))
+output_broken (Ok _) o o' e e' file text is part = tt
+output_broken (Err fault) o o' e e' file text is part = rw is (output_part_by o o' e e' text fault part)
+
+pub errors_broken : (r : Result (Unit {0}) Fault) (o o' e e' : SinkState) (file : File) (text : List ℕ) → file ≡ Errout
+    → IfErr r (PutsPartBehind text e e' o o') → IfErr r (PutsPartOn file text (outputs o e) (outputs o' e'))
+errors_broken (Ok _) o o' e e' file text is part = tt
+errors_broken (Err fault) o o' e e' file text is part = rw is (errors_part_by o o' e e' text fault part)
+
+-- what is pending
+
+pub still_one_settled : (sink was now : ℕ) → now ≤ was → IsOneSettled sink was → IsOneSettled sink now
+still_one_settled sink was now less (inl none) = inl none
+still_one_settled sink was now less (inr none) = inr (omega (arith, less, none))
+
+pub other_way : {sink other : ℕ} → IsOneSettled sink other → IsOneSettled other sink
+other_way (inl none) = inr none
+other_way (inr none) = inl none
 
 -- One piece
 

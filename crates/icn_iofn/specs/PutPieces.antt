@@ -1,12 +1,13 @@
 -- How the pieces of a line go to the outputs: what is to be put on one file waits until another one is selected.
-use Rattle.std.specs.Prelude.{◌≡◌, ℕ, Bool, List, [], map, unwrap_or, if◌then◌else◌}
+use Rattle.std.specs.Prelude.{◌≡◌, ◌⊎◌, ℕ, Bool, List, [], ⊤, map, unwrap_or, if◌then◌else◌}
+use Rattle.std.specs.Io.KnownBytes.{Keeps}
 use Rattle.icn_host.specs.Sinks.{SinkState, Gains, GainsPart}
 use Rattle.icn_host.specs.declared.fault.Fault.{Fault}
 use Rattle.icn_host.specs.declared.fault.Fault.TheVariants.{Failed, NoMemory}
 use Rattle.icn_value.specs.Values.{Value, File, Input, Output, Errout}
 use Rattle.icn_value.specs.Store.{Outside}
 use Rattle.icn_defs.specs.InputOutput.{WriteArgument, Puts, Selects, piece_of, put_on, put_pieces}
-use Rattle.icn_streams.specs.Handed.{KeepsFaultCounts, FailsOnce, WantsOnce, PutsAdded as PutsText, PutsPart}
+use Rattle.icn_streams.specs.Handed.{KeepsFaultCounts, FailsOnce, LeavesSink, WantsOnce, PutsAdded as PutsText, PutsPart}
 
 -- an argument as a piece, where it is one, and all of them
 abbrev pub piece_in : Value → WriteArgument
@@ -65,6 +66,33 @@ pub record PutsPartOn (file : File) (text : List ℕ) (before after : Outputs) (
   pub output : GainsPart before.output.held after.output.held (output_part file text)
   pub errors : GainsPart before.errors.held after.errors.held (errors_part file text)
   pub cause : BrokenBy before after fault
+
+-- a text was put on a sink, and the other one was left alone, but that it was settled
+pub record PutsBehind (text : List ℕ) (before after other now : SinkState) : Type 0 where
+  pub gains : Gains before.held after.held text
+  pub counts : KeepsFaultCounts before after
+  pub left : LeavesSink other now
+
+-- some first part of it was put, and one of both failed or wanted memory
+pub data PutsPartBehind (text : List ℕ) (before after other now : SinkState) : Fault → Type 0 where
+  put_failed : GainsPart before.held after.held text → FailsOnce before after → LeavesSink other now
+      → PutsPartBehind text before after other now Failed
+  put_wanted : GainsPart before.held after.held text → WantsOnce before after → LeavesSink other now
+      → PutsPartBehind text before after other now NoMemory
+  other_failed : after ≡ before → Keeps other.held now.held → FailsOnce other now
+      → PutsPartBehind text before after other now Failed
+  other_wanted : after ≡ before → Keeps other.held now.held → WantsOnce other now
+      → PutsPartBehind text before after other now NoMemory
+
+-- nothing of the other output is pending than of the one that this file is
+abbrev pub IsSettledBeside : File → ℕ → ℕ → Type 0
+IsSettledBeside Input output errors = ⊤
+IsSettledBeside Output output errors = errors ≡ 0
+IsSettledBeside Errout output errors = output ≡ 0
+
+-- nothing of one of two sinks is pending
+abbrev pub IsOneSettled : ℕ → ℕ → Type 0
+IsOneSettled sink other = (sink ≡ 0) ⊎ (other ≡ 0)
 
 -- where the next text goes, what waits to be put there, and the outputs so far
 pub record WaitingText : Type 0 where

@@ -71,8 +71,8 @@ fn of_values<L: Locals, I: Source, O: Sink, E: Sink>(
 {
     match func {
         Func::Exit => exit(&w.heap, vals),
-        Func::Read => read(vals, w, l, buffer, input),
-        Func::Reads => reads(vals, w, l, buffer, input),
+        Func::Read => read(vals, w, l, buffer, input, out, err),
+        Func::Reads => reads(vals, w, l, buffer, input, out, err),
         Func::Stop => stop(vals, w, l, buffer, out, err),
         Func::Write => write(true, vals, w, l, buffer, out, err),
         Func::Writes => write(false, vals, w, l, buffer, out, err),

@@ -1,5 +1,5 @@
 // Putting the pieces of a line.
-ghost use Rattle.std.specs.Prelude.{◌≡◌, ◌&&◌, ◌++◌, [], IfErr, IfOk, OnErr, OnOk, map, not, true, if◌then◌else◌};
+ghost use Rattle.std.specs.Prelude.{◌≡◌, ◌<◌, ◌&&◌, ◌++◌, [], IfErr, IfOk, OnErr, OnOk, length, map, not, true, if◌then◌else◌};
 ghost use Rattle.std.specs.List.{All};
 ghost use Rattle.icn_defs.specs.InputOutput.{newline, put_on};
 ghost use Rattle.icn_value.specs.Store.{Outside};
@@ -7,7 +7,7 @@ ghost use Rattle.icn_heap.specs.Extents.{IsLive, value_in};
 ghost use Rattle.icn_heap.specs.Heaps.{extent_of};
 ghost use Rattle.icn_heap.specs.Keys as keys;
 ghost use Rattle.icn_args.specs.RowWords.{the_text};
-ghost use Rattle.icn_iofn.specs.PutPieces.{HasEffect, BrokenBy, GainsOutputs, GainedPart, KeepsBoth, PutsOn, PutsPartOn, StopsEffect, file_after, line_put, outputs, piece_in, pieces_in, text_of_piece, waiting_text};
+ghost use Rattle.icn_iofn.specs.PutPieces.{HasEffect, BrokenBy, GainsOutputs, GainedPart, IsOneSettled, IsSettledBeside, KeepsBoth, PutsBehind, PutsOn, PutsPartBehind, PutsPartOn, StopsEffect, file_after, line_put, outputs, piece_in, pieces_in, text_of_piece, waiting_text};
 
 use crate::members::push_members;
 use icn_heap::Heap;
@@ -45,6 +45,8 @@ pub fn put_line<O: Sink, E: Sink>(
         (pieces_in (map (value_in (extent_of heap.now)) vals.now)) (keys.file_of file) was)) }
     ensures cause { IfErr result (BrokenBy (outputs (O.state out.old) (E.state err.old))
         (outputs (O.state out.new) (E.state err.new))) }
+    ensures one_settled { IsOneSettled (O.pending out.old) (E.pending err.old)
+        → IsOneSettled (O.pending out.new) (E.pending err.new) }
 {
     buffer.clear();
     let mut selected = file;
@@ -89,6 +91,8 @@ fn put_piece<O: Sink, E: Sink>(
         (outputs (O.state out.old) (E.state err.old))) (outputs (O.state out.new) (E.state err.new))
         (put_on (keys.file_of file)
         (text_of_piece newline (not ends) (piece_in (value_in (extent_of heap.now) val))))) }
+    ensures one_settled { IsOneSettled (O.pending out.old) (E.pending err.old)
+        → IsOneSettled (O.pending out.new) (E.pending err.new) }
 {
     match val {
         Val::Std(other) => select(other, ends, file, buffer, out, err),
@@ -116,6 +120,8 @@ fn select<O: Sink, E: Sink>(
     ensures err { IfErr result (StopsEffect (waiting_text (keys.file_of file) buffer.old.items
         (outputs (O.state out.old) (E.state err.old))) (outputs (O.state out.new) (E.state err.new))
         (put_on (keys.file_of file) (if ends then newline else []))) }
+    ensures one_settled { IsOneSettled (O.pending out.old) (E.pending err.old)
+        → IsOneSettled (O.pending out.new) (E.pending err.new) }
 {
     end_line(ends, buffer)?;
     if other != file {
@@ -142,21 +148,39 @@ fn end_line(ends: bool, buffer: &mut Vec<u8>) -> Result<(), AllocError>
     Ok(())
 }
 
-// Puts a text on a file, if it is not empty. Nothing is put on the input.
+// Puts a text on a file, if it is not empty, once the other output is settled. Nothing is put on the input.
 fn flush<O: Sink, E: Sink>(file: File, text: &[u8], out: &mut O, err: &mut E) -> Result<(), Fault>
     ensures ok { OnOk result (PutsOn (keys.file_of file) text.now
         (outputs (O.state out.old) (E.state err.old)) (outputs (O.state out.new) (E.state err.new))) }
     ensures err { IfErr result (PutsPartOn (keys.file_of file) text.now
         (outputs (O.state out.old) (E.state err.old)) (outputs (O.state out.new) (E.state err.new))) }
+    ensures settled { OnOk result (0 < length text.now
+        → IsSettledBeside (keys.file_of file) (O.pending out.new) (E.pending err.new)) }
+    ensures one_settled { IsOneSettled (O.pending out.old) (E.pending err.old)
+        → IsOneSettled (O.pending out.new) (E.pending err.new) }
 {
     if text.is_empty() {
         return Ok(());
     }
     match file {
         File::Input => Ok(()),
-        File::Output => out.put(text),
-        File::Errout => err.put(text),
+        File::Output => put_behind(text, out, err),
+        File::Errout => put_behind(text, err, out),
     }
+}
+
+// Puts a text on a sink, once the other one is settled.
+fn put_behind<S: Sink, T: Sink>(text: &[u8], sink: &mut S, other: &mut T) -> Result<(), Fault>
+    ensures ok { OnOk result
+        (PutsBehind text.now (S.state sink.old) (S.state sink.new) (T.state other.old) (T.state other.new)) }
+    ensures err { IfErr result (PutsPartBehind text.now (S.state sink.old) (S.state sink.new)
+        (T.state other.old) (T.state other.new)) }
+    ensures settled { OnOk result (T.pending other.new ≡ 0) }
+    ensures one_settled { IsOneSettled (S.pending sink.old) (T.pending other.old)
+        → IsOneSettled (S.pending sink.new) (T.pending other.new) }
+{
+    other.flush()?;
+    sink.put(text)
 }
 
 // Appends the text of a value that has one, and nothing for null.

@@ -15,6 +15,7 @@ literal_of opening bytes = record {
   is_first = opening.is_first;
 }
 
+-- what the later lines give, by the literal that is open at the end of this line
 abbrev pub Later : Type 0
 Later = Option OpenLiteral → Scan
 
@@ -27,8 +28,10 @@ abbrev pub scan_escape : SourceLine → OpenLiteral → List ℕ → Later → S
 scan_escape line literal bytes later = escape_then line literal bytes
     (λ byte count. bytes_from later line (Inside (with_byte literal byte)) count bytes)
 
+-- what the rest of a line gives, between tokens
 abbrev pub scan_text : SourceLine → Bool → List ℕ → Later → Scan
 scan_text line is_first bytes later = bytes_from later line (Between is_first) zero bytes
 
+-- what a line gives, inside a literal that was begun before it or not
 abbrev pub scan_line : SourceLine → Option OpenLiteral → Later → Scan
 scan_line line begun later = line_from later line begun

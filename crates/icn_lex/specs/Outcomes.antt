@@ -47,6 +47,7 @@ StepIs line (Ok (More behind)) literal here =
     (later : Later) → here later ≡ bytes_from later line (InsideLiteral literal) zero behind.now
 StepIs line (Err fault) literal here = (later : Later) → FaultIs fault (here later)
 
+-- no more bytes are left of the line than there were
 abbrev pub IsNoLonger : Result Step LexFault → List ℕ → Type 0
 IsNoLonger (Ok (More behind)) text = length behind.now ≤ length text
 IsNoLonger (Ok (Closed behind)) text = length behind.now ≤ length text
@@ -66,6 +67,7 @@ ClosesAs (Ok token) literal = (later : Scan)
     → closed_then literal later ≡ before (record { token = token; is_first = literal.is_first }) later
 ClosesAs (Err fault) literal = (later : Scan) → FaultIs fault (closed_then literal later)
 
+-- these tokens stand before those that are found; a broken rule stays as it is
 abbrev pub all_before : List LineToken → Scan → Scan
 all_before pieces (Found more) = Found (pieces ++ more)
 all_before pieces (Broken rule line file) = Broken rule line file
@@ -76,6 +78,7 @@ pub record Reads (all : Scan) (found : List Token) (here : Scan) : Type 0 where
   pub separated : found ≡ with_semicolons done
   pub reads : all_before done here ≡ all
 
+-- an open literal as the definitions see it
 abbrev pub literal_read : LiteralRead → OpenLiteral
 literal_read literal = literal_of literal.opening literal.bytes.items
 
@@ -86,23 +89,28 @@ NextAt line later all found (Ok (Behind rest)) =
 NextAt line later all found (Ok (Inside literal)) = Reads all found (later (Some (literal_read literal)))
 NextAt line later all found (Err fault) = FaultIs fault all
 
+-- a part of a line is read right, whatever the later lines give
 abbrev pub NextIs : SourceLine → List Token → List Token → (Later → Scan) → Result Next LexFault → Type 0
 NextIs line old new here result =
     (later : Later) (all : Scan) → Reads all old (here later) → NextAt line later all new result
 
+-- what a line answers: the literal that is open at its end, if any, or the fault of the whole
 abbrev pub LineAt : Later → Scan → List Token → Result (Option LiteralRead) LexFault → Type 0
 LineAt later all found (Ok begun) = Reads all found (later (option_map literal_read begun))
 LineAt later all found (Err fault) = FaultIs fault all
 
+-- a line is read right, whatever the later lines give
 abbrev pub LineIs : List Token → List Token → (Later → Scan) → Result (Option LiteralRead) LexFault → Type 0
 LineIs old new here result =
     (later : Later) (all : Scan) → Reads all old (here later) → LineAt later all new result
 
+-- fewer bytes are left of the line than there were
 abbrev pub ShortensTo : Result Next LexFault → List ℕ → Type 0
 ShortensTo (Ok (Behind rest)) text = length rest.now < length text
 ShortensTo (Ok (Inside literal)) text = Unit {0}
 ShortensTo (Err fault) text = Unit {0}
 
+-- no more bytes are left of the line than there were
 abbrev pub IsNoLongerNext : Result Next LexFault → List ℕ → Type 0
 IsNoLongerNext (Ok (Behind rest)) text = length rest.now ≤ length text
 IsNoLongerNext (Ok (Inside literal)) text = Unit {0}

@@ -30,10 +30,12 @@ within_limit n = if nat_le n greatest_integer then Some n else None
 abbrev pub value_in : ℕ → List ℕ → Option ℕ
 value_in radix digits = within_limit (number_in radix digits)
 
+-- an integer literal, unless its number is too large
 abbrev pub bounded_by : Option ℕ → Result Kind Rule
 bounded_by None = Err L4
 bounded_by (Some n) = Ok (Integer (pos n))
 
+-- the byte that digits write in a radix, unless their number is above 255
 abbrev pub byte_in : ℕ → List ℕ → Option ℕ
 byte_in radix digits = let value = number_in radix digits in if nat_le value 255 then Some value else None
 
@@ -42,6 +44,7 @@ abbrev pub with_count : ℕ → Result Kind Rule → Result (Kind × ℕ) Rule
 with_count count (Ok kind) = Ok (kind, count)
 with_count count (Err rule) = Err rule
 
+-- a literal or name of so many bytes, unless it is too long
 abbrev pub with_length : ℕ → Result Kind Rule → Result (Kind × ℕ) Rule
 with_length count sense = if nat_le count most_bytes_of_name then with_count count sense else Err L7
 
@@ -58,6 +61,7 @@ abbrev pub number_read : List ℕ → Result (Kind × ℕ) Rule
 number_read bytes =
     let count = prefix_len is_digit bytes in number_read_by (take count bytes) count (drop count bytes)
 
+-- a dot, behind which no digit may stand
 abbrev pub dot_read : List ℕ → Result (Kind × ℕ) Rule
 dot_read [] = Ok (Operator Dot, 1)
 dot_read (b ∷ rest) = if is_digit b then Err L6 else Ok (Operator Dot, 1)
@@ -72,6 +76,7 @@ abbrev pub name_by : ℕ → List ℕ → Kind
 name_by first name =
     unwrap_or (option_map (λ word. Word word) (lookup_text (words_of first) name)) (Identifier name)
 
+-- the word or identifier that stands first, with its length in bytes, unless it is too long
 abbrev pub name_read : ℕ → List ℕ → Result (Kind × ℕ) Rule
 name_read first rest = let count = prefix_len continues_identifier rest + 1 in
     if nat_le count most_bytes_of_name then Ok (name_by first (take count (first ∷ rest)), count) else Err L7

@@ -7,7 +7,7 @@ use crate::numbers::value;
 use icn_profile::CARET;
 use icn_tree::characters::{hexadecimal_len, is_octal, octal_len};
 
-// The byte that an escape means, by the bytes behind its backslash, and how many of these it has.
+/// The byte that an escape means, by the bytes behind its backslash, and how many of these it has.
 #[tactic(auto, unfolding(icn_tree::specs::Literals::escape_of))]
 pub fn escape(bytes: &[u8]) -> Option<(u8, usize)>
     ensures found { result ≡ escape_of bytes.now }

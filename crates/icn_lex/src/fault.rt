@@ -16,7 +16,7 @@ pub enum LexFault {
 }
 
 impl LexFault {
-    // A line breaks a rule.
+    /// A line breaks a rule.
     pub fn on(line: &SourceLine, rule: Rule) -> Self
         ensures { result ≡ LexFault.Broken rule line.now.file line.now.number }
     {

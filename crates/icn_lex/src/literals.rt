@@ -30,6 +30,7 @@ impl Opening {
         }
     }
 
+    /// The fault of a literal that is not closed, at the line on which it was opened.
     pub fn unclosed_fault(self) -> LexFault
         ensures { result ≡ LexFault.Broken Rule.L2 self.file self.line }
     {
@@ -58,7 +59,7 @@ enum Step<'a> {
     More(&'a [u8]),
 }
 
-// Reads what the rest of a line has of a literal.
+/// Reads what the rest of a line has of a literal. The error is the rule that the literal breaks here, or want of memory.
 pub fn read_part<'a>(
     opening: Opening,
     bytes: &mut Vec<u8>,
@@ -138,7 +139,7 @@ fn escape_step<'a>(
     Ok(Step::More(text.split_at(count).1))
 }
 
-// The token of a literal that is closed.
+/// The token of a literal that is closed. The error is L7 where it is too long, or want of memory.
 pub fn close(alloc: Global, opening: Opening, bytes: Vec<u8>) -> Result<Token, LexFault>
     ensures { ClosesAs result (literal_of opening bytes.items) }
 {

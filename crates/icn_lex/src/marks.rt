@@ -17,8 +17,8 @@ macro_rules! first_spelling {
     }};
 }
 
-// The longest operator or punctuation mark at the front of bytes, by the first of them. Marks that begin with a dot are
-// not among these.
+/// The longest operator or punctuation mark at the front of bytes, by the first of them. Marks that begin with a dot are
+/// not among these.
 pub fn mark(first: u8, bytes: &[u8]) -> Option<(Kind, usize)>
     ensures { result ≡ first_match (marks_of first) bytes.now }
 {

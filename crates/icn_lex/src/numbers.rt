@@ -12,7 +12,9 @@ use icn_tree::{Kind, Rule};
 
 const GREATEST: u64 = GREATEST_INTEGER;
 
-// The integer literal at the front of bytes that begin with a digit, and how many bytes it has.
+/// The integer literal at the front of bytes that begin with a digit, and how many bytes it has. The error is the rule that
+/// it breaks: L4 for a number that is too large, L5 for a wrong radix or digit, L6 for a real literal, L7 for one that is
+/// too long.
 pub fn integer_literal(bytes: &[u8]) -> Result<(Kind, usize), Rule>
     ensures { result ≡ number_read bytes.now }
 {
@@ -78,7 +80,7 @@ fn are_below(radix: u64, digits: &[u8]) -> bool
     digits.iter().all(|b| u64::from(digit_value(*b)) < radix)
 }
 
-// The number that digits write in a radix, where it is not too large.
+/// The number that digits write in a radix, where it is not too large.
 pub fn value(radix: u64, digits: &[u8]) -> Option<u64>
     requires { 1 ≤ radix }
     ensures found { result ≡ value_in radix digits.now }

@@ -6,8 +6,8 @@ ghost use Rattle.icn_lex.specs.Reading.{with_piece, semicolon_of};
 use icn_tree::{Kind, Operator, Punctuation, Token, Word};
 use std::alloc::AllocError;
 
-// Adds a token, behind the semicolon that the end of a line before it stands for. Whether it is the first token on its line
-// is told.
+/// Adds a token, behind the semicolon that the end of a line before it stands for. Whether it is the first token on its line
+/// is told. `AllocError` is want of memory.
 pub fn push(tokens: &mut Vec<Token>, is_first: bool, token: Token) -> Result<(), AllocError>
     ensures { OnOk result (tokens.new.items ≡ tokens.old.items
         ++ with_piece tokens.old.items (record { token = token; is_first = is_first }) ++ token ∷ []) }

@@ -12,7 +12,8 @@ use icn_tree::characters::{begins_identifier, identifier_len, is_digit};
 use icn_tree::{Bytes, Kind, Operator, Rule, SourceLine};
 use std::alloc::{AllocError, Global};
 
-// The longest token at the front of what is left of a line, and how many bytes it has.
+/// The longest token at the front of what is left of a line, and how many bytes it has. The error is the rule that the bytes
+/// break, on this line, or want of memory.
 pub fn first_token(
     alloc: Global,
     line: &SourceLine,

@@ -4,7 +4,7 @@ ghost use Rattle.icn_tree.specs.Spellings.{lookup_text, words_of};
 
 use icn_tree::Word;
 
-// The reserved word that a name is, by its first letter.
+/// The reserved word that a name is, by its first letter.
 pub fn reserved_word(first: u8, name: &[u8]) -> Option<Word>
     ensures { result ≡ lookup_text (words_of first) name.now }
 {

@@ -1,13 +1,8 @@
 -- Loops over lists whose items each give several things.
-use Rattle.std.proofs.Common.{◌≡◌, ℕ, ℤ, ◌+◌, ◌<◌, List, [], ◌∷◌, ◌++◌, length, get_or, drop, map, append_assoc, Bor, Some, refl, sym, ap, ◌∙◌}
+use Rattle.std.proofs.Common.{◌≡◌, ℕ, ℤ, ◌+◌, ◌<◌, List, [], ◌∷◌, ◌++◌, length, get_or, drop, map, append_assoc, refl, sym, ap, ◌∙◌}
 use Rattle.std.specs.List.{flat_map}
 use Rattle.std.proofs.lemmas.List.{at_drop_more}
-use Rattle.icn_unit.specs.declared.unit.ProcCode.{ProcCode}
-use Rattle.icn_unit.specs.declared.unit.UnitInstr.{UnitInstr}
-use Rattle.icn_link.specs.declared.fault.LinkFault.{LinkFault}
 use Rattle.icn_link.specs.LinkFaults.{over}
-use Rattle.icn_link.specs.Mentions.{mention_of, mentioned_by, operands_in}
-use Rattle.icn_link.specs.Views.{procs_seen}
 use Rattle.icn_link.specs.FirstMentions.{with_text, with_texts, with_integer, with_integers}
 
 pub texts_append : (known xs ys : List (List ℕ)) → with_texts known (xs ++ ys) ≡ with_texts (with_texts known xs) ys
@@ -68,25 +63,6 @@ five_rows k0 k1 k2 k3 k4 k5 a b c d e h0 h1 h2 h3 h4 h5 =
 -- two rows
 pub two_rows : (k0 k1 a b : List (List ℕ)) → k0 ≡ [] → k1 ≡ with_texts k0 a → with_texts k1 b ≡ with_texts [] (a ++ b)
 two_rows k0 k1 a b h0 h1 = ap (λ k. with_texts k b) (h1 ∙ ap (λ k. with_texts k a) h0) ∙ sym (texts_append [] a b)
-
--- the operands of one more procedure, whose instructions are these
-pub operands_step : (procs : List (Bor ProcCode)) (i : ℕ) (proc : Bor ProcCode) (instrs : List UnitInstr) → i < length procs → proc ≡ get_or procs i proc
-    → instrs ≡ proc.now.instrs.items
-    → ((rest : List ℕ) → over 65535 (flat_map (λ (instr : UnitInstr). operands_in (mention_of instr)) instrs ++ rest) ≡ over 65535 rest)
-    → over 65535 (mentioned_by operands_in (procs_seen (drop (i + 1) procs))) ≡ over 65535 (mentioned_by operands_in (procs_seen (drop i procs)))
-operands_step procs i proc instrs within is same h =
-    let rest = mentioned_by operands_in (procs_seen (drop (i + 1) procs)) in
-    next_item (λ all. over 65535 (mentioned_by operands_in (procs_seen all))) procs i proc (over 65535 rest) within is
-    (sym (h rest) ∙ ap (λ code. over 65535 (flat_map (λ (instr : UnitInstr). operands_in (mention_of instr)) code ++ rest)) same)
-
-pub operands_fault : (procs : List (Bor ProcCode)) (i : ℕ) (proc : Bor ProcCode) (instrs : List UnitInstr) (fault : LinkFault) → i < length procs
-    → proc ≡ get_or procs i proc → instrs ≡ proc.now.instrs.items
-    → ((rest : List ℕ) → over 65535 (flat_map (λ (instr : UnitInstr). operands_in (mention_of instr)) instrs ++ rest) ≡ Some fault)
-    → over 65535 (mentioned_by operands_in (procs_seen (drop i procs))) ≡ Some fault
-operands_fault procs i proc instrs fault within is same h =
-    let rest = mentioned_by operands_in (procs_seen (drop (i + 1) procs)) in
-    sym (next_item (λ all. over 65535 (mentioned_by operands_in (procs_seen all))) procs i proc (Some fault) within is
-    (sym (h rest) ∙ ap (λ code. over 65535 (flat_map (λ (instr : UnitInstr). operands_in (mention_of instr)) code ++ rest)) same))
 
 -- one more item, with what a function makes of it
 pub mapped_step : {A B C : Type 0} (seen : A → C) (f : C → B) (xs : List A) (i : ℕ) (none : A) (done later : List B)

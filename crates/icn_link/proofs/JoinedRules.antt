@@ -1,5 +1,5 @@
 -- The joined code of joinable units that are not too large keeps the rules of codes.
-use Rattle.std.proofs.Common.{◌≡◌, ℕ, ℤ, pos, negsuc, zero, suc, ◌≤◌, Bool, true, false, cond, ◌||◌, not, List, [], ◌∷◌, ◌++◌, length, map, if◌then◌else◌, Option, Some, None, refl, sym, ap, ◌∙◌, arith}
+use Rattle.std.proofs.Common.{◌≡◌, ℕ, ℤ, pos, negsuc, zero, suc, ◌+◌, ◌≤◌, Bool, true, false, cond, ◌||◌, not, List, [], ◌∷◌, ◌++◌, length, map, if◌then◌else◌, Option, Some, None, refl, sym, ap, ◌∙◌, arith}
 use Rattle.std.specs.Prelude.{nat_lt, nat_le, find}
 use Rattle.std.specs.List.{flat_map, list_all, list_any, sum_by}
 use Rattle.std.specs.Option.{option_map}
@@ -10,17 +10,17 @@ use Rattle.std.proofs.lemmas.List.Folds.{list_all-append, list_any-append}
 use Rattle.std.proofs.lemmas.List.Sums.{sum_by-cons}
 use Rattle.std.proofs.lemmas.Option.{none-some, same_Some}
 use Rattle.icn_text.specs.declared.func.Func.{Func}
-use Rattle.icn_code.specs.Codes.{Tables}
+use Rattle.icn_code.specs.Codes.{Proc as ProcEntry, Tables}
 use Rattle.icn_code.specs.Rules as Rules
 use Rattle.icn_code.specs.Rules.{keeps_rules}
 use Rattle.icn_unit.specs.declared.unit.UnitInstr.{UnitInstr}
 use Rattle.icn_unit.specs.PlainUnits.{PlainProc, PlainDecl, Global as GlobalDecl, Procedure, Link, Record, proc_names}
 use Rattle.icn_unit.specs.UnitRules.{is_integer}
 use Rattle.icn_link.specs.FirstMentions.{with_text, with_texts, text_index}
-use Rattle.icn_link.specs.Joined.{cset_of, global_entry, is_among, joined_of, index_of, proc_entry, records_in, start_by}
+use Rattle.icn_link.specs.Joined.{cset_of, global_entry, is_among, joined_of, index_of, proc_entry, records_in, start_by, statics_in}
 use Rattle.icn_link.specs.JoinableUnits.{is_joinable_proc}
-use Rattle.icn_link.specs.LinkFaults.{over, count_fault, field_counts, record_sizes, size_of, local_counts, static_counts}
-use Rattle.icn_link.specs.Mentions.{Mention, NoMention, AnInteger, AText, ASet, AField, Operands, AllMentions, declared_names, field_in, fields, fields_in, function_named, functions_in, global_in, globals, integer_in, mention_of, all_mentions, mentioned_by, mentioned_in, operands_in, record_name_in, record_names, set_in, string_mentions, strings, text_in}
+use Rattle.icn_link.specs.LinkFaults.{all_statics, over, count_fault, field_counts, record_sizes, size_of, local_counts, static_counts}
+use Rattle.icn_link.specs.Mentions.{Mention, NoMention, AnInteger, AText, ASet, AField, Operands, AllMentions, declared_names, field_in, fields, fields_in, function_named, functions_in, global_in, globals, integer_in, mention_of, all_mentions, mentioned_by, mentioned_in, record_name_in, record_names, set_in, string_mentions, strings, text_in}
 use Rattle.icn_link.specs.Views.{Joinable}
 use Rattle.icn_link.proofs.EachOnce.{all_in_flat, all_mapped, all_then, and_intro, has_integer, has_integer_index, has_index, has_text, integer_placed, integers_there, text_at, text_placed, texts_there}
 use Rattle.icn_link.proofs.KeptCsets.{cset_kept}
@@ -155,43 +155,40 @@ record_fits M fields e (Record name names) a b c =
 
 one_mention : (M : AllMentions) (m : Mention) → list_all (has_integer_index M.integers) (integer_in m) ≡ true
     → list_all (has_index M.strings) (text_in m) ≡ true → list_all (has_index M.sets) (set_in m) ≡ true
-    → list_all (has_index M.fields) (field_in m) ≡ true → list_all (λ n. nat_le n 65535) (operands_in m) ≡ true
+    → list_all (has_index M.fields) (field_in m) ≡ true
     → has_mention M m ≡ true
 unfolding has_mention
-one_mention M NoMention a b c d e = refl
-one_mention M (AnInteger n) a b c d e = (and_parts _ _ a).0
-one_mention M (AText text) a b c d e = (and_parts _ _ b).0
-one_mention M (ASet members) a b c d e = (and_parts _ _ c).0
-one_mention M (AField name) a b c d e = (and_parts _ _ d).0
-one_mention M (Operands count) a b c d e = (and_parts _ _ e).0
+one_mention M NoMention a b c d = refl
+one_mention M (AnInteger n) a b c d = (and_parts _ _ a).0
+one_mention M (AText text) a b c d = (and_parts _ _ b).0
+one_mention M (ASet members) a b c d = (and_parts _ _ c).0
+one_mention M (AField name) a b c d = (and_parts _ _ d).0
+one_mention M (Operands count) a b c d = refl
 
 instrs_mention : (M : AllMentions) (instrs : List UnitInstr)
     → list_all (λ i. list_all (has_integer_index M.integers) (integer_in (mention_of i))) instrs ≡ true
     → list_all (λ i. list_all (has_index M.strings) (text_in (mention_of i))) instrs ≡ true
     → list_all (λ i. list_all (has_index M.sets) (set_in (mention_of i))) instrs ≡ true
     → list_all (λ i. list_all (has_index M.fields) (field_in (mention_of i))) instrs ≡ true
-    → list_all (λ i. list_all (λ n. nat_le n 65535) (operands_in (mention_of i))) instrs ≡ true
     → list_all (λ i. has_mention M (mention_of i)) instrs ≡ true
-instrs_mention M [] a b c d e = refl
-instrs_mention M (i ∷ instrs) a b c d e =
-    let p = and_parts _ _ a in let q = and_parts _ _ b in let r = and_parts _ _ c in let s = and_parts _ _ d in let t = and_parts _ _ e in
-    and_intro (one_mention M (mention_of i) p.0 q.0 r.0 s.0 t.0) (instrs_mention M instrs p.1 q.1 r.1 s.1 t.1)
+instrs_mention M [] a b c d = refl
+instrs_mention M (i ∷ instrs) a b c d =
+    let p = and_parts _ _ a in let q = and_parts _ _ b in let r = and_parts _ _ c in let s = and_parts _ _ d in
+    and_intro (one_mention M (mention_of i) p.0 q.0 r.0 s.0) (instrs_mention M instrs p.1 q.1 r.1 s.1)
 
 procs_mention : (M : AllMentions) (procs : List PlainProc)
     → list_all (λ proc. list_all (has_integer_index M.integers) (mentioned_in integer_in proc)) procs ≡ true
     → list_all (λ proc. list_all (has_index M.strings) (mentioned_in text_in proc)) procs ≡ true
     → list_all (λ proc. list_all (has_index M.sets) (mentioned_in set_in proc)) procs ≡ true
     → list_all (λ proc. list_all (has_index M.fields) (mentioned_in field_in proc)) procs ≡ true
-    → list_all (λ proc. list_all (λ n. nat_le n 65535) (mentioned_in operands_in proc)) procs ≡ true
     → list_all (λ (proc : PlainProc). list_all (λ i. has_mention M (mention_of i)) proc.instrs) procs ≡ true
-procs_mention M [] a b c d e = refl
-procs_mention M (proc ∷ procs) a b c d e =
-    let p = and_parts _ _ a in let q = and_parts _ _ b in let r = and_parts _ _ c in let s = and_parts _ _ d in let t = and_parts _ _ e in
+procs_mention M [] a b c d = refl
+procs_mention M (proc ∷ procs) a b c d =
+    let p = and_parts _ _ a in let q = and_parts _ _ b in let r = and_parts _ _ c in let s = and_parts _ _ d in
     and_intro (instrs_mention M proc.instrs
     (all_in_flat _ (λ i. integer_in (mention_of i)) proc.instrs p.0) (all_in_flat _ (λ i. text_in (mention_of i)) proc.instrs q.0)
-    (all_in_flat _ (λ i. set_in (mention_of i)) proc.instrs r.0) (all_in_flat _ (λ i. field_in (mention_of i)) proc.instrs s.0)
-    (all_in_flat _ (λ i. operands_in (mention_of i)) proc.instrs t.0))
-    (procs_mention M procs p.1 q.1 r.1 s.1 t.1)
+    (all_in_flat _ (λ i. set_in (mention_of i)) proc.instrs r.0) (all_in_flat _ (λ i. field_in (mention_of i)) proc.instrs s.0))
+    (procs_mention M procs p.1 q.1 r.1 s.1)
 
 procs_fit : (M : AllMentions) (T : Tables) → Long M T → (procs : List PlainProc) → list_all is_joinable_proc procs ≡ true
     → list_all (λ (proc : PlainProc). list_all (λ i. has_mention M (mention_of i)) proc.instrs) procs ≡ true
@@ -235,6 +232,15 @@ names_back M ps rs (name ∷ names) h =
     ap (λ x. x ∷ map (Rules.name_of M.strings) (map (global_entry M ps rs) names)) (text_at M.strings name t.0)
     ∙ ap (λ xs. name ∷ xs) (names_back M ps rs names t.1)
 
+-- how many statics the procedures have together
+statics_sum : (M : AllMentions) (procs : List PlainProc)
+    → sum_by (λ (entry : ProcEntry). entry.statics) (map (proc_entry M) procs) ≡ all_statics M.globals procs
+statics_sum M [] = refl
+statics_sum M (proc ∷ procs) =
+    sum_by-cons (λ (entry : ProcEntry). entry.statics) (proc_entry M proc) (map (proc_entry M) procs)
+    ∙ (ap (λ n. statics_in M.globals proc.names + n) (statics_sum M procs)
+    ∙ sym (sum_by-cons (λ (p : PlainProc). statics_in M.globals p.names) proc procs))
+
 -- All tables
 
 pub joined_kept : (decls : List PlainDecl) (procs : List PlainProc) → Joinable decls procs → keeps_rules (joined_of decls procs) ≡ true
@@ -248,13 +254,16 @@ joined_kept decls procs J =
     let k4 : List ℕ = length M.fields ∷ k5 in
     let k3 : List ℕ = length M.integers ∷ k4 in
     let k2 : List ℕ = length M.sets ∷ k3 in
-    let s1 = within 65535 (length M.strings) k2 J.tables in
-    let s2 = within 65535 (length M.sets) k3 s1.1 in
-    let s3 = within 65535 (length M.integers) k4 s2.1 in
-    let s4 = within 65535 (length M.fields) k5 s3.1 in
-    let s5 = within 65535 (length (record_sizes decls)) k6 s4.1 in
-    let s6 = within 65535 (length M.globals) k7 s5.1 in
-    let s7 = within 65535 (length procs) [] s6.1 in
+    let s1 = within 16777216 (length M.strings) k2 J.tables in
+    let s2 = within 16777216 (length M.sets) k3 s1.1 in
+    let s3 = within 16777216 (length M.integers) k4 s2.1 in
+    let s4 = within 16777216 (length M.fields) k5 s3.1 in
+    let s5 = within 16777216 (length (record_sizes decls)) k6 s4.1 in
+    let s6 = within 16777216 (length M.globals) k7 s5.1 in
+    let s7 = within 16777216 (length procs) [] s6.1 in
+    let f1 = within 65535 (length M.fields) (length (record_sizes decls) ∷ []) J.kinds in
+    let f2 = within 65535 (length (record_sizes decls)) [] f1.1 in
+    let g1 = within 4294967295 (all_statics (globals decls procs) procs) [] J.together in
     let n2 = length-map M.sets cset_of in
     let n4 = length-map M.fields (text_index M.strings) in
     let n5 = records_long M decls in
@@ -281,18 +290,20 @@ joined_kept decls procs J =
     (sym (list_all-append (has_text M.fields) own used) ∙ texts_there [] (own ++ used)) in
     let fielded : (names : List (List ℕ)) → list_all (has_text M.fields) names ≡ true → list_all (has_index M.fields) names ≡ true =
     λ names h. all_then (has_text M.fields) (has_index M.fields) (text_placed M.fields) names h in
-    let counts : Rules.are_counts T ≡ true =
-    and_intro (and_intro (and_intro (and_intro (and_intro (and_intro (le-leb _ _ s1.0) (le-leb _ _ (omega (arith, n2, s2.0)))) (le-leb _ _ s3.0))
-    (le-leb _ _ (omega (arith, n4, s4.0))))
-    (le-leb _ _ (omega (arith, n5, s5.0)))) (le-leb _ _ (omega (arith, n6, s6.0)))) (le-leb _ _ (omega (arith, n7, s7.0))) in
+    let counts : Rules.are_counts Rules.number_limit T ≡ true =
+    and_intro (and_intro (and_intro (and_intro (and_intro (and_intro
+    (lt-ltb (length T.strings) 4294967296 (omega (arith, s1.0))) (lt-ltb (length T.csets) 4294967296 (omega (arith, n2, s2.0))))
+    (lt-ltb (length T.integers) 4294967296 (omega (arith, s3.0)))) (le-leb _ _ (omega (arith, n4, f1.0))))
+    (le-leb _ _ (omega (arith, n5, f2.0)))) (lt-ltb (length T.globals) 4294967296 (omega (arith, n6, s6.0))))
+    (and_intro (and_intro (lt-ltb (length T.procs) 4294967296 (omega (arith, n7, s7.0))) (le-leb _ _ (omega (arith, n7, s7.0))))
+    (le-leb _ _ (omega (arith, g1.0, statics_sum M procs)))) in
     let mention = procs_mention M procs
     (all_in_flat (has_integer_index M.integers) (mentioned_in integer_in) procs (all_then (has_integer M.integers) (has_integer_index M.integers)
     (integer_placed M.integers) (mentioned_by integer_in procs) (integers_there [] (mentioned_by integer_in procs))))
     (all_in_flat (has_index M.strings) (mentioned_in text_in) procs (placed r4 t4.1))
     (all_in_flat (has_index M.sets) (mentioned_in set_in) procs (all_then (has_text M.sets) (has_index M.sets) (text_placed M.sets)
     (mentioned_by set_in procs) (texts_there [] (mentioned_by set_in procs))))
-    (all_in_flat (has_index M.fields) (mentioned_in field_in) procs (fielded used f.1))
-    (all_in_flat (λ n. nat_le n 65535) (mentioned_in operands_in) procs (all_within 65535 (mentioned_by operands_in procs) J.operands)) in
+    (all_in_flat (has_index M.fields) (mentioned_in field_in) procs (fielded used f.1)) in
     let csets : list_all Rules.is_cset T.csets ≡ true =
     all_mapped Rules.is_cset cset_of M.sets (all_then (λ x. true) (λ x. Rules.is_cset (cset_of x)) (λ x h. cset_kept x) M.sets (all_true M.sets)) in
     let integers : list_all Rules.is_integer T.integers ≡ true =

@@ -44,8 +44,8 @@ tables_kept M decls procs T is J p = ap keeps_rules (tables_made M decls procs T
 -- how many entries there are
 record Bounds (M : AllMentions) (D : List PlainDecl) (P : List PlainProc) : Type 0 where
   tables : AreFew M
-  records : length (record_names D) ≤ 65535
-  procs : length (proc_names P) ≤ 65535
+  records : length (record_names D) ≤ 16777216
+  procs : length (proc_names P) ≤ 16777216
 
 bounds : (decls : List PlainDecl) (procs : List PlainProc) → Joinable decls procs → Bounds (all_mentions decls procs) decls procs
 bounds decls procs J =
@@ -56,13 +56,13 @@ bounds decls procs J =
     let k4 : List ℕ = length M.fields ∷ k5 in
     let k3 : List ℕ = length M.integers ∷ k4 in
     let k2 : List ℕ = length M.sets ∷ k3 in
-    let s1 = within 65535 (length M.strings) k2 J.tables in
-    let s2 = within 65535 (length M.sets) k3 s1.1 in
-    let s3 = within 65535 (length M.integers) k4 s2.1 in
-    let s4 = within 65535 (length M.fields) k5 s3.1 in
-    let s5 = within 65535 (length (record_sizes decls)) k6 s4.1 in
-    let s6 = within 65535 (length M.globals) k7 s5.1 in
-    let s7 = within 65535 (length procs) [] s6.1 in
+    let s1 = within 16777216 (length M.strings) k2 J.tables in
+    let s2 = within 16777216 (length M.sets) k3 s1.1 in
+    let s3 = within 16777216 (length M.integers) k4 s2.1 in
+    let s4 = within 16777216 (length M.fields) k5 s3.1 in
+    let s5 = within 16777216 (length (record_sizes decls)) k6 s4.1 in
+    let s6 = within 16777216 (length M.globals) k7 s5.1 in
+    let s7 = within 16777216 (length procs) [] s6.1 in
     record {
       tables = record { strings = s1.0; sets = s2.0; integers = s3.0; fields = s4.0; globals = s6.0 };
       records = omega (arith, s5.0, records_long M decls, names_long M decls);
@@ -72,10 +72,10 @@ bounds decls procs J =
 pub are_few : (M : AllMentions) (decls : List PlainDecl) (procs : List PlainProc) → M ≡ all_mentions decls procs → Joinable decls procs → AreFew M
 are_few M decls procs is J = subst AreFew (sym is) (bounds decls procs J).tables
 
-pub few_records : (decls : List PlainDecl) (procs : List PlainProc) → Joinable decls procs → length (record_names decls) ≤ 65535
+pub few_records : (decls : List PlainDecl) (procs : List PlainProc) → Joinable decls procs → length (record_names decls) ≤ 16777216
 few_records decls procs J = (bounds decls procs J).records
 
-pub few_procs : (decls : List PlainDecl) (procs : List PlainProc) → Joinable decls procs → length (proc_names procs) ≤ 65535
+pub few_procs : (decls : List PlainDecl) (procs : List PlainProc) → Joinable decls procs → length (proc_names procs) ≤ 16777216
 few_procs decls procs J = (bounds decls procs J).procs
 
 pub few_instrs : (decls : List PlainDecl) (procs : List PlainProc) → Joinable decls procs

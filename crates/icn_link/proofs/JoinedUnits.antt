@@ -10,8 +10,8 @@ use Rattle.icn_unit.specs.UnitRules.{keeps_rules as keeps_unit_rules}
 use Rattle.icn_link.specs.declared.fault.LinkFault.{LinkFault}
 use Rattle.icn_link.specs.Joined.{joined_code, joined_of}
 use Rattle.icn_link.specs.JoinableUnits.{is_joinable, is_joinable_decl, is_joinable_proc}
-use Rattle.icn_link.specs.LinkFaults.{first_fault, local_counts, missing, over, record_sizes, repeated_name, size_of, static_counts, table_sizes, too_large, too_large_of}
-use Rattle.icn_link.specs.Mentions.{globals, all_mentions, mentioned_by, operands_in}
+use Rattle.icn_link.specs.LinkFaults.{all_statics, kind_counts, first_fault, local_counts, missing, over, record_sizes, repeated_name, size_of, static_counts, table_sizes, too_large, too_large_of}
+use Rattle.icn_link.specs.Mentions.{globals, all_mentions}
 use Rattle.icn_link.specs.Units.{all_decls, all_procs}
 use Rattle.icn_link.specs.Views.{Joinable}
 use Rattle.icn_link.proofs.EachOnce.{all_then}
@@ -27,20 +27,23 @@ joinable : (D : List PlainDecl) (P : List PlainProc) → list_all is_joinable_de
     → too_large_of D P ≡ None → Joinable D P
 joinable D P d p h =
     let instrs = over 16777216 (sum_by size_of P ∷ []) in
-    let tables = over 65535 (table_sizes (all_mentions D P) D P) in
-    let operands = over 65535 (mentioned_by operands_in P) in
+    let tables = over 16777216 (table_sizes (all_mentions D P) D P) in
+    let together = over 4294967295 (all_statics (globals D P) P ∷ []) in
+    let kinds = over 65535 (kind_counts (all_mentions D P) D) in
     let records = over 65535 (record_sizes D) in
     let locals = over 65535 (local_counts (globals D P) P) in
     let statics = over 65535 (static_counts (globals D P) P) in
     let image = over 1073741824 (length (image_of (joined_of D P)) ∷ []) in
     let behind_locals = option_or statics image in
     let behind_records = option_or locals behind_locals in
-    let behind_operands = option_or records behind_records in
-    let behind_tables = option_or operands behind_operands in
+    let behind_kinds = option_or records behind_records in
+    let behind_together = option_or kinds behind_kinds in
+    let behind_tables = option_or together behind_together in
     let a = neither instrs (option_or tables behind_tables) h in
     let b = neither tables behind_tables a.1 in
-    let c = neither operands behind_operands b.1 in
-    let e = neither records behind_records c.1 in
+    let c = neither together behind_together b.1 in
+    let k = neither kinds behind_kinds c.1 in
+    let e = neither records behind_records k.1 in
     let f = neither locals behind_locals e.1 in
     let g = neither statics image f.1 in
     record {
@@ -48,7 +51,8 @@ joinable D P d p h =
       joinable_procs = p;
       instrs = a.0;
       tables = b.0;
-      operands = c.0;
+      together = c.0;
+      kinds = k.0;
       records = e.0;
       locals = f.0;
       statics = g.0;

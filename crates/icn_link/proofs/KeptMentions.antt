@@ -2,7 +2,7 @@
 use Rattle.std.proofs.Common.{◌≡◌, ℕ, ◌<◌, Bool, true, false, ◌||◌, List, [], ◌∷◌, ◌++◌, length, if◌then◌else◌, refl, ◌∙◌, arith}
 use Rattle.std.specs.Prelude.{◌==◌, nat_le, is_some}
 use Rattle.std.specs.List.{flat_map, list_all}
-use Rattle.std.proofs.lemmas.Bool.{and_parts, le-leb, lt-ltb, leb-true}
+use Rattle.std.proofs.lemmas.Bool.{and_parts, lt-ltb, leb-true}
 use Rattle.std.proofs.lemmas.Bool.Decides.{nat_tests}
 use Rattle.std.proofs.lemmas.List.Folds.{list_all-append}
 use Rattle.icn_tree.specs.Characters.{begins_identifier, continues_identifier, is_between, is_digit}
@@ -43,11 +43,12 @@ name_string [] h = refl
 name_string (b ∷ rest) h =
     let t = and_parts _ _ h in
     let u = and_parts _ _ t.0 in
-    and_intro (le-leb _ _ (omega (arith, leb-true _ _ t.1)))
+    and_intro (lt-ltb _ _ (omega (arith, leb-true _ _ t.1)))
     (and_intro (letter_byte b u.0) (all_then continues_identifier is_byte name_byte rest u.1))
 
 pub text_string : (bytes : List ℕ) → is_byte_text bytes ≡ true → Rules.is_string bytes ≡ true
-text_string bytes h = let t = and_parts (list_all is_byte bytes) (nat_le (length bytes) 65535) h in and_intro t.1 t.0
+text_string bytes h = let t = and_parts (list_all is_byte bytes) (nat_le (length bytes) 65535) h in
+    and_intro (lt-ltb _ _ (omega (arith, leb-true _ _ t.1))) t.0
 
 -- What instructions mention keeps the rules of operands
 

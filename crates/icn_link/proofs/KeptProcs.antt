@@ -3,7 +3,7 @@ use Rattle.std.proofs.Common.{◌≡◌, ℕ, zero, suc, ◌+◌, ◌<◌, ◌�
 use Rattle.std.specs.Prelude.{nat_eq, nat_lt, nat_le, count_by, is_some}
 use Rattle.std.specs.List.{list_all, list_any}
 use Rattle.std.specs.Str.{bytes_eq}
-use Rattle.std.proofs.lemmas.Bool.{and_parts, le-leb, lt-ltb, ltb-true, false≢true}
+use Rattle.std.proofs.lemmas.Bool.{and_parts, le-leb, leb-true, lt-ltb, ltb-true, false≢true}
 use Rattle.std.proofs.lemmas.List.Sums.{sum_by-cons}
 use Rattle.icn_code.specs.declared.instr.Instr.{Instr}
 use Rattle.icn_code.specs.declared.instr.Instr.TheVariants as I
@@ -17,7 +17,7 @@ use Rattle.icn_unit.specs.declared.unit.UnitInstr.TheVariants as U
 use Rattle.icn_unit.specs.declared.unit.UnitName.{UnitName}
 use Rattle.icn_unit.specs.PlainUnits.{PlainProc, entry_names, is_parameter, params_in}
 use Rattle.icn_unit.specs.UnitOperands.{is_name}
-use Rattle.icn_unit.specs.UnitRules.{own_label}
+use Rattle.icn_unit.specs.UnitRules.{is_number, own_label}
 use Rattle.icn_unit.specs.UnitViews.{proc_seen}
 use Rattle.icn_link.specs.declared.variable.VariableKind.{VariableKind}
 use Rattle.icn_link.specs.declared.variable.VariableKind.TheVariants.{Local, Static, Global}
@@ -217,7 +217,7 @@ has_mention M (AnInteger n) = has_integer_index M.integers n
 has_mention M (AText text) = has_index M.strings text
 has_mention M (ASet members) = has_index M.sets members
 has_mention M (AField name) = has_index M.fields name
-has_mention M (Operands count) = nat_le count 65535
+has_mention M (Operands count) = true
 
 -- the tables are as long as what is mentioned
 pub record Long (M : AllMentions) (T : Tables) : Type 0 where
@@ -232,6 +232,10 @@ record There (T : Tables) (proc : ProcEntry) (V : List Instr) (L : ℕ → ℕ) 
   variable : (k : ℕ) → nat_lt k n ≡ true → Rules.is_instr T proc (variable_at V k) ≡ true
   label : (l : ℕ) → nat_le (L l) (length proc.instrs) ≡ true
 
+-- a number of ucode is one of linked code
+number_fits : (n : ℕ) → is_number n ≡ true → Rules.is_number n ≡ true
+number_fits n h = lt-ltb _ _ (omega (arith, leb-true n 4294967295 h))
+
 instr_fits : (M : AllMentions) (T : Tables) (proc : ProcEntry) (V : List Instr) (L : ℕ → ℕ) (names : ℕ) → Long M T
     → There T proc V L names → (instr : UnitInstr) → has_mention M (mention_of instr) ≡ true → is_joinable_instr names instr ≡ true
     → list_all (Rules.is_instr T proc) (resolved_one (scope_with M V L) instr) ≡ true
@@ -245,9 +249,9 @@ instr_fits M T proc V L names F G (U.Keywd keyword) m o = and_intro refl refl
 instr_fits M T proc V L names F G U.Pop m o = and_intro refl refl
 instr_fits M T proc V L names F G U.Dup m o = and_intro refl refl
 instr_fits M T proc V L names F G (U.Op op) m o = and_intro refl refl
-instr_fits M T proc V L names F G (U.Llist n) m o = and_intro m refl
+instr_fits M T proc V L names F G (U.Llist n) m o = and_intro (number_fits n o) refl
 instr_fits M T proc V L names F G (U.Field name) m o = and_intro (ap (nat_lt (text_index M.fields name)) F.fields ∙ m) refl
-instr_fits M T proc V L names F G (U.Invoke n) m o = and_intro m refl
+instr_fits M T proc V L names F G (U.Invoke n) m o = and_intro (number_fits n o) refl
 instr_fits M T proc V L names F G U.Appl m o = and_intro refl refl
 instr_fits M T proc V L names F G (U.Mark label) m o = and_intro (G.label label) refl
 instr_fits M T proc V L names F G U.Mark0 m o = and_intro refl refl

@@ -17,7 +17,9 @@ instr_joinable : (names : ℕ) (instr : UnitInstr) → keeps_operand names instr
 instr_joinable names (U.Int n) h = h
 instr_joinable names (U.Str bytes) h = h
 instr_joinable names (U.Var k) h = (and_parts (nat_lt k names) (is_number k) h).0
+instr_joinable names (U.Llist n) h = h
 instr_joinable names (U.Field name) h = h
+instr_joinable names (U.Invoke n) h = h
 instr_joinable names instr h = refl
 
 proc_joinable : (proc : PlainProc) → keeps_proc proc ≡ true → is_joinable_proc proc ≡ true

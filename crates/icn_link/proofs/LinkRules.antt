@@ -10,8 +10,8 @@ use Rattle.icn_unit.specs.PlainUnits.{PlainProc, PlainDecl, UnitRead}
 use Rattle.icn_link.specs.JoinableUnits.{is_joinable_decl, is_joinable_proc}
 use Rattle.icn_link.specs.declared.fault.LinkFault.{LinkFault}
 use Rattle.icn_link.specs.Joined.{joined_code, joined_of}
-use Rattle.icn_link.specs.LinkFaults.{IsFault, first_fault, local_counts, missing, over, record_sizes, repeated_name, size_of, static_counts, table_sizes, too_large, too_large_of}
-use Rattle.icn_link.specs.Mentions.{AllMentions, globals, all_mentions, mentioned_by, operands_in}
+use Rattle.icn_link.specs.LinkFaults.{IsFault, all_statics, first_fault, kind_counts, local_counts, missing, over, record_sizes, repeated_name, size_of, static_counts, table_sizes, too_large, too_large_of}
+use Rattle.icn_link.specs.Mentions.{AllMentions, globals, all_mentions}
 use Rattle.icn_link.specs.Units.{all_decls, all_procs}
 use Rattle.icn_link.specs.Views.{Joinable}
 use Rattle.icn_link.proofs.RuleByRule.{both_kept, first_fault_is, later_fault, later_fault_is, later_kept, list_fault, list_kept}
@@ -23,10 +23,13 @@ module _ (M : AllMentions) (D : List PlainDecl) (P : List PlainProc) (is : M ≡
   instrs = over 16777216 (sum_by size_of P ∷ [])
 
   abbrev tables : Option LinkFault
-  tables = over 65535 (table_sizes (all_mentions D P) D P)
+  tables = over 16777216 (table_sizes (all_mentions D P) D P)
 
-  abbrev operands : Option LinkFault
-  operands = over 65535 (mentioned_by operands_in P)
+  abbrev together : Option LinkFault
+  together = over 4294967295 (all_statics (globals D P) P ∷ [])
+
+  abbrev kinds : Option LinkFault
+  kinds = over 65535 (kind_counts (all_mentions D P) D)
 
   abbrev records : Option LinkFault
   records = over 65535 (record_sizes D)
@@ -42,7 +45,13 @@ module _ (M : AllMentions) (D : List PlainDecl) (P : List PlainProc) (is : M ≡
 
   -- the same by the tables that are gathered
   abbrev tables_found : Option LinkFault
-  tables_found = over 65535 (table_sizes M D P)
+  tables_found = over 16777216 (table_sizes M D P)
+
+  abbrev together_found : Option LinkFault
+  together_found = over 4294967295 (all_statics M.globals P ∷ [])
+
+  abbrev kinds_found : Option LinkFault
+  kinds_found = over 65535 (kind_counts M D)
 
   abbrev locals_found : Option LinkFault
   locals_found = over 65535 (local_counts M.globals P)
@@ -51,7 +60,13 @@ module _ (M : AllMentions) (D : List PlainDecl) (P : List PlainProc) (is : M ≡
   statics_found = over 65535 (static_counts M.globals P)
 
   tables_same : tables_found ≡ tables
-  tables_same = ap (λ (N : AllMentions). over 65535 (table_sizes N D P)) is
+  tables_same = ap (λ (N : AllMentions). over 16777216 (table_sizes N D P)) is
+
+  together_same : together_found ≡ together
+  together_same = ap (λ (N : AllMentions). over 4294967295 (all_statics N.globals P ∷ [])) is
+
+  kinds_same : kinds_found ≡ kinds
+  kinds_same = ap (λ (N : AllMentions). over 65535 (kind_counts N D)) is
 
   locals_same : locals_found ≡ locals
   locals_same = ap (λ (N : AllMentions). over 65535 (local_counts N.globals P)) is
@@ -69,11 +84,14 @@ module _ (M : AllMentions) (D : List PlainDecl) (P : List PlainProc) (is : M ≡
   abbrev behind_records : Option LinkFault
   behind_records = option_or locals behind_locals
 
-  abbrev behind_operands : Option LinkFault
-  behind_operands = option_or records behind_records
+  abbrev behind_kinds : Option LinkFault
+  behind_kinds = option_or records behind_records
+
+  abbrev behind_together : Option LinkFault
+  behind_together = option_or kinds behind_kinds
 
   abbrev behind_tables : Option LinkFault
-  behind_tables = option_or operands behind_operands
+  behind_tables = option_or together behind_together
 
   abbrev behind_instrs : Option LinkFault
   behind_instrs = option_or tables behind_tables
@@ -85,56 +103,70 @@ module _ (M : AllMentions) (D : List PlainDecl) (P : List PlainProc) (is : M ≡
   tables_exit fault a h =
       later_fault_is instrs behind_instrs fault a (first_fault_is tables behind_tables fault (subst (λ x. IsFault x fault) tables_same h))
 
-  pub operands_exit : (fault : LinkFault) → instrs ≡ None → tables_found ≡ None → IsFault operands fault → IsFault (too_large_of D P) fault
-  operands_exit fault a b h =
+  pub together_exit : (fault : LinkFault) → instrs ≡ None → tables_found ≡ None → IsFault together_found fault → IsFault (too_large_of D P) fault
+  together_exit fault a b h =
       later_fault_is instrs behind_instrs fault a (later_fault_is tables behind_tables fault (sym tables_same ∙ b)
-      (first_fault_is operands behind_operands fault h))
+      (first_fault_is together behind_together fault (subst (λ x. IsFault x fault) together_same h)))
 
-  pub records_exit : (fault : LinkFault) → instrs ≡ None → tables_found ≡ None → operands ≡ None → IsFault records fault
+  pub kinds_exit : (fault : LinkFault) → instrs ≡ None → tables_found ≡ None → together_found ≡ None → IsFault kinds_found fault
       → IsFault (too_large_of D P) fault
-  records_exit fault a b c h =
+  kinds_exit fault a b c h =
       later_fault_is instrs behind_instrs fault a (later_fault_is tables behind_tables fault (sym tables_same ∙ b)
-      (later_fault_is operands behind_operands fault c (first_fault_is records behind_records fault h)))
+      (later_fault_is together behind_together fault (sym together_same ∙ c)
+      (first_fault_is kinds behind_kinds fault (subst (λ x. IsFault x fault) kinds_same h))))
 
-  pub locals_exit : (fault : LinkFault) → instrs ≡ None → tables_found ≡ None → operands ≡ None → records ≡ None → IsFault locals_found fault
+  pub records_exit : (fault : LinkFault) → instrs ≡ None → tables_found ≡ None → together_found ≡ None → kinds_found ≡ None → IsFault records fault
       → IsFault (too_large_of D P) fault
-  locals_exit fault a b c d h =
+  records_exit fault a b c k h =
       later_fault_is instrs behind_instrs fault a (later_fault_is tables behind_tables fault (sym tables_same ∙ b)
-      (later_fault_is operands behind_operands fault c (later_fault_is records behind_records fault d
-      (first_fault_is locals behind_locals fault (subst (λ x. IsFault x fault) locals_same h)))))
+      (later_fault_is together behind_together fault (sym together_same ∙ c)
+      (later_fault_is kinds behind_kinds fault (sym kinds_same ∙ k) (first_fault_is records behind_records fault h))))
 
-  pub statics_exit : (fault : LinkFault) → instrs ≡ None → tables_found ≡ None → operands ≡ None → records ≡ None → locals_found ≡ None
-      → IsFault statics_found fault → IsFault (too_large_of D P) fault
-  statics_exit fault a b c d e h =
+  pub locals_exit : (fault : LinkFault) → instrs ≡ None → tables_found ≡ None → together_found ≡ None → kinds_found ≡ None → records ≡ None
+      → IsFault locals_found fault → IsFault (too_large_of D P) fault
+  locals_exit fault a b c k d h =
       later_fault_is instrs behind_instrs fault a (later_fault_is tables behind_tables fault (sym tables_same ∙ b)
-      (later_fault_is operands behind_operands fault c (later_fault_is records behind_records fault d
+      (later_fault_is together behind_together fault (sym together_same ∙ c)
+      (later_fault_is kinds behind_kinds fault (sym kinds_same ∙ k) (later_fault_is records behind_records fault d
+      (first_fault_is locals behind_locals fault (subst (λ x. IsFault x fault) locals_same h))))))
+
+  pub statics_exit : (fault : LinkFault) → instrs ≡ None → tables_found ≡ None → together_found ≡ None → kinds_found ≡ None → records ≡ None
+      → locals_found ≡ None → IsFault statics_found fault → IsFault (too_large_of D P) fault
+  statics_exit fault a b c k d e h =
+      later_fault_is instrs behind_instrs fault a (later_fault_is tables behind_tables fault (sym tables_same ∙ b)
+      (later_fault_is together behind_together fault (sym together_same ∙ c)
+      (later_fault_is kinds behind_kinds fault (sym kinds_same ∙ k) (later_fault_is records behind_records fault d
       (later_fault_is locals behind_locals fault (sym locals_same ∙ e)
-      (first_fault_is statics behind_statics fault (subst (λ x. IsFault x fault) statics_same h))))))
+      (first_fault_is statics behind_statics fault (subst (λ x. IsFault x fault) statics_same h)))))))
 
   -- the code that is made, where no rule before was broken
-  pub image_exit : (T : Tables) (fault : LinkFault) → T ≡ joined_of D P → instrs ≡ None → tables_found ≡ None → operands ≡ None → records ≡ None
-      → locals_found ≡ None → statics_found ≡ None → IsFault (over 1073741824 (length (image_of T) ∷ [])) fault → IsFault (too_large_of D P) fault
-  image_exit T fault t a b c d e f h =
+  pub image_exit : (T : Tables) (fault : LinkFault) → T ≡ joined_of D P → instrs ≡ None → tables_found ≡ None → together_found ≡ None
+      → kinds_found ≡ None → records ≡ None → locals_found ≡ None → statics_found ≡ None
+      → IsFault (over 1073741824 (length (image_of T) ∷ [])) fault → IsFault (too_large_of D P) fault
+  image_exit T fault t a b c k d e f h =
       later_fault_is instrs behind_instrs fault a (later_fault_is tables behind_tables fault (sym tables_same ∙ b)
-      (later_fault_is operands behind_operands fault c (later_fault_is records behind_records fault d
+      (later_fault_is together behind_together fault (sym together_same ∙ c)
+      (later_fault_is kinds behind_kinds fault (sym kinds_same ∙ k) (later_fault_is records behind_records fault d
       (later_fault_is locals behind_locals fault (sym locals_same ∙ e) (later_fault_is statics behind_statics fault (sym statics_same ∙ f)
-      (subst (λ U. IsFault (over 1073741824 (length (image_of U) ∷ [])) fault) t h))))))
+      (subst (λ U. IsFault (over 1073741824 (length (image_of U) ∷ [])) fault) t h)))))))
 
-  pub sizes_kept : (T : Tables) → T ≡ joined_of D P → instrs ≡ None → tables_found ≡ None → operands ≡ None → records ≡ None
+  pub sizes_kept : (T : Tables) → T ≡ joined_of D P → instrs ≡ None → tables_found ≡ None → together_found ≡ None → kinds_found ≡ None → records ≡ None
       → locals_found ≡ None → statics_found ≡ None → over 1073741824 (length (image_of T) ∷ []) ≡ None → too_large_of D P ≡ None
-  sizes_kept T t a b c d e f h =
-      both_kept instrs behind_instrs a (both_kept tables behind_tables (sym tables_same ∙ b) (both_kept operands behind_operands c
+  sizes_kept T t a b c k d e f h =
+      both_kept instrs behind_instrs a (both_kept tables behind_tables (sym tables_same ∙ b)
+      (both_kept together behind_together (sym together_same ∙ c) (both_kept kinds behind_kinds (sym kinds_same ∙ k)
       (both_kept records behind_records d (both_kept locals behind_locals (sym locals_same ∙ e) (both_kept statics behind_statics (sym statics_same ∙ f)
-      (ap (λ (U : Tables). over 1073741824 (length (image_of U) ∷ [])) (sym t) ∙ h))))))
+      (ap (λ (U : Tables). over 1073741824 (length (image_of U) ∷ [])) (sym t) ∙ h)))))))
 
-  pub are_joinable : list_all is_joinable_decl D ≡ true → list_all is_joinable_proc P ≡ true → instrs ≡ None → tables_found ≡ None → operands ≡ None
-      → records ≡ None → locals_found ≡ None → statics_found ≡ None → Joinable D P
-  are_joinable k l a b c d e f = record {
-    joinable_decls = k;
+  pub are_joinable : list_all is_joinable_decl D ≡ true → list_all is_joinable_proc P ≡ true → instrs ≡ None → tables_found ≡ None
+      → together_found ≡ None → kinds_found ≡ None → records ≡ None → locals_found ≡ None → statics_found ≡ None → Joinable D P
+  are_joinable m l a b c k d e f = record {
+    joinable_decls = m;
     joinable_procs = l;
     instrs = a;
     tables = sym tables_same ∙ b;
-    operands = c;
+    together = sym together_same ∙ c;
+    kinds = sym kinds_same ∙ k;
     records = d;
     locals = sym locals_same ∙ e;
     statics = sym statics_same ∙ f;

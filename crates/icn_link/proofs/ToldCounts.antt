@@ -61,3 +61,19 @@ pub one_fault : {A : Type 0} (result : Result A LinkFault) (most told count : �
 one_fault (Ok done) most told count small same h = tt
 one_fault (Err fault) most told count small same h =
     sym (over_told most count [] small) ∙ ap (λ n. over most (n ∷ [])) (sym same) ∙ h []
+
+-- A check of the second of two numbers, where the first was kept
+
+pub second_kept : {A : Type 0} (result : Result A LinkFault) (most a b x y : ℕ) → x ≡ a → y ≡ b
+    → ((rest : List ℕ) → over most (x ∷ rest) ≡ over most rest)
+    → OnOk result ((rest : List ℕ) → over most (y ∷ rest) ≡ over most rest) → OnOk result (over most (a ∷ b ∷ []) ≡ None)
+second_kept (Ok done) most a b x y e f first h =
+    ap (λ n. over most (n ∷ b ∷ [])) (sym e) ∙ first (b ∷ []) ∙ ap (λ n. over most (n ∷ [])) (sym f) ∙ h []
+second_kept (Err fault) most a b x y e f first h = tt
+
+pub second_fault : {A : Type 0} (result : Result A LinkFault) (most a b x y : ℕ) → x ≡ a → y ≡ b
+    → ((rest : List ℕ) → over most (x ∷ rest) ≡ over most rest)
+    → IfErr result (λ fault. (rest : List ℕ) → over most (y ∷ rest) ≡ Some fault) → IfErr result (λ fault. over most (a ∷ b ∷ []) ≡ Some fault)
+second_fault (Ok done) most a b x y e f first h = tt
+second_fault (Err fault) most a b x y e f first h =
+    ap (λ n. over most (n ∷ b ∷ [])) (sym e) ∙ first (b ∷ []) ∙ ap (λ n. over most (n ∷ [])) (sym f) ∙ h []

@@ -5,19 +5,19 @@ use Rattle.icn_code.specs.declared.instr.Instr.{Instr}
 use Rattle.icn_code.specs.declared.instr.Instr.TheVariants.{Int, Str, Cset, Local, Static, Global, Keywd, Op, Llist, Field, Invoke, Mark, Chfail, Goto, Loop, Init, Create, Pnull, Pop, Dup, Appl, Mark0, Unmark, Eret, Esusp, Limit, Lsusp, Efail, Bscan, Escan, Ccase, Psusp, Pret, Pfail, Coact, Coret, Cofail}
 use Rattle.icn_code.specs.Codes.{Proc, RecordType}
 
--- an instruction: its number, and an operand of two bytes or a label of four
+-- an instruction: its number, and an operand or a label of four bytes
 abbrev pub instr_size : Instr → ℕ
-instr_size (Int place) = 3
-instr_size (Str place) = 3
-instr_size (Cset place) = 3
-instr_size (Local place) = 3
-instr_size (Static place) = 3
-instr_size (Global place) = 3
-instr_size (Keywd keyword) = 3
-instr_size (Op op) = 3
-instr_size (Llist count) = 3
-instr_size (Field place) = 3
-instr_size (Invoke count) = 3
+instr_size (Int place) = 5
+instr_size (Str place) = 5
+instr_size (Cset place) = 5
+instr_size (Local place) = 5
+instr_size (Static place) = 5
+instr_size (Global place) = 5
+instr_size (Keywd keyword) = 5
+instr_size (Op op) = 5
+instr_size (Llist count) = 5
+instr_size (Field place) = 5
+instr_size (Invoke count) = 5
 instr_size (Mark label) = 5
 instr_size (Chfail label) = 5
 instr_size (Goto label) = 5
@@ -55,8 +55,8 @@ bodies_size procs = sum_by (λ proc. body_size proc.instrs) procs
 
 -- a string behind its length; a record with its name and the count of its fields
 abbrev pub strings_size : List (List ℕ) → ℕ
-strings_size strings = sum_by (λ string. length string + 2) strings
+strings_size strings = sum_by (λ string. length string + 4) strings
 
 -- how many bytes the record types have in an image
 abbrev pub records_size : List RecordType → ℕ
-records_size records = sum_by (λ kind. length kind.fields * 2 + 4) records
+records_size records = sum_by (λ kind. length kind.fields * 4 + 8) records

@@ -3,17 +3,19 @@
 use Rattle.std.specs.Prelude.{ℕ, Bool, true, ◌&&◌, ◌||◌, not, nat_lt, length}
 use Rattle.std.specs.List.{list_all}
 use Rattle.icn_unit.specs.declared.unit.UnitInstr.{UnitInstr}
-use Rattle.icn_unit.specs.declared.unit.UnitInstr.TheVariants.{Int, Str, Var, Field}
+use Rattle.icn_unit.specs.declared.unit.UnitInstr.TheVariants.{Int, Str, Var, Llist, Field, Invoke}
 use Rattle.icn_unit.specs.PlainUnits.{PlainProc, PlainDecl, Global, Procedure, Link, Record, UnitRead, params_in, entry_names}
 use Rattle.icn_unit.specs.UnitOperands.{is_name}
-use Rattle.icn_unit.specs.UnitRules.{is_byte_text, is_integer}
+use Rattle.icn_unit.specs.UnitRules.{is_byte_text, is_integer, is_number}
 
 -- the operand of an instruction, in a procedure of so many names
 abbrev pub is_joinable_instr : ℕ → UnitInstr → Bool
 is_joinable_instr names (Int n) = is_integer n
 is_joinable_instr names (Str bytes) = is_byte_text bytes
 is_joinable_instr names (Var k) = nat_lt k names
+is_joinable_instr names (Llist n) = is_number n
 is_joinable_instr names (Field name) = is_name name
+is_joinable_instr names (Invoke n) = is_number n
 is_joinable_instr names _ = true
 
 -- its names are such, and the last parameter collects only where there is one

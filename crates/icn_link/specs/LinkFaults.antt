@@ -3,7 +3,7 @@ use Rattle.std.specs.Prelude.{◌≡◌, ◌⊎◌, ℕ, suc, ◌-◌, ◌^◌, 
 use Rattle.std.specs.List.{flat_map, list_any, sum_by, ends_with}
 use Rattle.std.specs.Option.{option_map, option_or}
 use Rattle.std.specs.Str.{bytes_eq}
-use Rattle.icn_profile.specs.Numbers.{most_bytes_of_image, most_entries, most_instructions}
+use Rattle.icn_profile.specs.Numbers.{most_bytes_of_image, most_entries, most_fields, most_instructions, most_statics, most_variables}
 use Rattle.icn_image.specs.Spelling.{image_of}
 use Rattle.icn_unit.specs.declared.unit.UnitInstr.{UnitInstr}
 use Rattle.icn_unit.specs.PlainUnits.{PlainProc, PlainDecl, Global, Procedure, Link, Record, UnitRead}
@@ -12,7 +12,7 @@ use Rattle.icn_link.specs.declared.fault.DeclPlace.{DeclPlace}
 use Rattle.icn_link.specs.declared.fault.LinkFault.{LinkFault}
 use Rattle.icn_link.specs.declared.fault.LinkFault.TheVariants.{K1, K2, K3, NoMemory}
 use Rattle.icn_link.specs.Joined.{joined_of, locals_in, statics_in}
-use Rattle.icn_link.specs.Mentions.{AllMentions, all_mentions, mentioned_by, operands_in, globals}
+use Rattle.icn_link.specs.Mentions.{AllMentions, all_mentions, globals}
 use Rattle.icn_link.specs.Units.{all_decls, all_procs}
 
 -- Units that are linked and not there
@@ -142,6 +142,10 @@ table_sizes tables decls procs =
     length tables.strings ∷ length tables.sets ∷ length tables.integers ∷ length tables.fields
     ∷ length (record_sizes decls) ∷ length tables.globals ∷ length procs ∷ []
 
+-- how many fields and how many records there are
+abbrev pub kind_counts : AllMentions → List PlainDecl → List ℕ
+kind_counts tables decls = length tables.fields ∷ length (record_sizes decls) ∷ []
+
 -- how many parameters and other locals each procedure has
 abbrev pub local_counts : List (List ℕ) → List PlainProc → List ℕ
 local_counts globals procs = map (λ proc. locals_in globals proc.names) procs
@@ -150,21 +154,27 @@ local_counts globals procs = map (λ proc. locals_in globals proc.names) procs
 abbrev pub static_counts : List (List ℕ) → List PlainProc → List ℕ
 static_counts globals procs = map (λ proc. statics_in globals proc.names) procs
 
+-- how many statics all procedures have together
+abbrev pub all_statics : List (List ℕ) → List PlainProc → ℕ
+all_statics globals procs = sum_by (λ proc. statics_in globals proc.names) procs
+
 -- the first fault, where there is one, else the second
 infixr 5 ◌orelse◌
 abbrev pub ◌orelse◌ : Option LinkFault → Option LinkFault → Option LinkFault
 a orelse b = option_or a b
 
--- In this order: all instructions; the entries of each table; the operands of a call or a list; the fields of a record; the
--- parameters and other locals of a procedure together; its statics; and the bytes of the image.
+-- In this order: all instructions; the entries of each table; the statics of all procedures together; the fields and the
+-- records; the fields of a record; the parameters and other locals of a procedure together; its statics; and the bytes of the
+-- image.
 abbrev pub too_large_of : List PlainDecl → List PlainProc → Option LinkFault
 too_large_of decls procs =
     over most_instructions (sum_by size_of procs ∷ [])
     orelse over most_entries (table_sizes (all_mentions decls procs) decls procs)
-    orelse over most_entries (mentioned_by operands_in procs)
-    orelse over most_entries (record_sizes decls)
-    orelse over most_entries (local_counts (globals decls procs) procs)
-    orelse over most_entries (static_counts (globals decls procs) procs)
+    orelse over most_statics (all_statics (globals decls procs) procs ∷ [])
+    orelse over most_fields (kind_counts (all_mentions decls procs) decls)
+    orelse over most_fields (record_sizes decls)
+    orelse over most_variables (local_counts (globals decls procs) procs)
+    orelse over most_variables (static_counts (globals decls procs) procs)
     orelse over most_bytes_of_image (length (image_of (joined_of decls procs)) ∷ [])
 
 -- the first bound that the units pass together

@@ -99,15 +99,6 @@ field_in (AText bytes) = []
 field_in (ASet members) = []
 field_in (Operands count) = []
 
--- the count of operands, where one is mentioned
-abbrev pub operands_in : Mention → List ℕ
-operands_in (Operands count) = count ∷ []
-operands_in NoMention = []
-operands_in (AnInteger n) = []
-operands_in (AText bytes) = []
-operands_in (ASet members) = []
-operands_in (AField name) = []
-
 -- what is mentioned by the instructions of a procedure
 abbrev pub mentioned_in : {A : Type 0} → (Mention → List A) → PlainProc → List A
 mentioned_in mentioned proc = flat_map (λ instr. mentioned (mention_of instr)) proc.instrs

@@ -5,7 +5,7 @@ use Rattle.std.specs.List.{list_all, sum_by}
 use Rattle.std.specs.Option.{unwrap_or}
 use Rattle.indexmap.specs.IndexMap.{IndexMap, get, get_by}
 use Rattle.std.specs.Str.{bytes_eq}
-use Rattle.icn_profile.specs.Numbers.{most_entries, most_instructions}
+use Rattle.icn_profile.specs.Numbers.{most_entries, most_fields, most_instructions, most_statics, most_variables}
 use Rattle.icn_unit.specs.declared.unit.ProcCode.{ProcCode}
 use Rattle.icn_unit.specs.declared.unit.UnitDecl.{UnitDecl}
 use Rattle.icn_unit.specs.declared.unit.UnitInstr.{UnitInstr}
@@ -17,9 +17,9 @@ use Rattle.icn_link.specs.declared.mention.Mention.{Mention as KeptMention}
 use Rattle.icn_link.specs.declared.mention.Mention.TheVariants as Kept
 use Rattle.icn_link.specs.declared.repeats.Owner.{Owner as KeptOwner}
 use Rattle.icn_link.specs.JoinableUnits.{is_joinable_decl, is_joinable_proc}
-use Rattle.icn_link.specs.LinkFaults.{Owner, over, size_of, table_sizes, record_sizes, local_counts, static_counts}
+use Rattle.icn_link.specs.LinkFaults.{all_statics, kind_counts, Owner, over, size_of, table_sizes, record_sizes, local_counts, static_counts}
 use Rattle.icn_link.specs.Resolving.{label_address}
-use Rattle.icn_link.specs.Mentions.{AllMentions, all_mentions, mentioned_by, operands_in, globals, Mention, NoMention, AnInteger, AText, ASet, AField, Operands}
+use Rattle.icn_link.specs.Mentions.{AllMentions, all_mentions, globals, Mention, NoMention, AnInteger, AText, ASet, AField, Operands}
 
 -- the declarations that are kept, as plain lists
 abbrev pub decls_seen : List (Bor UnitDecl) → List PlainDecl
@@ -70,7 +70,7 @@ abbrev pub address_from : LabelAddresses → ℕ → List UnitInstr → ℕ
 address_from labels label rest =
     unwrap_or (get nat_eq labels.addresses label) (labels.end + label_address label rest)
 
--- Each place in a table has 16 bits.
+-- Each place in a table has 32 bits.
 pub record AreFew (tables : AllMentions) : Type 0 where
   pub strings : length tables.strings ≤ most_entries
   pub sets : length tables.sets ≤ most_entries
@@ -84,7 +84,8 @@ pub record Joinable (decls : List PlainDecl) (procs : List PlainProc) : Type 0 w
   pub joinable_procs : list_all is_joinable_proc procs ≡ true
   pub instrs : over most_instructions (sum_by size_of procs ∷ []) ≡ None
   pub tables : over most_entries (table_sizes (all_mentions decls procs) decls procs) ≡ None
-  pub operands : over most_entries (mentioned_by operands_in procs) ≡ None
-  pub records : over most_entries (record_sizes decls) ≡ None
-  pub locals : over most_entries (local_counts (globals decls procs) procs) ≡ None
-  pub statics : over most_entries (static_counts (globals decls procs) procs) ≡ None
+  pub together : over most_statics (all_statics (globals decls procs) procs ∷ []) ≡ None
+  pub kinds : over most_fields (kind_counts (all_mentions decls procs) decls) ≡ None
+  pub records : over most_fields (record_sizes decls) ≡ None
+  pub locals : over most_variables (local_counts (globals decls procs) procs) ≡ None
+  pub statics : over most_variables (static_counts (globals decls procs) procs) ≡ None

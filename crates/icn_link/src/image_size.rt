@@ -13,13 +13,13 @@ use icn_tree::Bytes;
 pub fn image_size(code: &Code) -> u64
     ensures { result ≡ count_told (length (image_of (tables_of code.now))) }
 {
-    let size = strings_size(&code.strings).saturating_add(22);
+    let size = strings_size(&code.strings).saturating_add(36);
     let size = size.saturating_add(entries_size(&code.csets, 32));
     let size = size.saturating_add(entries_size(&code.integers, 8));
-    let size = size.saturating_add(entries_size(&code.fields, 2));
+    let size = size.saturating_add(entries_size(&code.fields, 4));
     let size = size.saturating_add(records_size(&code.records));
-    let size = size.saturating_add(entries_size(&code.globals, 5));
-    let size = size.saturating_add(entries_size(&code.procs, 13));
+    let size = size.saturating_add(entries_size(&code.globals, 9));
+    let size = size.saturating_add(entries_size(&code.procs, 21));
     size.saturating_add(bodies_size(&code.procs))
 }
 
@@ -42,9 +42,9 @@ fn strings_size(strings: &[Bytes]) -> u64
 }
 
 fn string_size(string: &[u8]) -> u64
-    ensures { result ≡ count_told (length string.now + 2) }
+    ensures { result ≡ count_told (length string.now + 4) }
 {
-    (string.len() as u64).saturating_add(2)
+    (string.len() as u64).saturating_add(4)
 }
 
 // Records, each with its name and the count of its fields.
@@ -60,9 +60,9 @@ fn records_size(records: &[LinkedRecord]) -> u64
 
 // A record of these fields.
 fn record_size(fields: &[u32]) -> u64
-    ensures { result ≡ count_told (length fields.now * 2 + 4) }
+    ensures { result ≡ count_told (length fields.now * 4 + 8) }
 {
-    entries_size(fields, 2).saturating_add(4)
+    entries_size(fields, 4).saturating_add(8)
 }
 
 // The instructions of procedures.
@@ -86,7 +86,7 @@ fn body_size(instrs: &[Instr]) -> u64
     size
 }
 
-// An instruction: its number, and an operand of two bytes or a label of four.
+// An instruction: its number, and an operand or a label of four bytes.
 fn instr_size(instr: Instr) -> u64
     ensures { result ≡ instr_size instr }
 {
@@ -101,8 +101,8 @@ fn instr_size(instr: Instr) -> u64
         | Instr::Op(_)
         | Instr::Llist(_)
         | Instr::Field(_)
-        | Instr::Invoke(_) => 3,
-        Instr::Mark(_)
+        | Instr::Invoke(_)
+        | Instr::Mark(_)
         | Instr::Chfail(_)
         | Instr::Goto(_)
         | Instr::Loop(_)

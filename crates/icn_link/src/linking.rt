@@ -3,7 +3,7 @@ ghost use Rattle.std.specs.Prelude.{◌≡◌, ◌≤◌, ◌-◌, ◌++◌, ◌
 ghost use Rattle.std.specs.List.{flat_map, list_all, sum_by};
 ghost use Rattle.std.specs.Option.{option_or};
 ghost use Rattle.std.specs.Str.{bytes_eq};
-ghost use Rattle.icn_profile.specs.Numbers.{most_bytes_of_image, most_entries, most_instructions};
+ghost use Rattle.icn_profile.specs.Numbers.{most_bytes_of_image, most_entries, most_instructions, most_variables};
 ghost use Rattle.icn_code.specs.Codes.{proc_of, procs_of, record_of, records_of};
 ghost use Rattle.icn_code.specs.CodeTables.{tables_of};
 ghost use Rattle.icn_image.specs.Spelling.{image_of};
@@ -26,8 +26,8 @@ use crate::missing::check_links;
 use crate::repeats::check_owners;
 use crate::resolve::resolve_instrs;
 use crate::sizes::{
-    check_count, check_instrs, check_locals, check_operands, check_records, check_statics,
-    check_tables,
+    check_all_statics, check_count, check_instrs, check_kinds, check_locals, check_records,
+    check_statics, check_tables,
 };
 use crate::variable::{locals_in, statics_in, variables};
 use icn_code::{Code, Global as Variable, Instr, LinkedProcedure, LinkedRecord, Start};
@@ -47,9 +47,10 @@ const MOST_BYTES: u64 = MOST_BYTES_OF_IMAGE;
 /// The first of these rules that is broken. `K2` where a unit links one that is none of the units: the first such, in the order
 /// of the units and of their declarations. `K1` where a name is procedure or record in two units: the first declaration that
 /// repeats one. `K3` where the program is too large: the first number above its bound, in the order of all instructions
-/// (16777216), the entries of the tables (65535 each, as all that follow but the last), the operands of a call or a list, the
-/// fields of a record, the parameters and other locals of a procedure together, its statics, and the bytes of the image
-/// (1073741824); a number past 64 bits is told as the greatest number of 64 bits. `NoMemory` where memory ran out.
+/// (16777216), the entries of the tables (16777216 each), the statics of all procedures together (4294967295), the fields and the
+/// records (65535 each, as all that follow but the last), the fields of a record, the parameters and other locals of a procedure
+/// together, its statics, and the bytes of the image (1073741824); a number past 64 bits is told as the greatest number of 64
+/// bits. `NoMemory` where memory ran out.
 pub fn link(alloc: Global, units: &[Unit]) -> Result<Code, LinkFault>
     ensures joined { IfOk result (λ code. tables_of code ≡ joined_code (units_seen units.now)) }
     ensures fits { OnOk result (first_fault (units_seen units.now) ≡ None) }
@@ -93,7 +94,8 @@ fn join_with(
     ensures fault { IfErr result (IsFault (too_large_of (decls_seen decls.now) (procs_seen procs.now))) }
 {
     check_tables(tables, decls, procs)?;
-    check_operands(procs)?;
+    check_all_statics(&tables.globals, procs)?;
+    check_kinds(tables, decls)?;
     check_records(decls)?;
     check_locals(&tables.globals, procs)?;
     check_statics(&tables.globals, procs)?;
@@ -432,9 +434,9 @@ fn entries(
     requires sizes { list_all (λ proc. nat_le (size_of proc) most_instructions) (procs_seen procs.now)
         ≡ true }
     requires locals { list_all (λ proc. nat_le (locals_in (gathered_seen tables.now).globals proc.names)
-        most_entries) (procs_seen procs.now) ≡ true }
+        most_variables) (procs_seen procs.now) ≡ true }
     requires statics { list_all (λ proc. nat_le (statics_in (gathered_seen tables.now).globals proc.names)
-        most_entries) (procs_seen procs.now) ≡ true }
+        most_variables) (procs_seen procs.now) ≡ true }
     ensures { IfOk result (λ entries. procs_of entries.items
         ≡ map (proc_entry (gathered_seen tables.now)) (procs_seen procs.now)) }
 {
@@ -453,8 +455,8 @@ fn put_entry(
 ) -> Result<(), AllocError>
     requires few { AreFew (gathered_seen tables.now) }
     requires size { count_by is_instruction proc.now.instrs.items ≤ most_instructions }
-    requires locals { locals_in (gathered_seen tables.now).globals proc.now.names.items ≤ most_entries }
-    requires statics { statics_in (gathered_seen tables.now).globals proc.now.names.items ≤ most_entries }
+    requires locals { locals_in (gathered_seen tables.now).globals proc.now.names.items ≤ most_variables }
+    requires statics { statics_in (gathered_seen tables.now).globals proc.now.names.items ≤ most_variables }
     ensures { OnOk result (procs_of entries.new.items ≡ procs_of entries.old.items
         ++ proc_entry (gathered_seen tables.now) (proc_seen proc.now) ∷ []) }
 {
@@ -470,8 +472,8 @@ fn entry(
 ) -> Result<LinkedProcedure, AllocError>
     requires few { AreFew (gathered_seen tables.now) }
     requires size { count_by is_instruction proc.now.instrs.items ≤ most_instructions }
-    requires locals { locals_in (gathered_seen tables.now).globals proc.now.names.items ≤ most_entries }
-    requires statics { statics_in (gathered_seen tables.now).globals proc.now.names.items ≤ most_entries }
+    requires locals { locals_in (gathered_seen tables.now).globals proc.now.names.items ≤ most_variables }
+    requires statics { statics_in (gathered_seen tables.now).globals proc.now.names.items ≤ most_variables }
     ensures { IfOk result
         (λ entry. proc_of entry ≡ proc_entry (gathered_seen tables.now) (proc_seen proc.now)) }
 {

@@ -1,20 +1,18 @@
 // Programs that are too large.
 ghost use Rattle.std.specs.Prelude.{◌≡◌, ◌≤◌, ◌∷◌, ◌++◌, [], List, ℕ, None, IfErr, IfOk, OnOk, length, map, count_by};
 ghost use Rattle.std.specs.List.{flat_map, sum_by};
-ghost use Rattle.icn_profile.specs.Numbers.{most_entries, most_instructions};
+ghost use Rattle.icn_profile.specs.Numbers.{most_entries, most_fields, most_instructions, most_statics, most_variables};
 ghost use Rattle.icn_unit.specs.PlainUnits.{PlainDecl};
 ghost use Rattle.icn_unit.specs.UnitViews.{decl_seen, proc_seen};
 ghost use Rattle.icn_link.specs.declared.fault.LinkFault.TheVariants.{K3};
-ghost use Rattle.icn_link.specs.LinkFaults.{count_told, field_counts, is_instruction, local_counts, over, record_sizes, size_of, static_counts, table_sizes};
-ghost use Rattle.icn_link.specs.Mentions.{mention_of, mentioned_by, operands_in};
+ghost use Rattle.icn_link.specs.LinkFaults.{all_statics, count_told, field_counts, is_instruction, kind_counts, local_counts, over, record_sizes, size_of, static_counts, table_sizes};
 ghost use Rattle.icn_link.specs.Views.{decls_seen, gathered_seen, procs_seen, texts_seen};
 
 use crate::fault::LinkFault;
 use crate::gathered::GatheredMentions;
 use crate::labels::own_label;
-use crate::mention::{Mention, mention_of};
 use crate::variable::{locals_in, statics_in};
-use icn_profile::{MOST_ENTRIES, MOST_INSTRUCTIONS};
+use icn_profile::{MOST_ENTRIES, MOST_FIELDS, MOST_INSTRUCTIONS, MOST_STATICS, MOST_VARIABLES};
 use icn_unit::{ProcCode, UnitDecl, UnitInstr};
 use indexmap::IndexSet;
 
@@ -106,53 +104,43 @@ fn records_in(decls: &[&UnitDecl]) -> u64
     count
 }
 
-/// Refuses a call or a list of too many operands.
-pub fn check_operands(procs: &[&ProcCode]) -> Result<(), LinkFault>
-    ensures none { OnOk result (over most_entries (mentioned_by operands_in (procs_seen procs.now)) ≡ None) }
-    ensures fault { IfErr result
-        (λ fault. over most_entries (mentioned_by operands_in (procs_seen procs.now)) ≡ Some fault) }
+/// Refuses procedures of too many statics together.
+pub fn check_all_statics(globals: &IndexSet<&[u8]>, procs: &[&ProcCode]) -> Result<(), LinkFault>
+    ensures none { OnOk result
+        (over most_statics (all_statics (texts_seen globals.now.keys) (procs_seen procs.now) ∷ []) ≡ None) }
+    ensures fault { IfErr result (λ fault.
+        over most_statics (all_statics (texts_seen globals.now.keys) (procs_seen procs.now) ∷ []) ≡ Some fault) }
 {
+    check_count(all_statics(globals, procs), MOST_STATICS)
+}
+
+// How many statics procedures have together, as far as 64 bits can tell it.
+fn all_statics(globals: &IndexSet<&[u8]>, procs: &[&ProcCode]) -> u64
+    ensures { result ≡ count_told (all_statics (texts_seen globals.now.keys) (procs_seen procs.now)) }
+{
+    let mut count: u64 = 0;
     for proc in procs {
-        check_operands_in(&proc.instrs)?;
+        count = count.saturating_add(statics_in(globals, &proc.names));
     }
-    Ok(())
+    count
 }
 
-fn check_operands_in(instrs: &[UnitInstr]) -> Result<(), LinkFault>
-    ensures none { OnOk result ((rest : List ℕ) → over most_entries
-        (flat_map (λ instr. operands_in (mention_of instr)) instrs.now ++ rest) ≡ over most_entries rest) }
-    ensures fault { IfErr result (λ fault. (rest : List ℕ)
-        → over most_entries (flat_map (λ instr. operands_in (mention_of instr)) instrs.now ++ rest)
-        ≡ Some fault) }
+/// Refuses too many fields, or too many records.
+pub fn check_kinds(tables: &GatheredMentions<'_>, decls: &[&UnitDecl]) -> Result<(), LinkFault>
+    ensures none { OnOk result
+        (over most_fields (kind_counts (gathered_seen tables.now) (decls_seen decls.now)) ≡ None) }
+    ensures fault { IfErr result (λ fault.
+        over most_fields (kind_counts (gathered_seen tables.now) (decls_seen decls.now)) ≡ Some fault) }
 {
-    for instr in instrs {
-        check_operands_of(instr)?;
-    }
-    Ok(())
-}
-
-fn check_operands_of(instr: &UnitInstr) -> Result<(), LinkFault>
-    ensures none { OnOk result ((rest : List ℕ)
-        → over most_entries (operands_in (mention_of instr.now) ++ rest) ≡ over most_entries rest) }
-    ensures fault { IfErr result
-        (λ fault. (rest : List ℕ)
-        → over most_entries (operands_in (mention_of instr.now) ++ rest) ≡ Some fault) }
-{
-    match mention_of(instr) {
-        Mention::Operands(count) => check_count(u64::from(count), MOST_ENTRIES),
-        Mention::Nothing => Ok(()),
-        Mention::Integer(_) => Ok(()),
-        Mention::Text(_) => Ok(()),
-        Mention::Set(_) => Ok(()),
-        Mention::Field(_) => Ok(()),
-    }
+    check_count(tables.fields.len() as u64, MOST_FIELDS)?;
+    check_count(records_in(decls), MOST_FIELDS)
 }
 
 /// Refuses a record of too many fields.
 pub fn check_records(decls: &[&UnitDecl]) -> Result<(), LinkFault>
-    ensures none { OnOk result (over most_entries (record_sizes (decls_seen decls.now)) ≡ None) }
+    ensures none { OnOk result (over most_fields (record_sizes (decls_seen decls.now)) ≡ None) }
     ensures fault { IfErr result
-        (λ fault. over most_entries (record_sizes (decls_seen decls.now)) ≡ Some fault) }
+        (λ fault. over most_fields (record_sizes (decls_seen decls.now)) ≡ Some fault) }
 {
     for decl in decls {
         check_record(decl)?;
@@ -162,13 +150,13 @@ pub fn check_records(decls: &[&UnitDecl]) -> Result<(), LinkFault>
 
 fn check_record(decl: &UnitDecl) -> Result<(), LinkFault>
     ensures none { OnOk result ((rest : List ℕ)
-        → over most_entries (field_counts (decl_seen decl.now) ++ rest) ≡ over most_entries rest) }
+        → over most_fields (field_counts (decl_seen decl.now) ++ rest) ≡ over most_fields rest) }
     ensures fault { IfErr result
         (λ fault. (rest : List ℕ)
-        → over most_entries (field_counts (decl_seen decl.now) ++ rest) ≡ Some fault) }
+        → over most_fields (field_counts (decl_seen decl.now) ++ rest) ≡ Some fault) }
 {
     match decl {
-        UnitDecl::Record(_, fields) => check_count(fields.len() as u64, MOST_ENTRIES),
+        UnitDecl::Record(_, fields) => check_count(fields.len() as u64, MOST_FIELDS),
         UnitDecl::Global(_) => Ok(()),
         UnitDecl::Proc(_) => Ok(()),
         UnitDecl::Link(_) => Ok(()),
@@ -178,13 +166,13 @@ fn check_record(decl: &UnitDecl) -> Result<(), LinkFault>
 /// Refuses a procedure of too many parameters and other locals.
 pub fn check_locals(globals: &IndexSet<&[u8]>, procs: &[&ProcCode]) -> Result<(), LinkFault>
     ensures none { OnOk result
-        (over most_entries (local_counts (texts_seen globals.now.keys) (procs_seen procs.now)) ≡ None) }
+        (over most_variables (local_counts (texts_seen globals.now.keys) (procs_seen procs.now)) ≡ None) }
     ensures fault { IfErr result
-        (λ fault. over most_entries (local_counts (texts_seen globals.now.keys) (procs_seen procs.now))
+        (λ fault. over most_variables (local_counts (texts_seen globals.now.keys) (procs_seen procs.now))
         ≡ Some fault) }
 {
     for proc in procs {
-        check_count(locals_in(globals, &proc.names), MOST_ENTRIES)?;
+        check_count(locals_in(globals, &proc.names), MOST_VARIABLES)?;
     }
     Ok(())
 }
@@ -192,13 +180,13 @@ pub fn check_locals(globals: &IndexSet<&[u8]>, procs: &[&ProcCode]) -> Result<()
 /// Refuses a procedure of too many statics.
 pub fn check_statics(globals: &IndexSet<&[u8]>, procs: &[&ProcCode]) -> Result<(), LinkFault>
     ensures none { OnOk result
-        (over most_entries (static_counts (texts_seen globals.now.keys) (procs_seen procs.now)) ≡ None) }
+        (over most_variables (static_counts (texts_seen globals.now.keys) (procs_seen procs.now)) ≡ None) }
     ensures fault { IfErr result
-        (λ fault. over most_entries (static_counts (texts_seen globals.now.keys) (procs_seen procs.now))
+        (λ fault. over most_variables (static_counts (texts_seen globals.now.keys) (procs_seen procs.now))
         ≡ Some fault) }
 {
     for proc in procs {
-        check_count(statics_in(globals, &proc.names), MOST_ENTRIES)?;
+        check_count(statics_in(globals, &proc.names), MOST_VARIABLES)?;
     }
     Ok(())
 }

@@ -1,6 +1,6 @@
 // What the names of a procedure stand for.
 ghost use Rattle.std.specs.Prelude.{◌≡◌, ◌≤◌, ◌+◌, ◌++◌, ◌∷◌, List, length, IfOk, OnOk};
-ghost use Rattle.icn_profile.specs.Numbers.{most_entries};
+ghost use Rattle.icn_profile.specs.Numbers.{most_entries, most_variables};
 ghost use Rattle.icn_unit.specs.declared.unit.UnitName.{UnitName};
 ghost use Rattle.icn_link.specs.Joined.{locals_in, statics_in, variable_of, variables};
 ghost use Rattle.icn_link.specs.Views.{texts_seen};
@@ -44,8 +44,8 @@ pub fn variables(
     names: &[UnitName],
 ) -> Result<Vec<Instr>, AllocError>
     requires few { length (texts_seen globals.now.keys) ≤ most_entries }
-    requires locals { locals_in (texts_seen globals.now.keys) names.now ≤ most_entries }
-    requires statics { statics_in (texts_seen globals.now.keys) names.now ≤ most_entries }
+    requires locals { locals_in (texts_seen globals.now.keys) names.now ≤ most_variables }
+    requires statics { statics_in (texts_seen globals.now.keys) names.now ≤ most_variables }
     ensures { IfOk result (λ instrs. instrs.items ≡ variables (texts_seen globals.now.keys) 0 0 names.now) }
 {
     let mut instrs = Vec::new(alloc);
@@ -66,8 +66,8 @@ fn put_variable(
     entry: &UnitName,
 ) -> Result<(), AllocError>
     requires few { length (texts_seen globals.now.keys) ≤ most_entries }
-    requires locals { locals.now ≤ most_entries }
-    requires statics { statics.now ≤ most_entries }
+    requires locals { locals.now ≤ most_variables }
+    requires statics { statics.now ≤ most_variables }
     ensures locals { OnOk result ((rest : List UnitName) →
         locals.new + locals_in (texts_seen globals.now.keys) rest
         ≡ locals.old + locals_in (texts_seen globals.now.keys) (entry.now ∷ rest)) }

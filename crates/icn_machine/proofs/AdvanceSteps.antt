@@ -117,8 +117,8 @@ first_fault a b (Err (Halts.Error number offending)) k = k
 first_fault a b (Err (Halts.Ends status)) k = k
 first_fault a b (Err Halts.ReadFault) k = record {
   faults = k.faults;
-  output = record { faults = ap (λ s. s.faults) k.output; wants = ap (λ s. s.wants) k.output };
-  errors = record { faults = ap (λ s. s.faults) k.errors; wants = ap (λ s. s.wants) k.errors };
+  output = k.output.counts;
+  errors = k.errors.counts;
 }
 first_fault a b (Err Halts.WriteFault) k = output_failed a b k
 first_fault a b (Err Halts.NoMemory) k = k

@@ -1,6 +1,7 @@
 pub mod AdvanceSteps
 pub mod CallFacts
 pub mod CodeRules
+pub mod CountSteps
 pub mod DoingSteps
 pub mod ElementSteps
 pub mod FailFalls
@@ -21,3 +22,4 @@ pub mod SettleSteps
 pub mod SetTwice
 pub mod StartLoops
 pub mod StartSteps
+pub mod StaticsKept

@@ -30,6 +30,7 @@ use Rattle.icn_coexp.specs.Transfers.{CoexpTable}
 use Rattle.law_frames.proofs.CallsRead.{pop_read}
 use Rattle.icn_code.specs.declared.instr.Instr.TheVariants as Instrs
 use Rattle.icn_code.specs.Codes.{Tables}
+use Rattle.icn_streams.proofs.IdleCalls.{leaves_streams_refl}
 use Rattle.icn_streams.specs.Handed.{CallStreams, Follows, KeepsAllCounts, PutsAdded, uncounted}
 use Rattle.icn_run.specs.Calls as calls
 use Rattle.icn_run.specs.Rows as run_rows
@@ -87,10 +88,10 @@ performs_still leads C b x h = record {
 pub performs_idle : {A : Type 0} (leads : Outside → State Frames Frames) (C : Outside → Outside → Result A Halt → Type 0) (b : CallStreams)
     → Performs leads C b b (Err Halts.NoMemory)
 performs_idle leads C b = record {
-  answers = λ was told. answering.idle refl;
+  answers = λ was told. answering.idle (leaves_streams_refl _);
   had = [];
   has = [];
-  meant = λ was left. answering.idle refl;
+  meant = λ was left. answering.idle (leaves_streams_refl _);
   caused = uncounted (counts_same b);
 }
 

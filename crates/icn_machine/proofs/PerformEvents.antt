@@ -17,6 +17,7 @@ use Rattle.icn_run.specs.Rows.{Done}
 use Rattle.icn_run.specs.Stacks.{Frames, flat}
 use Rattle.icn_run.specs.Step.{State, Store, running, failing, over, all_names, errs, finish_run, is_main, outcome, stuck, with_at, with_world, turn, turn_if}
 use Rattle.icn_run.proofs.Errors.{at_error}
+use Rattle.icn_streams.proofs.IdleCalls.{leaves_streams_refl}
 use Rattle.icn_streams.specs.Handed.{CallStreams, uncounted}
 use Rattle.icn_streams.proofs.CallSequences.{follows_all}
 use Rattle.icn_control.specs.Machines.{AreLiveStacks, ComesTo, running_of, stack_seen, store_in, store_seen}
@@ -88,7 +89,7 @@ still_answers Comes state was before (Err (Halts.Error number offending)) told f
 still_answers Comes state was before (Err (Halts.Ends status)) told f h = record { now = was; follows = follows_all before was told; is = h }
 still_answers Comes state was before (Err Halts.ReadFault) told f h = absurd f
 still_answers Comes state was before (Err Halts.WriteFault) told f h = absurd f
-still_answers Comes state was before (Err Halts.NoMemory) told f h = idle refl
+still_answers Comes state was before (Err Halts.NoMemory) told f h = idle (leaves_streams_refl before)
 
 still_caused : {A : Type 0} (before : CallStreams) (result : Result A Halt) → IsFaultless result → IsCause result before before
 still_caused before (Ok a) f = record { faults = refl; output = record { faults = refl; wants = refl }; errors = record { faults = refl; wants = refl } }

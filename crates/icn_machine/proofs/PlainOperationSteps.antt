@@ -159,7 +159,7 @@ performed all tables op m k items st is p b =
     ∙ in_turn tables st (operate flat op (map (item_in all) items) (stack_in all k)) b
     ∙ operated_is op (map (item_in all) items) (stack_in all k) (after_turn st) is.row
 
-locals_back : (all : Extent) (k : FlatStack) → held.set_locals (held.locals k) k ≡ k
+pub locals_back : (all : Extent) (k : FlatStack) → held.set_locals (held.locals k) k ≡ k
     → flat.set_locals (flat.locals (stack_in all k)) (stack_in all k) ≡ stack_in all k
 locals_back all k same =
     ap (λ (vs : List Value). flat.set_locals vs (stack_in all k)) (locals_read (reading_of all) k)

@@ -59,9 +59,11 @@ right : (a b : Bool) → (a && b) ≡ true → b ≡ true
 right true b e = e
 right false b e = cc
 
-pub few_procs : (tables : Tables) → keeps_rules tables ≡ true → length tables.procs ≤ 65535
+pub few_procs : (tables : Tables) → keeps_rules tables ≡ true → length tables.procs ≤ 16777216
 unfolding keeps_rules
-few_procs tables e = leb-true _ _ (right _ _ (left _ _ (left _ _ (left _ _ (left _ _ (left _ _ (left _ _ (left _ _ (left _ _ e)))))))))
+few_procs tables e =
+    let counted = right _ _ (left _ _ (left _ _ (left _ _ (left _ _ (left _ _ (left _ _ (left _ _ (left _ _ e)))))))) in
+    leb-true _ _ (right _ _ (left _ _ counted))
 
 pub few_records : (tables : Tables) → keeps_rules tables ≡ true → length tables.records ≤ 65535
 unfolding keeps_rules

@@ -4,7 +4,7 @@ use Rattle.icn_value.specs.Store.{Request, Outside, with_reading}
 use Rattle.icn_defs.specs.Interruptions.{LosesPart, asked_of}
 use Rattle.icn_vars.specs.declared.outcome.Halt.{Halt}
 use Rattle.icn_vars.specs.declared.outcome.Halt.TheVariants as Halts
-use Rattle.icn_streams.specs.Handed.{CallStreams, Follows, PutsPart, KeepsAllCounts, ReadingFails, WritingFails, WantsMemory}
+use Rattle.icn_streams.specs.Handed.{CallStreams, Follows, LeavesSink, LeavesStreams, PutsPart, KeepsAllCounts, ReadingFails, WritingFails, WantsMemory}
 use Rattle.icn_run.specs.Stacks.{Frames}
 use Rattle.icn_run.specs.Step.{State, running, failing, hopping, over, stuck}
 
@@ -30,8 +30,8 @@ pub record BreaksReading (state : State Frames Frames) (was : Outside)
   pub asked : Request
   pub made : (outside_in was state).readings ≡ (with_reading asked was).readings
   pub left : LosesPart was.left (asked_of asked was.left) after.left
-  pub output : after.output ≡ before.output
-  pub errors : after.errors ≡ before.errors
+  pub output : LeavesSink before.output after.output
+  pub errors : LeavesSink before.errors after.errors
 
 -- It was broken off as it put: each output has gained some first part of what the step puts there, and the input is as it was.
 pub record BreaksPutting (state : State Frames Frames) (was : Outside)
@@ -42,7 +42,7 @@ pub record BreaksPutting (state : State Frames Frames) (was : Outside)
 
 -- It was broken off before it read or put anything, or as it read, or as it put, or behind all that it reads and puts.
 pub data BreaksOff (state : State Frames Frames) (was : Outside) (before after : CallStreams) : Type 0 where
-  idle : after ≡ before → BreaksOff state was before after
+  idle : LeavesStreams before after → BreaksOff state was before after
   reading : BreaksReading state was before after → BreaksOff state was before after
   putting : BreaksPutting state was before after → BreaksOff state was before after
   behind : Follows before after was (outside_in was state) → BreaksOff state was before after

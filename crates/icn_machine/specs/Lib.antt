@@ -8,3 +8,4 @@ pub mod Settling
 pub mod AfterInstruction
 pub mod Starting
 pub mod PlainOperations
+pub mod Counts

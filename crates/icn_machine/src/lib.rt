@@ -1,6 +1,7 @@
 //! The machine over all rows: operations, functions, what they left, and runs of instructions.
 #![tactic(auto)]
 
+mod counts;
 mod elements;
 mod errors;
 mod failing;

@@ -1,6 +1,12 @@
 // Rows that are performed on a stack in a world.
-ghost use Rattle.std.specs.Prelude.{◌≡◌, [], length, map};
+ghost use Rattle.std.specs.Prelude.{◌≡◌, [], IfErr, IfOk, OnOk, length, map};
 ghost use Rattle.icn_defs.specs.Applying as rows;
+ghost use Rattle.icn_heap.specs.Extents.{Extent};
+ghost use Rattle.icn_value.specs.Store.{Names as StoreNames};
+ghost use Rattle.icn_vars.specs.declared.outcome.Halt.TheVariants.{NoMemory};
+ghost use Rattle.icn_control.specs.StackViews.{stack_in};
+ghost use Rattle.law_steps.specs.StateNames.{StackNamed};
+ghost use Rattle.icn_machine.specs.Counts.{CountsOn};
 ghost use Rattle.icn_defs.specs.StepRows as step_rows;
 ghost use Rattle.icn_heap.specs.Heaps.{extent_of};
 ghost use Rattle.law_names.specs.NamedSettings.{ResidualNamed};
@@ -14,17 +20,18 @@ ghost use Rattle.icn_streams.specs.Handed.{call_streams};
 ghost use Rattle.icn_apply.specs.Applicable.{IsApplicable, applied_of};
 ghost use Rattle.icn_apply.specs.NamesAfter.{AnswerNamed};
 ghost use Rattle.icn_apply.specs.SizesAfter.{AnswerKeepsSizes, WorldsKeepSizes};
-ghost use Rattle.icn_control.specs.LiveStacks.{IsLiveStack, with_locals};
+ghost use Rattle.icn_control.specs.LiveStacks.{IsLiveStack, StaysLive, with_locals};
 ghost use Rattle.icn_machine.specs.Performing.{LeavesNamed, PerformsRow};
 ghost use Rattle.icn_control.specs.Soundness.{LeavesWorld, UnlessEnded};
 ghost use Rattle.icn_machine.specs.NamedWorlds.{AreNamed, HoldsNamed};
 
+use crate::counts::count_on;
 use crate::giving::give_outcome;
 use crate::own_locals::{Earlier, OwnLocals};
 use icn_apply::{Applied, again, apply};
 use icn_control::RunState;
 use icn_convert::Names;
-use icn_frames::{Cell, Frames, Stack};
+use icn_frames::{Cell, Count, Frames, Stack};
 use icn_host::{Sink, Source};
 use icn_value::{Item, Residual};
 use icn_vars::{Halt, Outcome, World};
@@ -163,9 +170,33 @@ pub fn perform_again<K: Stack<Cell> + Drop, N: Names, I: Source, O: Sink, E: Sin
     ensures sized { UnlessEnded result (WorldsKeepSizes world.old world.new) }
     ensures named { LeavesNamed (N.known names.now) world.new frames.new.flat result }
 {
+    if let Residual::Counting { given, last, step } = rest {
+        return resume_count(frames, Count { given, last, step });
+    }
     let outcome = again_in(frames, world, rest, names, buffer, input, out, err)?;
     frames.local_count();
     match give_outcome(frames, outcome) {
+        Ok(stage) => Ok(stage),
+        Err(_) => Err(Halt::NoMemory),
+    }
+}
+
+// Resumes a count in place. The error is want of memory.
+fn resume_count<K: Stack<Cell> + Drop>(
+    frames: &mut Frames<K>,
+    count: Count,
+) -> Result<RunState, Halt>
+    ensures counts { IfOk result (CountsOn count frames.old.flat frames.new.flat) }
+    ensures halt { IfErr result (λ halt. halt ≡ NoMemory) }
+
+    // Nothing changed where the locals are set to what they were.
+    ensures same { flat.set_locals (flat.locals frames.old.flat) frames.old.flat ≡ frames.old.flat }
+    ensures live { OnOk result (StaysLive frames.old.flat frames.new.flat) }
+    ensures named { (names : StoreNames) (all : Extent) → StackNamed names (stack_in all frames.old.flat)
+        → OnOk result (StackNamed names (stack_in all frames.new.flat)) }
+{
+    frames.local_count();
+    match count_on(frames, count) {
         Ok(stage) => Ok(stage),
         Err(_) => Err(Halt::NoMemory),
     }

@@ -108,7 +108,7 @@ fn put_slots<K: Stack<Cell> + Drop>(frames: &mut Frames<K>, slots: (Cell, Cell))
 
 // What was computed, if it was.
 #[inline(always)]
-fn computed(found: Result<i64, Arith>) -> Option<i64>
+pub fn computed(found: Result<i64, Arith>) -> Option<i64>
     ensures { result ≡ result_ok found }
 {
     match found {

@@ -11,6 +11,7 @@ ghost use Rattle.icn_streams.specs.Handed.{call_streams};
 ghost use Rattle.icn_control.specs.Machines.{ComesTo, does, stack_seen, store_seen};
 ghost use Rattle.icn_control.specs.Soundness.{KeepsLimits};
 ghost use Rattle.icn_control.specs.declared.machine.RunState.TheVariants as RunStates;
+ghost use Rattle.icn_instructions.specs.FirstStatics.{AreFirstStatics};
 ghost use Rattle.icn_machine.specs.Performing.{PerformsOn};
 ghost use Rattle.icn_machine.specs.Stepping.{Advances, EndsWhole, GoesOn, IsDoing, IsReady, IsReadyToFail, is_applied, is_failing, is_whole};
 ghost use Rattle.icn_machine.specs.AfterInstruction.{stage_of, stage_result};
@@ -142,9 +143,11 @@ fn do_applied<K: Stack<Cell> + Drop, N: Names, I: Source, O: Sink, E: Sink>(
 fn do_plain<K: Stack<Cell> + Drop>(
     m: &mut Machine<K>,
     code: &Code,
+    firsts: &[u32],
     instr: Instr,
     rooms: &mut Rooms,
 ) -> Result<RunState, Halt>
+    requires firsts { AreFirstStatics (tables_of code.now) firsts.now }
     requires applied { is_applied instr ≡ false }
     requires doing { IsDoing (tables_of code.now) m.old instr }
     ensures step { (outside : Outside)
@@ -156,19 +159,21 @@ fn do_plain<K: Stack<Cell> + Drop>(
 {
     steps_keep_names();
     steps_keep_sizes();
-    do_instruction(m, code, instr, &mut rooms.items, &mut rooms.vals)
+    do_instruction(m, code, firsts, instr, &mut rooms.items, &mut rooms.vals)
 }
 
 // Does the instruction that is due, but for the failing behind it. The errors are those of the instruction that end the run.
 fn do_next<K: Stack<Cell> + Drop, N: Names, I: Source, O: Sink, E: Sink>(
     m: &mut Machine<K>,
     code: &Code,
+    firsts: &[u32],
     names: &N,
     rooms: &mut Rooms,
     input: &mut I,
     out: &mut O,
     err: &mut E,
 ) -> Result<RunState, Halt>
+    requires firsts { AreFirstStatics (tables_of code.now) firsts.now }
     requires known { N.known names.now ≡ all_names (tables_of code.now) }
     requires ready { IsReady (tables_of code.now) m.old RunStates.Running }
     ensures steps { Advances (tables_of code.now) m.old RunStates.Running
@@ -185,7 +190,7 @@ fn do_next<K: Stack<Cell> + Drop, N: Names, I: Source, O: Sink, E: Sink>(
         let answer = do_applied(m, code, instr, names, rooms, input, out, err);
         return settle(m, answer);
     }
-    let answer = do_plain(m, code, instr, rooms);
+    let answer = do_plain(m, code, firsts, instr, rooms);
     settle(m, answer)
 }
 
@@ -231,12 +236,14 @@ fn fail_to_next<K: Stack<Cell> + Drop, N: Names, I: Source, O: Sink, E: Sink>(
 fn step_named<K: Stack<Cell> + Drop, N: Names, I: Source, O: Sink, E: Sink>(
     m: &mut Machine<K>,
     code: &Code,
+    firsts: &[u32],
     names: &N,
     rooms: &mut Rooms,
     input: &mut I,
     out: &mut O,
     err: &mut E,
 ) -> Result<AfterStep, Halt>
+    requires firsts { AreFirstStatics (tables_of code.now) firsts.now }
     requires known { N.known names.now ≡ all_names (tables_of code.now) }
     requires ready { IsReady (tables_of code.now) m.old RunStates.Running }
     ensures steps { Advances (tables_of code.now) m.old RunStates.Running
@@ -249,7 +256,7 @@ fn step_named<K: Stack<Cell> + Drop, N: Names, I: Source, O: Sink, E: Sink>(
         → result ≢ Err NoMemory }
     ensures within { KeepsLimits m.old m.new result }
 {
-    let stage = do_next(m, code, names, rooms, input, out, err)?;
+    let stage = do_next(m, code, firsts, names, rooms, input, out, err)?;
     if fails_now(stage) {
         return fail_to_next(m, stage, code, names, &mut rooms.buffer, input, out, err);
     }
@@ -283,7 +290,8 @@ pub fn step<K: Stack<Cell> + Drop, I: Source, O: Sink, E: Sink>(
         → is_whole instr ≡ true → result ≢ Err NoMemory }
     ensures within { KeepsLimits m.old m.new result }
 {
+    let firsts = code.first_statics();
     let code = code.code();
     let names = CodeNames::new(code);
-    step_named(m, code, &names, rooms, input, out, err)
+    step_named(m, code, firsts, &names, rooms, input, out, err)
 }

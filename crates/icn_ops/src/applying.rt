@@ -1,7 +1,6 @@
 // All operations in one call, and what they left in another.
 ghost use Rattle.std.specs.Prelude.{◌≡◌, true, false, length, map};
 ghost use Rattle.std.specs.List.{All};
-ghost use Rattle.icn_host.specs.Sinks.{SinkState};
 ghost use Rattle.icn_value.specs.Values.{Null, Val as ValItem};
 ghost use Rattle.icn_defs.specs.Applying.{again, operation_on, operation_row};
 ghost use Rattle.icn_defs.specs.Arities.{arity};
@@ -22,7 +21,7 @@ use crate::subscripts::subscript_row;
 use crate::values::{apply_to_values, wants_values};
 use crate::variables::{assign_row, reversible_assign_row, reversible_swap_row, swap_row};
 use crate::walks::elements_row;
-use icn_host::Source;
+use icn_host::{Sink, Source};
 use icn_streams::lines_again;
 use icn_text::Op;
 use icn_value::{Item, Residual};
@@ -33,29 +32,31 @@ use icn_vars::{Halt, Locals, Outcome, World};
 ///
 /// # Errors
 ///
-/// `Error` where the row says so. `ReadFault` where the input failed in this call, `NoMemory` where memory ran out.
-pub fn first<L: Locals, I: Source>(
+/// `Error` where the row says so. `ReadFault` where the input failed in this call, `WriteFault` where an output did as it was settled
+/// before a reading, `NoMemory` where memory ran out.
+pub fn first<L: Locals, I: Source, O: Sink, E: Sink>(
     op: Op,
     args: &[Item],
     w: &mut World,
     l: &mut L,
     buffer: &mut Vec<u8>,
     input: &mut I,
+    out: &mut O,
+    err: &mut E,
 ) -> Result<Outcome, Halt>
     requires arity { length args.now ≡ arity op }
     requires locals { All (IsLive (extent_of w.old.heap)) (L.items l.old) }
     requires args { All (IsLiveItem (reach_of w.old (L.items l.old))) args.now }
-    ensures { (output errors : SinkState)
-        → Applies (operation_row op (map (item_in (extent_of w.old.heap)) args.now)) (call_state w.old
-        (L.items l.old) (call_streams (I.left input.old) (I.faults input.old) output errors))
+    ensures { Applies (operation_row op (map (item_in (extent_of w.old.heap)) args.now)) (call_state w.old
+        (L.items l.old) (call_streams (I.left input.old) (I.faults input.old) (O.state out.old) (E.state err.old)))
         (call_state w.new (L.items l.new)
-        (call_streams (I.left input.new) (I.faults input.new) output errors)) result }
+        (call_streams (I.left input.new) (I.faults input.new) (O.state out.new) (E.state err.new))) result }
 {
     if wants_values(op) {
         return apply_to_values(op, args, w, l);
     }
     match args {
-        [x] => apply_to_one(op, *x, w, l, buffer, input),
+        [x] => apply_to_one(op, *x, w, l, buffer, input, out, err),
         [x, y] => apply_to_two(op, *x, *y, w, l),
         [x, y, z] => apply_to_three(op, *x, *y, *z, w, l),
         _ => unreachable!(),
@@ -63,48 +64,52 @@ pub fn first<L: Locals, I: Source>(
 }
 
 /// Goes on with what an operation left, or takes it back. The buffer is room for a line. The errors are those of `first`.
-pub fn again<L: Locals, I: Source>(
+pub fn again<L: Locals, I: Source, O: Sink, E: Sink>(
     rest: Residual,
     w: &mut World,
     l: &mut L,
     buffer: &mut Vec<u8>,
     input: &mut I,
+    out: &mut O,
+    err: &mut E,
 ) -> Result<Outcome, Halt>
     requires operation { is_of_operations rest ≡ true }
     requires locals { All (IsLive (extent_of w.old.heap)) (L.items l.old) }
     requires rest { IsLiveResidual (reach_of w.old (L.items l.old)) rest }
-    ensures { (output errors : SinkState)
-        → Applies (again (residual_in (extent_of w.old.heap) rest)) (call_state w.old (L.items l.old)
-        (call_streams (I.left input.old) (I.faults input.old) output errors)) (call_state w.new
-        (L.items l.new) (call_streams (I.left input.new) (I.faults input.new) output errors)) result }
+    ensures { Applies (again (residual_in (extent_of w.old.heap) rest)) (call_state w.old (L.items l.old)
+        (call_streams (I.left input.old) (I.faults input.old) (O.state out.old) (E.state err.old)))
+        (call_state w.new (L.items l.new)
+        (call_streams (I.left input.new) (I.faults input.new) (O.state out.new) (E.state err.new))) result }
 {
     match rest {
-        Residual::InputLines => lines_again(w, l, buffer, input),
+        Residual::InputLines => lines_again(w, l, buffer, input, out, err),
         _ => resume(rest, w, l),
     }
 }
 
 // An operation of one operand that it takes apart.
-fn apply_to_one<L: Locals, I: Source>(
+fn apply_to_one<L: Locals, I: Source, O: Sink, E: Sink>(
     op: Op,
     x: Item,
     w: &mut World,
     l: &mut L,
     buffer: &mut Vec<u8>,
     input: &mut I,
+    out: &mut O,
+    err: &mut E,
 ) -> Result<Outcome, Halt>
     requires others { wants_values op ≡ false }
     requires arity { arity op ≡ 1 }
     requires locals { All (IsLive (extent_of w.old.heap)) (L.items l.old) }
     requires first { IsLiveItem (reach_of w.old (L.items l.old)) x }
-    ensures { (output errors : SinkState)
-        → Applies (operation_on op (item_in (extent_of w.old.heap) x) (ValItem Null) (ValItem Null))
+    ensures { Applies (operation_on op (item_in (extent_of w.old.heap) x) (ValItem Null) (ValItem Null))
         (call_state w.old (L.items l.old)
-        (call_streams (I.left input.old) (I.faults input.old) output errors)) (call_state w.new
-        (L.items l.new) (call_streams (I.left input.new) (I.faults input.new) output errors)) result }
+        (call_streams (I.left input.old) (I.faults input.old) (O.state out.old) (E.state err.old)))
+        (call_state w.new (L.items l.new)
+        (call_streams (I.left input.new) (I.faults input.new) (O.state out.new) (E.state err.new))) result }
 {
     match op {
-        Op::Elements => elements_row(w, l, x, buffer, input),
+        Op::Elements => elements_row(w, l, x, buffer, input, out, err),
         Op::Random => random_row(w, l, x),
         Op::Refresh => Ok(Outcome::Fails),
         _ => unreachable!(),

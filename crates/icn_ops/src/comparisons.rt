@@ -231,7 +231,8 @@ pub fn lexically_not_equal_row<L: Locals>(
     Ok(value_if(order.is_ne(), Val::Text(text)))
 }
 
-/// `x === y`.
+/// `x === y`: the value at the right where both are the same; it fails elsewhere. The error is that of an operand that
+/// cannot be read.
 pub fn equivalent_row<L: Locals>(w: &World, l: &L, x: Item, y: Item) -> Result<Outcome, Halt>
     requires locals { All (IsLive (extent_of w.now.heap)) (L.items l.now) }
     requires first { IsLiveItem (reach_of w.now (L.items l.now)) x }
@@ -244,7 +245,8 @@ pub fn equivalent_row<L: Locals>(w: &World, l: &L, x: Item, y: Item) -> Result<O
     Ok(value_if(same(&w.heap, a, b), b))
 }
 
-/// `x ~=== y`.
+/// `x ~=== y`: the value at the right where both differ; it fails elsewhere. The error is that of an operand that cannot be
+/// read.
 pub fn not_equivalent_row<L: Locals>(w: &World, l: &L, x: Item, y: Item) -> Result<Outcome, Halt>
     requires locals { All (IsLive (extent_of w.now.heap)) (L.items l.now) }
     requires first { IsLiveItem (reach_of w.now (L.items l.now)) x }

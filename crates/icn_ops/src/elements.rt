@@ -15,7 +15,7 @@ use icn_heap::{Heap, short_text};
 use icn_value::{Item, Residual, Root, Span, Val, VarRef};
 use icn_vars::{Halt, Locals, Outcome, World, deref};
 
-/// The byte at a place of a text, from 0 on.
+/// The byte at a place of a text, from 0 on. It fails behind the last one, and comes to no run-time error.
 #[tactic(auto, using(crate::proofs::ElementRows::text_byte, crate::proofs::ElementRows::text_end))]
 pub fn text_bytes_from<L: Locals>(w: &World, l: &L, text: Span, place: u64) -> Result<Outcome, Halt>
     requires text { IsText (extent_of w.now.heap) text }
@@ -74,7 +74,7 @@ pub fn variable_bytes_from<L: Locals>(
     }
 }
 
-/// The element at a place of a list, from 0 on.
+/// The element at a place of a list, from 0 on. It fails behind the last one, and comes to no run-time error.
 #[tactic(auto, using(crate::proofs::ElementRows::list_item, crate::proofs::ElementRows::list_end))]
 pub fn list_items_from<L: Locals>(w: &World, l: &L, list: u32, place: u64) -> Result<Outcome, Halt>
     requires list { IsLive (extent_of w.now.heap) (ListVal list) }
@@ -96,7 +96,7 @@ pub fn list_items_from<L: Locals>(w: &World, l: &L, list: u32, place: u64) -> Re
     }
 }
 
-// How many members a set has.
+/// How many members a set has.
 pub fn set_count(heap: &Heap, set: u32) -> u64
     requires { IsLive (extent_of heap.now) (Set set) }
     ensures count { result ≡ length (set_at (heap_of heap.now) set) }
@@ -105,7 +105,7 @@ pub fn set_count(heap: &Heap, set: u32) -> u64
     heap.size(Val::Set(set)).unwrap_or(0)
 }
 
-/// The member at a place of a set, from 0 on.
+/// The member at a place of a set, from 0 on. It fails behind the last one, and comes to no run-time error.
 #[tactic(auto, using(crate::proofs::ElementRows::set_member, crate::proofs::ElementRows::set_end, crate::proofs::ElementRows::get_past))]
 pub fn set_members_from<L: Locals>(w: &World, l: &L, set: u32, place: u64) -> Result<Outcome, Halt>
     requires set { IsLive (extent_of w.now.heap) (Set set) }
@@ -129,7 +129,7 @@ pub fn set_members_from<L: Locals>(w: &World, l: &L, set: u32, place: u64) -> Re
     }
 }
 
-// How many pairs a table has.
+/// How many pairs a table has.
 pub fn table_count(heap: &Heap, table: u32) -> u64
     requires { IsLive (extent_of heap.now) (Table table) }
     ensures count { result ≡ length (table_at (heap_of heap.now) table).pairs }
@@ -138,7 +138,7 @@ pub fn table_count(heap: &Heap, table: u32) -> u64
     heap.size(Val::Table(table)).unwrap_or(0)
 }
 
-/// The value at a place of a table, from 0 on.
+/// The value at a place of a table, from 0 on, as a variable. It fails behind the last one, and comes to no run-time error.
 #[tactic(auto, using(crate::proofs::ElementRows::table_value, crate::proofs::ElementRows::table_end, crate::proofs::ElementRows::get_past))]
 pub fn table_values_from<L: Locals>(
     w: &World,
@@ -167,7 +167,7 @@ pub fn table_values_from<L: Locals>(
     }
 }
 
-/// The field at a place of a record, from 0 on.
+/// The field at a place of a record, from 0 on, as a variable. It fails behind the last one, and comes to no run-time error.
 #[tactic(auto, using(crate::proofs::ElementRows::record_field, crate::proofs::ElementRows::record_end))]
 pub fn record_fields_from<L: Locals>(
     w: &World,

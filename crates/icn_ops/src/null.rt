@@ -14,7 +14,7 @@ use icn_args::is_null;
 use icn_value::{Item, Val};
 use icn_vars::{Halt, Locals, Outcome, World, deref};
 
-// An item where a test is met; it fails elsewhere.
+/// An item where a test is met; it fails elsewhere.
 pub fn item_if(test: bool, item: Item) -> Outcome
     ensures row { (all : Extent) (setting : Setting)
         → passing test (gives (item_in all item)) setting ≡ outcome_in all result setting }
@@ -51,7 +51,7 @@ pub fn is_not_null_row<L: Locals>(w: &World, l: &L, x: Item) -> Result<Outcome, 
     Ok(item_if(!is_null(val), x))
 }
 
-/// `.x`: the value.
+/// `.x`: the value. The error is that of an operand that cannot be read.
 pub fn dereference_row<L: Locals>(w: &World, l: &L, x: Item) -> Result<Outcome, Halt>
     requires locals { All (IsLive (extent_of w.now.heap)) (L.items l.now) }
     requires first { IsLiveItem (reach_of w.now (L.items l.now)) x }

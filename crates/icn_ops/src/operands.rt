@@ -17,7 +17,7 @@ use icn_value::{Item, Span, Val};
 use icn_vars::{Locals, Stop, World, deref};
 use std::cmp::Ordering;
 
-// The values of two operands.
+/// The values of two operands. The error is that of an operand that cannot be read.
 pub fn two_values<L: Locals>(w: &World, l: &L, x: Item, y: Item) -> Result<(Val, Val), Stop>
     requires locals { All (IsLive (extent_of w.now.heap)) (L.items l.now) }
     requires first { IsLiveItem (reach_of w.now (L.items l.now)) x }
@@ -36,7 +36,7 @@ pub fn two_values<L: Locals>(w: &World, l: &L, x: Item, y: Item) -> Result<(Val,
     Ok((a, b))
 }
 
-// The integers of two operands, or 102.
+/// The integers of two operands. The error is 102 about the first that is none, or that of an operand that cannot be read.
 pub fn two_numbers<L: Locals>(w: &World, l: &L, x: Item, y: Item) -> Result<(i64, i64), Stop>
     requires locals { All (IsLive (extent_of w.now.heap)) (L.items l.now) }
     requires first { IsLiveItem (reach_of w.now (L.items l.now)) x }
@@ -53,7 +53,8 @@ pub fn two_numbers<L: Locals>(w: &World, l: &L, x: Item, y: Item) -> Result<(i64
     Ok((m, n))
 }
 
-// The order of the integers of two operands, and the right one; or 102.
+/// The order of the integers of two operands, and the right one. The error is 102 about the first that is none, or that of
+/// an operand that cannot be read.
 pub fn compared_numbers<L: Locals>(
     w: &World,
     l: &L,
@@ -73,7 +74,8 @@ pub fn compared_numbers<L: Locals>(
     Ok((m.cmp(&n), n))
 }
 
-// The texts of two operands, or 103. Those that are made are charged.
+/// The texts of two operands. Those that are made are charged. The error is 103 about the first that has none, 306 where the
+/// limit refuses the charge, or that of an operand that cannot be read.
 pub fn two_texts<L: Locals>(w: &mut World, l: &L, x: Item, y: Item) -> Result<(Span, Span), Stop>
     requires locals { All (IsLive (extent_of w.old.heap)) (L.items l.now) }
     requires first { IsLiveItem (reach_of w.old (L.items l.now)) x }
@@ -94,7 +96,8 @@ pub fn two_texts<L: Locals>(w: &mut World, l: &L, x: Item, y: Item) -> Result<(S
     texts_of(w, l, a, b)
 }
 
-// The order of the texts of two operands, and the right one; or 103. Those that are made are charged.
+/// The order of the texts of two operands, and the right one. Those that are made are charged. The error is 103 about the
+/// first that has none, 306 where the limit refuses the charge, or that of an operand that cannot be read.
 pub fn compared_texts<L: Locals>(
     w: &mut World,
     l: &L,
@@ -117,7 +120,8 @@ pub fn compared_texts<L: Locals>(
     Ok((w.heap.bytes(s).cmp(w.heap.bytes(t)), t))
 }
 
-// The text of an operand, or 103. One that is made is charged.
+/// The text of an operand. One that is made is charged. The error is 103 about a value that has none, 306 where the limit
+/// refuses the charge, or that of an operand that cannot be read.
 pub fn one_text<L: Locals>(w: &mut World, l: &L, x: Item) -> Result<Span, Stop>
     requires locals { All (IsLive (extent_of w.old.heap)) (L.items l.now) }
     requires first { IsLiveItem (reach_of w.old (L.items l.now)) x }
@@ -134,7 +138,8 @@ pub fn one_text<L: Locals>(w: &mut World, l: &L, x: Item) -> Result<Span, Stop>
     text_of(w, l, val)
 }
 
-// The numbers of the lists that two operands are, or 108.
+/// The numbers of the lists that two operands are. The error is 108 about the first that is none, or that of an operand that
+/// cannot be read.
 pub fn two_lists<L: Locals>(w: &World, l: &L, x: Item, y: Item) -> Result<(u32, u32), Stop>
     requires locals { All (IsLive (extent_of w.now.heap)) (L.items l.now) }
     requires first { IsLiveItem (reach_of w.now (L.items l.now)) x }
@@ -153,7 +158,7 @@ pub fn two_lists<L: Locals>(w: &World, l: &L, x: Item, y: Item) -> Result<(u32, 
     Ok((first, second))
 }
 
-// The integers of three operands, or 101.
+/// The integers of three operands. The error is 101 about the first that is none, or that of an operand that cannot be read.
 pub fn three_integers<L: Locals>(
     w: &World,
     l: &L,
@@ -178,7 +183,7 @@ pub fn three_integers<L: Locals>(
     Ok((given, last, step))
 }
 
-// The values of three operands.
+/// The values of three operands. The error is that of an operand that cannot be read.
 pub fn three_values<L: Locals>(
     w: &World,
     l: &L,

@@ -12,7 +12,7 @@ use icn_heap::{Heap, short_text};
 use icn_value::{Item, Root, Span, Val, VarRef};
 use icn_vars::{Locals, World};
 
-// A part of a variable, which may be a part itself.
+/// A part of a variable, which may be a part itself.
 pub fn part_of(variable: VarRef, place: u64, len: u64) -> VarRef
     requires short { IsShort variable }
     requires low { 1 ≤ place }
@@ -34,7 +34,7 @@ pub fn part_of(variable: VarRef, place: u64, len: u64) -> VarRef
     }
 }
 
-// The variable that holds a text, if the item is one.
+/// The variable that holds a text, if the item is one.
 pub fn text_holder(item: Item, val: Val) -> Option<VarRef>
     ensures holder { (all : Extent)
         → option_map (variable_in all) result ≡ text_variable (item_in all item) (value_in all val) }
@@ -50,7 +50,7 @@ pub fn text_holder(item: Item, val: Val) -> Option<VarRef>
     }
 }
 
-// A part of a text, as a variable where there is one that holds the text.
+/// A part of a text, as a variable where there is one that holds the text.
 pub fn part_item<L: Locals>(
     w: &World,
     l: &L,
@@ -76,7 +76,7 @@ pub fn part_item<L: Locals>(
     }
 }
 
-// How many bytes a text has.
+/// How many bytes a text has.
 pub fn text_length(heap: &Heap, text: Span) -> u64
     requires { IsText (extent_of heap.now) text }
     ensures count { result ≡ length (text_in (extent_of heap.now) text) }
@@ -86,7 +86,7 @@ pub fn text_length(heap: &Heap, text: Span) -> u64
     heap.bytes(text).len() as u64
 }
 
-// How many elements a list has.
+/// How many elements a list has.
 pub fn list_count(heap: &Heap, list: u32) -> u64
     requires { IsLive (extent_of heap.now) (ListVal list) }
     ensures count { result ≡ length (list_at (heap_of heap.now) list).items }
@@ -95,7 +95,7 @@ pub fn list_count(heap: &Heap, list: u32) -> u64
     heap.size(Val::List(list)).unwrap_or(0)
 }
 
-// The element at a place of a list, from 0 on.
+/// The element at a place of a list, from 0 on.
 pub fn element_item<L: Locals>(w: &World, l: &L, list: u32, place: u64) -> Item
     requires list { IsLive (extent_of w.now.heap) (ListVal list) }
     requires there { place < length (list_at (heap_of w.now.heap) list).items }
@@ -108,7 +108,7 @@ pub fn element_item<L: Locals>(w: &World, l: &L, list: u32, place: u64) -> Item
     Item::Var(VarRef::Whole(Root::Element { list, number }))
 }
 
-// How many fields a record has.
+/// How many fields a record has.
 pub fn field_count(heap: &Heap, rec: u32) -> u64
     requires { IsLive (extent_of heap.now) (Rec rec) }
     ensures count { result ≡ length (record_at (heap_of heap.now) rec).fields }
@@ -117,7 +117,7 @@ pub fn field_count(heap: &Heap, rec: u32) -> u64
     heap.fields(rec).len() as u64
 }
 
-// The field at a place of a record, from 0 on.
+/// The field at a place of a record, from 0 on.
 pub fn field_item<L: Locals>(w: &World, l: &L, rec: u32, place: u64) -> Item
     requires rec { IsLive (extent_of w.now.heap) (Rec rec) }
     requires there { place < length (record_at (heap_of w.now.heap) rec).fields }

@@ -6,7 +6,7 @@ ghost use Rattle.icn_defs.specs.Variables.{element_place, in_order, places};
 
 use icn_vars::place_of;
 
-// The place of the element that a position stands before, from 1 on. `None` comes exactly where it stands before none.
+/// The place of the element that a position stands before, from 1 on. `None` comes exactly where it stands before none.
 pub fn element_place(n: i64, size: u64) -> Option<u64>
     requires { size < 2 ^ 63 }
     ensures place { (next : ℕ → Row) (setting : Setting)
@@ -20,7 +20,7 @@ pub fn element_place(n: i64, size: u64) -> Option<u64>
     }
 }
 
-// The places that two positions mean, the smaller first. `None` comes exactly where one of them is out of range.
+/// The places that two positions mean, the smaller first. `None` comes exactly where one of them is out of range.
 pub fn places(m: i64, n: i64, size: u64) -> Option<(u64, u64)>
     requires { size < 2 ^ 63 }
     ensures places { (next : ℕ × ℕ → Row) (setting : Setting)

@@ -20,7 +20,7 @@ use icn_args::undo_position_again;
 use icn_value::Residual;
 use icn_vars::{Halt, Locals, Outcome, World};
 
-// Goes on with what an operation left, or takes it back. The errors are those of its row.
+/// Goes on with what an operation left, or takes it back. The errors are those of its row.
 #[tactic(auto, using(icn_vars::proofs::KeptItems::keeps_items_refl))]
 pub fn resume<L: Locals>(rest: Residual, w: &mut World, l: &mut L) -> Result<Outcome, Halt>
     requires operation { is_of_operations rest ≡ true }

@@ -34,7 +34,8 @@ fn variable_of(item: Item) -> Result<VarRef, Stop>
     }
 }
 
-/// `x := y`: the variable, whose old value is not read.
+/// `x := y`: the variable, whose old value is not read. It fails where `&pos` would be out of range. The error is 111 where
+/// `x` is no variable, or that of the assignment.
 #[tactic(auto, using(icn_vars::proofs::KeptItems::keeps_items_refl))]
 pub fn assign_row<L: Locals>(w: &mut World, l: &mut L, x: Item, y: Item) -> Result<Outcome, Halt>
     requires locals { All (IsLive (extent_of w.old.heap)) (L.items l.old) }
@@ -54,7 +55,8 @@ pub fn assign_row<L: Locals>(w: &mut World, l: &mut L, x: Item, y: Item) -> Resu
     }
 }
 
-/// `x :=: y`: the left variable.
+/// `x :=: y`: the left variable. It fails where `&pos` would be out of range. The error is 111 about an operand that is no
+/// variable, or that of an assignment.
 #[tactic(auto, using(icn_vars::proofs::KeptItems::keeps_items_refl))]
 pub fn swap_row<L: Locals>(w: &mut World, l: &mut L, x: Item, y: Item) -> Result<Outcome, Halt>
     requires locals { All (IsLive (extent_of w.old.heap)) (L.items l.old) }
@@ -76,7 +78,8 @@ pub fn swap_row<L: Locals>(w: &mut World, l: &mut L, x: Item, y: Item) -> Result
     }
 }
 
-/// `x <- y`: the variable; resumed, its old value is assigned back.
+/// `x <- y`: the variable; resumed, its old value is assigned back. It fails where `&pos` would be out of range. The error
+/// is 111 where `x` is no variable, or that of the assignment.
 #[tactic(auto, using(icn_vars::proofs::KeptItems::keeps_items_refl))]
 pub fn reversible_assign_row<L: Locals>(
     w: &mut World,
@@ -127,7 +130,8 @@ pub fn undo_assign_again<L: Locals>(
     Ok(Outcome::Fails)
 }
 
-/// `x <-> y`: the left variable; resumed, the old values are assigned back.
+/// `x <-> y`: the left variable; resumed, the old values are assigned back. It fails where `&pos` would be out of range. The
+/// error is 111 about an operand that is no variable, or that of an assignment.
 #[tactic(auto, using(icn_vars::proofs::KeptItems::keeps_items_refl))]
 pub fn reversible_swap_row<L: Locals>(
     w: &mut World,

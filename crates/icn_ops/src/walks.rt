@@ -1,7 +1,6 @@
 // The elements of a value, from the first on.
 ghost use Rattle.std.specs.Prelude.{◌≡◌, None};
 ghost use Rattle.std.specs.List.{All};
-ghost use Rattle.icn_host.specs.Sinks.{SinkState};
 ghost use Rattle.icn_defs.specs.Arguments.{file_of};
 ghost use Rattle.icn_defs.specs.Conversions.{group_of};
 ghost use Rattle.icn_defs.specs.Elements.{elements_of, elements_row, text_elements, text_variable};
@@ -20,7 +19,7 @@ use crate::elements::{
 };
 use crate::parts::text_holder;
 use icn_args::text_of;
-use icn_host::Source;
+use icn_host::{Sink, Source};
 use icn_streams::lines_row;
 use icn_value::{Item, Val};
 use icn_vars::{Halt, Locals, Outcome, World, deref};
@@ -30,24 +29,27 @@ use icn_vars::{Halt, Locals, Outcome, World, deref};
 /// # Errors
 ///
 /// `Error` is 116 about a value that has none of these, 212 about a file that is not the input, and 306 where a text that is made or
-/// read passes its limit. `ReadFault` where the input failed in this call, `NoMemory` where memory ran out.
-pub fn elements_row<L: Locals, I: Source>(
+/// read passes its limit. `ReadFault` where the input failed in this call, `WriteFault` where an output did as it was settled before,
+/// `NoMemory` where memory ran out.
+pub fn elements_row<L: Locals, I: Source, O: Sink, E: Sink>(
     w: &mut World,
     l: &L,
     x: Item,
     buffer: &mut Vec<u8>,
     input: &mut I,
+    out: &mut O,
+    err: &mut E,
 ) -> Result<Outcome, Halt>
     requires locals { All (IsLive (extent_of w.old.heap)) (L.items l.now) }
     requires first { IsLiveItem (reach_of w.old (L.items l.now)) x }
-    ensures { (output errors : SinkState)
-        → Applies (elements_row (item_in (extent_of w.old.heap) x)) (call_state w.old (L.items l.now)
-        (call_streams (I.left input.old) (I.faults input.old) output errors)) (call_state w.new
-        (L.items l.now) (call_streams (I.left input.new) (I.faults input.new) output errors)) result }
+    ensures { Applies (elements_row (item_in (extent_of w.old.heap) x)) (call_state w.old (L.items l.now)
+        (call_streams (I.left input.old) (I.faults input.old) (O.state out.old) (E.state err.old)))
+        (call_state w.new (L.items l.now)
+        (call_streams (I.left input.new) (I.faults input.new) (O.state out.new) (E.state err.new))) result }
 {
     let val = deref(w, l, x)?;
     match val {
-        Val::Std(file) => lines_row(file, w, l, buffer, input),
+        Val::Std(file) => lines_row(file, w, l, buffer, input, out, err),
         _ => elements_of(w, l, x, val),
     }
 }

@@ -17,13 +17,16 @@ use Rattle.icn_expr.specs.Automata.{Builds, behind, is_close_parenthesis, is_clo
 use Rattle.icn_expr.specs.Reading.{expression_read}
 
 infixl 10 ◌>>=◌
+-- goes on with what was found, where something was
 abbrev pub ◌>>=◌ : {A B : Type 0} → Option A → (A → Option B) → Option B
 None >>= f = None
 (Some x) >>= f = f x
 
+-- reads something in front of the tokens, and leaves the tokens behind it; or it does not stand there
 abbrev pub Reads : Type 0 → Type 0
 Reads A = List Token → Option (A × List Token)
 
+-- the kind of a comma
 abbrev pub is_comma : Kind → Bool
 is_comma (PunctuationKind Comma) = true
 is_comma _ = false
@@ -59,6 +62,7 @@ local_kind (Some (WordKind Words.Local)) = Some Local
 local_kind (Some (WordKind Words.Static)) = Some Static
 local_kind _ = None
 
+-- an identifier as a name at this place
 abbrev pub name_at : Kind → Place → Option Name
 name_at (IdentifierKind text) place = Some (record { text = text; place = place })
 name_at _ place = None
@@ -67,6 +71,7 @@ name_at _ place = None
 abbrev pub name_of : Token → Option Name
 name_of token = name_at token.kind (record { line = token.line; file = token.file })
 
+-- an identifier or a text as an item of a declaration, at this place
 abbrev pub item_at : Kind → Place → Option DeclItem
 item_at (IdentifierKind text) place = Some (Items.Identifier (record { text = text; place = place }))
 item_at (TextKind text) place = Some (Items.Text (record { text = text; place = place }))
@@ -81,13 +86,16 @@ abbrev pub sign_by : Bool → List Token → Option (List Token)
 sign_by true tokens = Some (behind tokens)
 sign_by false tokens = None
 
+-- a token that passes a test stands next, and is read
 abbrev pub sign_read : (Option Kind → Bool) → List Token → Option (List Token)
 sign_read test tokens = sign_by (test (next tokens)) tokens
 
+-- one in front of others, where each of them is found
 abbrev pub in_front : {A : Type 0} → Option A → Option (List A × List Token) → Option (List A × List Token)
 in_front None others = None
 in_front (Some x) others = others >>= λ found. Some (x ∷ found.0, found.1)
 
+-- one more in front of others where a comma stands next, and else none
 abbrev pub further_by : {A : Type 0} → Bool → Option A → Option (List A × List Token) → List Token
     → Option (List A × List Token)
 further_by true x others tokens = in_front x others
@@ -104,6 +112,7 @@ abbrev pub some_read : {A : Type 0} → (Token → Option A) → Reads (List A)
 some_read of [] = None
 some_read of (token ∷ tokens) = in_front (of token) (further of tokens)
 
+-- no name where the list is closed, or one or more
 abbrev pub names_by : Bool → Reads (List Name)
 names_by true tokens = Some ([], tokens)
 names_by false tokens = some_read name_of tokens
@@ -112,15 +121,18 @@ names_by false tokens = some_read name_of tokens
 abbrev pub maybe_names : Reads (List Name)
 maybe_names tokens = names_by (is_close_parenthesis (next tokens)) tokens
 
+-- the brackets of a last parameter that collects, where they stand next
 abbrev pub variadic_by : Bool → List Name → List Token → Option (List Name × Bool × List Token)
 variadic_by true names tokens =
     sign_read is_close_bracket (behind tokens) >>= λ rest. Some (names, true, rest)
 variadic_by false names tokens = Some (names, false, tokens)
 
+-- the parameters of a procedure, and whether the last one collects
 abbrev pub parameters_read : List Token → Option (List Name × Bool × List Token)
 parameters_read tokens =
     maybe_names tokens >>= λ names. variadic_by (is_open_bracket (next names.1)) names.0 names.1
 
+-- one local declaration in front of others, where one stands next, and else none
 abbrev pub locals_by : Option LocalKind → Reads (List LocalDecl) → Reads (List LocalDecl)
 locals_by None others tokens = Some ([], tokens)
 locals_by (Some kind) others tokens =
@@ -132,14 +144,17 @@ abbrev pub locals_read : ℕ → Reads (List LocalDecl)
 locals_read zero tokens = None
 locals_read (suc n) tokens = locals_by (local_kind (next tokens)) (locals_read n) tokens
 
+-- the `initial` clause where its word stands next, and else none
 abbrev pub initial_by : {V L C : Type 0} → Builds V L C → Bool → Reads (Option (Place × V))
 initial_by make true tokens = expression_read make 1 (behind tokens)
     >>= λ value. sign_read is_semicolon value.1 >>= λ rest. Some (Some (place_of tokens, value.0), rest)
 initial_by make false tokens = Some (None, tokens)
 
+-- the `initial` clause of a procedure, if it has one
 abbrev pub initial_read : {V L C : Type 0} → Builds V L C → Reads (Option (Place × V))
 initial_read make tokens = initial_by make (is_initial (next tokens)) tokens
 
+-- the body is over at `end`, or one expression more stands in it
 abbrev pub body_by : {V L C : Type 0} → Builds V L C → Bool → (L → Reads L) → L → Reads L
 body_by make true others done tokens = Some (done, tokens)
 body_by make false others done tokens = expression_read make 0 tokens
@@ -160,6 +175,7 @@ pub record ProcedureOver (V L : Type 0) : Type 0 where
   pub initial : Option (Place × V)
   pub body : L
 
+-- a declaration, with values that stand for its trees
 pub data DeclarationOver (V L : Type 0) : Type 0 where
   GlobalOver : Place → List Name → DeclarationOver V L
   LinkOver : Place → List DeclItem → DeclarationOver V L
@@ -203,6 +219,7 @@ procedure_read make place tokens = do
     rest,
   )
 
+-- what stands behind the word `record`: the name, and the names of the fields in parentheses
 abbrev pub record_read : {V L : Type 0} → Place → Reads (DeclarationOver V L)
 record_read place tokens = do
   name ← name_read tokens
@@ -211,6 +228,7 @@ record_read place tokens = do
   rest ← sign_read is_close_parenthesis fields.1
   Some (RecordOver place name.0 fields.0, rest)
 
+-- a declaration by the word that it begins with
 abbrev pub declaration_by : {V L C : Type 0} → Builds V L C → Option Kind → Place
     → Reads (DeclarationOver V L)
 declaration_by make (Some (WordKind Words.Global)) place tokens =

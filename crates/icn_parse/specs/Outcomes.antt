@@ -59,11 +59,13 @@ abbrev mutual
   clauses_keywords NoClauses = []
   clauses_keywords (MoreClauses clause clauses) = clause_keywords clause ++ clauses_keywords clauses
 
+-- the keywords of this profile
 abbrev pub known_keywords : List KnownKeyword
 known_keywords = K.Ascii ∷ K.Cset ∷ K.Current ∷ K.Digits ∷ K.Errout ∷ K.Fail ∷ K.Input ∷ K.Lcase ∷ K.Letters
     ∷ K.Level ∷ K.Main ∷ K.Null ∷ K.Output ∷ K.Pos ∷ K.Random ∷ K.Source ∷ K.Subject ∷ K.Ucase
     ∷ K.Error ∷ K.ErrorNumber ∷ K.ErrorValue ∷ K.ErrorText ∷ []
 
+-- the name of a keyword of this profile
 abbrev pub is_known : List ℕ → Bool
 is_known text = list_any (λ keyword. bytes_eq text (keyword_name keyword)) known_keywords
 
@@ -84,6 +86,7 @@ pub data ProfileFault : Type 0 where
   UnknownKeyword : Place → ProfileFault
   NotInProfile : Place → ProfileFault
 
+-- the keywords of the `initial` clause
 abbrev pub initial_keywords : Initial → List Name
 initial_keywords NoInitial = []
 initial_keywords (Initially place value) = keywords value
@@ -95,6 +98,7 @@ declaration_fault (ProcedureOf p) =
     option_map UnknownKeyword (first_unknown (initial_keywords p.initial ++ all_keywords p.body))
 declaration_fault declaration = None
 
+-- the first of two faults, where there is one
 abbrev pub fault_or : Option ProfileFault → Option ProfileFault → Option ProfileFault
 fault_or (Some fault) later = Some fault
 fault_or None later = later

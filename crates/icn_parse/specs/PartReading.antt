@@ -13,6 +13,7 @@ abbrev pub is_comma_next : Option Kind → Bool
 is_comma_next None = false
 is_comma_next (Some kind) = is_comma kind
 
+-- the item that stands next
 abbrev pub item_read : Reads DeclItem
 item_read [] = None
 item_read (token ∷ tokens) = item_of token >>= λ item. Some (item, tokens)

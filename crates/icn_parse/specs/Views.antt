@@ -31,6 +31,7 @@ use Rattle.icn_parse.specs.Outcomes.{ProfileFault, UnknownKeyword, NotInProfile,
 abbrev pub ReadsNothing : {A : Type 0} → Option A → ParseStop → Type 0
 ReadsNothing read stop = (stop ≡ NoMemory) ⊎ (read ≡ None)
 
+-- the expression of an `initial` clause with its place, as the definitions see it
 abbrev pub first_value : InitialExpr → Place × WithHeight Tree
 first_value first = (first.place, capped_of first.value)
 
@@ -60,6 +61,7 @@ abbrev pub place_found : Result (Unit {0}) Place → Option Place
 place_found (Ok done) = None
 place_found (Err place) = Some place
 
+-- what a check answers, as the definitions see it
 abbrev pub fault_at : Unfit → ProfileFault
 fault_at (U.UnknownKeyword place) = UnknownKeyword place
 fault_at (U.NotInProfile place) = NotInProfile place

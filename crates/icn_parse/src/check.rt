@@ -52,7 +52,8 @@ fn check_declaration(declaration: &Decl) -> Result<(), Unfit>
     }
 }
 
-/// What the first declaration has that has it.
+/// Checks that declarations have no unknown keyword and no form outside this profile. The error is what the first
+/// declaration with such a thing has, with its place.
 pub fn check_declarations(declarations: &[Decl]) -> Result<(), Unfit>
     ensures { fault_found result ≡ first_fault (map declaration_of declarations.now) }
 {

@@ -133,7 +133,7 @@ fn read_behind<'a>(
     }
 }
 
-/// The declaration that stands next.
+/// The declaration that stands next. The error is `NotHere` where none stands there, or want of memory.
 pub fn read_declaration<'a>(
     alloc: Global,
     tokens: &'a [Token],

@@ -40,7 +40,8 @@ impl KeptDeclarations {
     }
 }
 
-/// The declarations of a program text.
+/// The declarations of a program text. The error is `NotHere` where the text does not go on with a declaration, or want of
+/// memory.
 pub fn read_file(alloc: Global, tokens: &[Token]) -> Result<KeptDeclarations, ParseStop>
     ensures { let read = file_read builds_with_height (length tokens.now) tokens.now in
         MatchResult result (λ all. option_map (kept_declarations None []) read

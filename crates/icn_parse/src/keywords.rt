@@ -17,7 +17,7 @@ fn check_name(name: &Name) -> Result<(), Place>
     }
 }
 
-/// Where the first unknown keyword of an expression stands.
+/// Checks that an expression has no unknown keyword. The error is where the first one stands.
 #[cycle(keywords)]
 #[tactic(auto, using(crate::proofs::UnknownKeywords::unknown_kept, crate::proofs::UnknownKeywords::unknown_then))]
 pub fn check(expr: &Expr) -> Result<(), Place>
@@ -121,7 +121,7 @@ pub fn check(expr: &Expr) -> Result<(), Place>
     }
 }
 
-/// Where the first unknown keyword of expressions in a row stands.
+/// Checks that expressions in a row have no unknown keyword. The error is where the first one stands.
 #[cycle(keywords)]
 pub fn check_all(exprs: &[Expr]) -> Result<(), Place>
     ensures { place_found result ≡ first_unknown (all_keywords (all_of exprs.now)) }

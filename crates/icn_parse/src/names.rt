@@ -55,7 +55,7 @@ fn item_of(alloc: Global, token: &Token) -> Result<DeclItem, ParseStop>
     }
 }
 
-/// The name that stands next.
+/// The name that stands next. The error is `NotHere` where none does, or want of memory.
 pub fn read_name<'a>(alloc: Global, tokens: &'a [Token]) -> Result<(Name, &'a [Token]), ParseStop>
     ensures { MatchResult result (λ found. name_read tokens.now ≡ Some (found.0, found.1.now))
         (ReadsNothing (name_read tokens.now)) }
@@ -66,7 +66,7 @@ pub fn read_name<'a>(alloc: Global, tokens: &'a [Token]) -> Result<(Name, &'a [T
     Ok((name_of(alloc, token)?, rest))
 }
 
-/// One or more names.
+/// One or more names. The error is `NotHere` where no name stands where one must, or want of memory.
 pub fn read_names<'a>(
     alloc: Global,
     tokens: &'a [Token],
@@ -96,7 +96,7 @@ fn read_item<'a>(alloc: Global, tokens: &'a [Token]) -> Result<(DeclItem, &'a [T
     Ok((item_of(alloc, token)?, rest))
 }
 
-/// One or more items.
+/// One or more items. The error is `NotHere` where no item stands where one must, or want of memory.
 pub fn read_items<'a>(
     alloc: Global,
     tokens: &'a [Token],
@@ -115,7 +115,8 @@ pub fn read_items<'a>(
     Ok((items, rest))
 }
 
-/// No name where a parenthesis closes, or one or more.
+/// No name where a parenthesis closes, or one or more. The error is `NotHere` where no name stands where one must, or want
+/// of memory.
 pub fn read_maybe_names<'a>(
     alloc: Global,
     tokens: &'a [Token],

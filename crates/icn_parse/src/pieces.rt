@@ -58,7 +58,7 @@ fn has_tree(alloc: Global, tokens: &[Token]) -> Result<bool, AllocError>
     }
 }
 
-// Where the first piece begins that spells no declaration, of tokens that have no tree.
+/// Where the first piece begins that spells no declaration, of tokens that have no tree. `AllocError` is want of memory.
 pub fn unspelled_place(alloc: Global, tokens: &[Token]) -> Result<Place, AllocError>
     requires none { HasTree tokens.now → ⊥ }
     ensures { IfOk result (UnspelledAt tokens.now) }

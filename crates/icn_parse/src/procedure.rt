@@ -170,7 +170,7 @@ fn read_body<'a>(alloc: Global, tokens: &'a [Token]) -> Result<(Elements, &'a [T
     Ok((done, rest))
 }
 
-/// A procedure, behind its word.
+/// A procedure, behind its word. The error is `NotHere` where no procedure stands there, or want of memory.
 pub fn read_procedure<'a>(
     alloc: Global,
     place: Place,

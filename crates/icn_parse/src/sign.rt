@@ -10,7 +10,7 @@ use crate::stop::ParseStop;
 use icn_expr::behind;
 use icn_tree::{Kind, LocalKind, Punctuation, Token, Word};
 
-/// The tokens behind a sign, where it stands next.
+/// The tokens behind a sign, where it stands next. The error is `NotHere`, where it does not.
 pub fn sign(stands: bool, tokens: &[Token]) -> Result<&[Token], ParseStop>
     ensures { MatchResult result (λ rest. sign_by stands tokens.now ≡ Some rest.now)
         (ReadsNothing (sign_by stands tokens.now)) }
@@ -33,6 +33,7 @@ pub fn local_kind(tokens: &[Token]) -> Option<LocalKind>
     }
 }
 
+/// Whether a semicolon stands next.
 pub fn semicolon_next(tokens: &[Token]) -> bool
     ensures { result ≡ is_semicolon (next tokens.now) }
 {
@@ -42,6 +43,7 @@ pub fn semicolon_next(tokens: &[Token]) -> bool
     }
 }
 
+/// Whether a comma stands next.
 pub fn comma_next(tokens: &[Token]) -> bool
     ensures { result ≡ is_comma_next (next tokens.now) }
 {
@@ -51,6 +53,7 @@ pub fn comma_next(tokens: &[Token]) -> bool
     }
 }
 
+/// Whether an opening parenthesis stands next.
 pub fn open_parenthesis_next(tokens: &[Token]) -> bool
     ensures { result ≡ is_open_parenthesis (next tokens.now) }
 {
@@ -60,6 +63,7 @@ pub fn open_parenthesis_next(tokens: &[Token]) -> bool
     }
 }
 
+/// Whether a closing parenthesis stands next.
 pub fn close_parenthesis_next(tokens: &[Token]) -> bool
     ensures { result ≡ is_close_parenthesis (next tokens.now) }
 {
@@ -69,6 +73,7 @@ pub fn close_parenthesis_next(tokens: &[Token]) -> bool
     }
 }
 
+/// Whether an opening bracket stands next.
 pub fn open_bracket_next(tokens: &[Token]) -> bool
     ensures { result ≡ is_open_bracket (next tokens.now) }
 {
@@ -78,6 +83,7 @@ pub fn open_bracket_next(tokens: &[Token]) -> bool
     }
 }
 
+/// Whether a closing bracket stands next.
 pub fn close_bracket_next(tokens: &[Token]) -> bool
     ensures { result ≡ is_close_bracket (next tokens.now) }
 {
@@ -87,6 +93,7 @@ pub fn close_bracket_next(tokens: &[Token]) -> bool
     }
 }
 
+/// Whether the word `initial` stands next.
 pub fn initial_next(tokens: &[Token]) -> bool
     ensures { result ≡ is_initial (next tokens.now) }
 {
@@ -96,6 +103,7 @@ pub fn initial_next(tokens: &[Token]) -> bool
     }
 }
 
+/// Whether the word `end` stands next.
 pub fn end_next(tokens: &[Token]) -> bool
     ensures { result ≡ is_end (next tokens.now) }
 {

@@ -10,3 +10,4 @@ pub mod Faults
 pub mod MapChanges
 pub mod PlainFiles
 pub mod CountDown
+pub mod CutLines

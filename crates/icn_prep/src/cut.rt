@@ -1,8 +1,8 @@
 // Where a line of a file ends.
 ghost use Rattle.std.specs.Prelude.{◌≡◌, ◌≤◌, ◌<◌, ◌∷◌, length, drop};
-ghost use Rattle.icn_prep.specs.FileLines.{lines_of, without_return};
+ghost use Rattle.icn_prep.specs.FileLines.{lines_of};
 
-use memchr::memchr;
+use bstr::ByteSlice;
 
 // The first line, and how many bytes it has with its end.
 pub fn first_line(text: &[u8]) -> (&[u8], usize)
@@ -11,18 +11,13 @@ pub fn first_line(text: &[u8]) -> (&[u8], usize)
     ensures some { 0 < result.1 }
     ensures within { result.1 ≤ length text.now }
 {
-    match memchr(b'\n', text) {
-        Some(at) => (without_return(&text[..at]), at + 1),
-        None => (text, text.len()),
-    }
-}
-
-// The bytes without one carriage return at their end.
-fn without_return(bytes: &[u8]) -> &[u8]
-    ensures { result.now ≡ without_return bytes.now }
-{
-    let Some((last, front)) = bytes.split_last() else {
-        return bytes;
+    let mut lines = text.lines();
+    let mut whole_lines = text.lines_with_terminator();
+    let Some(line) = lines.next() else {
+        unreachable!()
     };
-    if *last == b'\r' { front } else { bytes }
+    let Some(whole) = whole_lines.next() else {
+        unreachable!()
+    };
+    (line, whole.len())
 }

@@ -27,11 +27,31 @@ greatest_integer = 9223372036854775807
 abbrev pub highest_tree : ℕ
 highest_tree = 2000
 
+-- how many names one declaration has at most: the fields of a record; the parameters, locals and statics of a procedure
+abbrev pub most_names : ℕ
+most_names = 65535
+
 -- Code
 
--- how many entries a table has at most, and how many other things that are counted there are: operands, parameters with locals
+-- how many entries a table of a linked program has at most
 abbrev pub most_entries : ℕ
-most_entries = 65535
+most_entries = 16777216
+
+-- how many fields a code has at most, how many records, and how many fields one of them has
+abbrev pub most_fields : ℕ
+most_fields = 65535
+
+-- how many parameters and other locals a procedure of a code has together at most, and how many statics
+abbrev pub most_variables : ℕ
+most_variables = 65535
+
+-- how many procedures a code has at most
+abbrev pub most_procedures : ℕ
+most_procedures = 16777216
+
+-- how many statics all procedures of a code have together at most
+abbrev pub most_statics : ℕ
+most_statics = 4294967295
 
 -- how many instructions a linked program has at most
 abbrev pub most_instructions : ℕ

@@ -12,8 +12,23 @@ pub const GREATEST_INTEGER: u64 = 9223372036854775807;
 /// How high a tree is at most.
 pub const HIGHEST_TREE: u32 = 2000;
 
-/// How many entries a table has at most, and how many other things that are counted there are.
-pub const MOST_ENTRIES: u64 = 65535;
+/// How many names one declaration has at most: the fields of a record; the parameters, locals and statics of a procedure.
+pub const MOST_NAMES: u64 = 65535;
+
+/// How many entries a table of a linked program has at most.
+pub const MOST_ENTRIES: u64 = 16777216;
+
+/// How many fields a code has at most, how many records, and how many fields one of them has.
+pub const MOST_FIELDS: u64 = 65535;
+
+/// How many parameters and other locals a procedure of a code has together at most, and how many statics.
+pub const MOST_VARIABLES: u64 = 65535;
+
+/// How many procedures a code has at most.
+pub const MOST_PROCEDURES: u64 = 16777216;
+
+/// How many statics all procedures of a code have together at most.
+pub const MOST_STATICS: u64 = 4294967295;
 
 /// How many instructions a linked program has at most.
 pub const MOST_INSTRUCTIONS: u64 = 16777216;

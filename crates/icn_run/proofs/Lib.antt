@@ -1,2 +1,4 @@
 pub mod OneObservation
 pub mod Errors
+pub mod StoreLaws
+pub mod EveryStep

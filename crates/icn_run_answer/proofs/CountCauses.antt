@@ -1,5 +1,6 @@
 -- Which counts rose, by the answer.
-use Rattle.std.proofs.Common.{◌≡◌, ◌⊎◌, inl, inr, ℕ, ◌≤◌, List, Option, Ok, Err, refl, ap, subst, arith}
+use Rattle.std.proofs.Common.{◌≡◌, ◌⊎◌, ◌∙◌, inl, inr, ℕ, ◌≤◌, List, Option, Ok, Err, refl, ap, subst, arith}
+use Rattle.std.proofs.KnownBytes.{Keeps-refl}
 use Rattle.icn_host.specs.Counts.{CountsOnce, HasCause, Rose, one_more}
 use Rattle.icn_host.specs.Sinks.{SinkState}
 use Rattle.icn_host.specs.Puts.{RunsShort}
@@ -12,7 +13,7 @@ use Rattle.icn_running.specs.Runs.{EndsAtFirst as RunEnds}
 use Rattle.icn_answer.specs.declared.answer.Answer.{Answer}
 use Rattle.icn_answer.specs.declared.answer.Answer.TheVariants.{Wrote, Ran, Refused, Command, Missing, BadUcode, BadImage, FileFault, ReadFault, WriteFault, NoMemory}
 use Rattle.icn_answer.specs.Answers.{IsAbsence, IsFault}
-use Rattle.icn_run_answer.specs.CountCauses.{EndsAtFirst, IsFirstFaultOf, OutsideState, RunEndsAtFirst, outside}
+use Rattle.icn_run_answer.specs.CountCauses.{EndsAtFirst, EndsBehind, IsFirstFaultOf, OutsideState, RunEndsAtFirst, SettlesBehind, outside}
 use Rattle.icn_run_answer.specs.FaultAnswers.{IsOfRun, of_run}
 use Rattle.icn_answer.specs.Refusing.{PutsOwn, PutsItsLine, put, own, write_fault, want}
 use Rattle.icn_answer.proofs.NoFaults.{no_fault}
@@ -30,6 +31,26 @@ none_own (Command kind) sink n = refl
 none_own (Missing other) sink n = refl
 none_own (BadUcode other rule) sink n = refl
 none_own (BadImage rule) sink n = refl
+
+-- What comes behind
+
+still_settled : (answer : Answer) (sink : SinkState) → SettlesBehind answer sink sink
+still_settled Wrote sink = refl
+still_settled (Ran ending) sink = refl
+still_settled (Refused file line rule) sink = refl
+still_settled (Command kind) sink = refl
+still_settled (Missing other) sink = refl
+still_settled (BadUcode other rule) sink = refl
+still_settled (BadImage rule) sink = refl
+still_settled FileFault sink = refl
+still_settled ReadFault sink = refl
+still_settled WriteFault sink = refl
+still_settled NoMemory sink = record { held = Keeps-refl sink.held; counts = inl (record { faults = refl; wants = refl }) }
+
+-- the own line alone
+pub own_behind : {left : Option (List ℕ)} {input : ℕ} {out before after : SinkState} (answer : Answer) → PutsOwn answer before after
+    → EndsBehind answer (call_streams left input out before) (call_streams left input out after)
+own_behind {out = out} answer puts = record { left = refl; faults = refl; output = still_settled answer out; own_line = puts }
 
 -- Where no count rose
 
@@ -102,16 +123,25 @@ refused_counts : {usage name : List ℕ} {before after : SinkState} (left left' 
     → (answer ≡ ReadFault → ⊥) → PutsItsLine usage name answer before after given
     → RunEndsAtFirst given (call_streams left input out before) (call_streams left' input out after)
 refused_counts {before = before} {after} left left' input out answer _ w r (put n whole) = record {
-  between = after;
+  between = call_streams left' input out after;
   first = none_first _ _ answer n (errors_kept left left' input out before after (record { faults = whole.faults; wants = whole.wants }));
-  own_line = none_own answer after n;
+  behind = own_behind answer (none_own answer after n);
 }
-refused_counts {before = before} left left' input out answer _ w r (own f puts) =
-    record { between = before; first = still_first _ _ answer w r (errors_kept left left' input out before before (same_counts before)); own_line = puts }
-refused_counts {after = after} left left' input out answer _ w r (write_fault n stops) =
-    record { between = after; first = errors_fail refl (same_counts out) (record { faults = stops.faults; wants = stops.wants }); own_line = refl }
-refused_counts left left' input out answer _ w r (want n between leads puts) =
-    record { between = between; first = want_first left left' input out leads; own_line = puts }
+refused_counts {before = before} left left' input out answer _ w r (own f puts) = record {
+  between = call_streams left' input out before;
+  first = still_first _ _ answer w r (errors_kept left left' input out before before (same_counts before));
+  behind = own_behind answer puts;
+}
+refused_counts {after = after} left left' input out answer _ w r (write_fault n stops) = record {
+  between = call_streams left' input out after;
+  first = errors_fail refl (same_counts out) (record { faults = stops.faults; wants = stops.wants });
+  behind = own_behind WriteFault refl;
+}
+refused_counts left left' input out answer _ w r (want n between leads puts) = record {
+  between = call_streams left' input out between;
+  first = want_first left left' input out leads;
+  behind = own_behind NoMemory puts;
+}
 
 pub refused_ends : {usage name : List ℕ} {absent given_absent : Type 0} {files files' absences absences' input : ℕ} {left left' : Option (List ℕ)}
     {out before after : SinkState} (answer given : Answer)
@@ -164,21 +194,24 @@ after_read {after = after} answer f a ends = record {
 -- no fault is answered, and nothing was put
 pub none_counts : {streams : CallStreams} (answer : Answer) → (IsFault answer → ⊥) → RunEndsAtFirst answer streams streams
 none_counts {streams = streams} answer n = record {
-  between = streams.errors;
+  between = streams;
   first = none_first streams streams answer n (record { faults = refl; output = same_counts streams.output; errors = same_counts streams.errors });
-  own_line = none_own answer streams.errors n;
+  behind = own_behind answer (none_own answer streams.errors n);
 }
 
 -- an own line alone
 pub own_counts : {left left' : Option (List ℕ)} {input : ℕ} {out before after : SinkState} (answer : Answer) → (answer ≡ WriteFault → ⊥)
     → (answer ≡ ReadFault → ⊥) → PutsOwn answer before after
     → RunEndsAtFirst answer (call_streams left input out before) (call_streams left' input out after)
-own_counts {left = left} {left'} {input} {out} {before} answer w r puts =
-    record { between = before; first = still_first _ _ answer w r (errors_kept left left' input out before before (same_counts before)); own_line = puts }
+own_counts {left = left} {left'} {input} {out} {before} answer w r puts = record {
+  between = call_streams left' input out before;
+  first = still_first _ _ answer w r (errors_kept left left' input out before before (same_counts before));
+  behind = own_behind answer puts;
+}
 
 -- a run that ended
 pub ran_counts : {before after : CallStreams} (ending : Ending) → RunEnds {A = Ending} (Ok ending) before after → RunEndsAtFirst (Ran ending) before after
-ran_counts {after = after} ending kept = record { between = after.errors; first = kept; own_line = refl }
+ran_counts {after = after} ending kept = record { between = after; first = kept; behind = own_behind (Ran ending) refl }
 
 -- which counts rose where a run was broken off
 pub broken_first : (before after : CallStreams) (fault : RunFault) → RunEnds {A = Ending} (Err fault) before after → IsFirstFaultOf (of_run fault) before after
@@ -186,11 +219,10 @@ broken_first before after Runs.ReadFault fails = fails
 broken_first before after Runs.WriteFault fails = fails
 broken_first before after Runs.NoMemory wants = wants
 
--- a run that was broken off, with the fault's own line behind
-pub broken_counts : {before : CallStreams} {left : Option (List ℕ)} {input : ℕ} {out : SinkState} (between after : SinkState) (fault : RunFault) → RunEnds {A =
-    Ending} (Err fault) before (call_streams left input out between)
-    → PutsOwn (of_run fault) between after → RunEndsAtFirst (of_run fault) before (call_streams left input out after)
-broken_counts {before = before} between after fault ends puts = record { between = between; first = broken_first before _ fault ends; own_line = puts }
+-- a run that was broken off, with what comes behind
+pub broken_counts : {before between after : CallStreams} (fault : RunFault) → RunEnds {A = Ending} (Err fault) before between
+    → EndsBehind (of_run fault) between after → RunEndsAtFirst (of_run fault) before after
+broken_counts {before} {between} fault ends behind = record { between = between; first = broken_first before between fault ends; behind = behind }
 
 -- Where no count of faults rose
 
@@ -204,7 +236,9 @@ none_wrote (errors_fail input out err) o e = e (rose_of _ _ err.faults)
 
 none_wrote_behind : {before after : CallStreams} → RunEndsAtFirst WriteFault before after → (Rose before.output.faults after.output.faults → ⊥)
     → (Rose before.errors.faults after.errors.faults → ⊥) → ⊥
-none_wrote_behind {before = before} ends o e = none_wrote ends.first o (subst (λ (sink : SinkState). Rose before.errors.faults sink.faults → ⊥) ends.own_line e)
+none_wrote_behind {before = before} ends o e =
+    none_wrote ends.first (subst (λ (sink : SinkState). Rose before.output.faults sink.faults → ⊥) ends.behind.output o)
+    (subst (λ (sink : SinkState). Rose before.errors.faults sink.faults → ⊥) ends.behind.own_line e)
 
 -- where no count of faults rose, no fault is answered but want of memory
 pub faultless_of : {absent : Type 0} {before after : OutsideState} (answer : Answer) → EndsAtFirst answer absent before after
@@ -212,7 +246,7 @@ pub faultless_of : {absent : Type 0} {before after : OutsideState} (answer : Ans
     → (Rose before.streams.faults after.streams.faults → ⊥) → (Rose before.streams.output.faults after.streams.output.faults → ⊥)
     → (Rose before.streams.errors.faults after.streams.errors.faults → ⊥) → IsFault answer → answer ≡ NoMemory
 faultless_of FileFault ends f i o e is = absurd (f (rose_of _ _ (ends.file_fault.rose refl)))
-faultless_of ReadFault ends f i o e is = absurd (i (rose_of _ _ ends.others.first.faults))
+faultless_of ReadFault ends f i o e is = absurd (i (rose_of _ _ (ends.others.behind.faults ∙ ends.others.first.faults)))
 faultless_of WriteFault ends f i o e is = absurd (none_wrote_behind ends.others o e)
 faultless_of NoMemory ends f i o e is = refl
 faultless_of Wrote ends f i o e is = absurd (no_fault Wrote refl is)

@@ -1,5 +1,5 @@
 -- No count of 64 bits falls.
-use Rattle.std.proofs.Common.{◌≡◌, ◌≤◌, ◌<◌, ◌^◌, ℕ, List, arith}
+use Rattle.std.proofs.Common.{◌≡◌, ◌⊎◌, ◌≤◌, ◌<◌, ◌^◌, inl, inr, ℕ, List, ap, arith}
 use Rattle.icn_host.specs.Counts.{one_more}
 use Rattle.icn_host.specs.Sinks.{SinkState}
 use Rattle.icn_host.specs.Puts.{Puts, all, part, broken, wanted}
@@ -7,11 +7,10 @@ use Rattle.icn_streams.specs.Handed.{CallStreams, KeepsAllCounts, KeepsFaultCoun
 use Rattle.icn_machine.specs.Stepping.{InputFails, OutputFails, output_fails, errors_fail}
 use Rattle.icn_answer.specs.declared.answer.Answer.{Answer}
 use Rattle.icn_answer.specs.declared.answer.Answer.TheVariants.{Wrote, Ran, Refused, Command, Missing, BadUcode, BadImage, FileFault, ReadFault, WriteFault, NoMemory}
-use Rattle.icn_run_answer.specs.CountCauses.{IsFirstFaultOf, RunEndsAtFirst}
+use Rattle.icn_run_answer.specs.CountCauses.{IsFirstFaultOf, RunEndsAtFirst, SettlesBehind}
 use Rattle.icn_run_answer.specs.CountsRise.{HasBits, HaveBits, NoneFalls, SinkRises}
 use Rattle.icn_answer.specs.Lines.{fault_line}
 use Rattle.icn_answer.specs.Refusing.{PutsOwn}
-use Rattle.icn_run_answer.specs.ToldObjects.{with_errors}
 use Rattle.icn_run_answer.proofs.Reports.{puts_own}
 
 stays : (n m : ℕ) → m ≡ n → n ≤ m
@@ -101,11 +100,39 @@ both_rise before between after one two = record { faults = omega (arith, one.fau
 own_rises : (before after : SinkState) (answer : Answer) → HasBits before → PutsOwn answer before after → SinkRises before after
 own_rises before after answer few puts = put_rises before after (fault_line answer) few (puts_own before after answer puts)
 
+still_rises : (before after : SinkState) → after ≡ before → SinkRises before after
+still_rises before after same = record {
+  faults = stays before.faults after.faults (ap (λ (sink : SinkState). sink.faults) same);
+  wants = stays before.wants after.wants (ap (λ (sink : SinkState). sink.wants) same);
+}
+
+settled_rises : (before after : SinkState) → HasBits before → KeepsFaultCounts before after ⊎ FailsOnce before after ⊎ WantsOnce before after
+    → SinkRises before after
+settled_rises before after few (inl kept) = (keeps before after few kept).rise
+settled_rises before after few (inr (inl once)) = (fails before after few once).rise
+settled_rises before after few (inr (inr once)) = (wants before after few once).rise
+
+behind_rises : (before after : SinkState) (answer : Answer) → HasBits before → SettlesBehind answer before after → SinkRises before after
+behind_rises before after Wrote few same = still_rises before after same
+behind_rises before after (Ran ending) few same = still_rises before after same
+behind_rises before after (Refused file line rule) few same = still_rises before after same
+behind_rises before after (Command kind) few same = still_rises before after same
+behind_rises before after (Missing name) few same = still_rises before after same
+behind_rises before after (BadUcode name rule) few same = still_rises before after same
+behind_rises before after (BadImage rule) few same = still_rises before after same
+behind_rises before after FileFault few same = still_rises before after same
+behind_rises before after ReadFault few same = still_rises before after same
+behind_rises before after WriteFault few same = still_rises before after same
+behind_rises before after NoMemory few tries = settled_rises before after few tries.counts
+
 pub none_falls : (answer : Answer) (before after : CallStreams) → HaveBits before → RunEndsAtFirst answer before after → NoneFalls before after
 none_falls answer before after few ends =
-    let goes = first_goes before (with_errors ends.between after) answer few ends.first in
+    let between : CallStreams = ends.between in
+    let goes = first_goes before between answer few ends.first in
     record {
-      faults = goes.faults;
-      output = goes.output.rise;
-      errors = both_rise before.errors ends.between after.errors goes.errors.rise (own_rises ends.between after.errors answer goes.errors.bits ends.own_line);
+      faults = omega (arith, goes.faults, ends.behind.faults);
+      output = both_rise before.output between.output after.output goes.output.rise
+          (behind_rises between.output after.output answer goes.output.bits ends.behind.output);
+      errors = both_rise before.errors between.errors after.errors goes.errors.rise
+          (own_rises between.errors after.errors answer goes.errors.bits ends.behind.own_line);
     }

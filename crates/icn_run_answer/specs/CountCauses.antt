@@ -1,13 +1,13 @@
 -- Which counts of the outside rose in a call, by its answer.
-use Rattle.std.specs.Prelude.{◌≡◌, ℕ}
+use Rattle.std.specs.Prelude.{◌≡◌, ◌⊎◌, ℕ}
+use Rattle.std.specs.Io.KnownBytes.{Keeps}
 use Rattle.icn_host.specs.Counts.{CountsOnce, HasCause}
 use Rattle.icn_host.specs.Sinks.{SinkState}
-use Rattle.icn_streams.specs.Handed.{CallStreams, KeepsAllCounts, WantsMemory}
+use Rattle.icn_streams.specs.Handed.{CallStreams, FailsOnce, KeepsAllCounts, KeepsFaultCounts, WantsMemory, WantsOnce}
 use Rattle.icn_machine.specs.Stepping.{InputFails, OutputFails}
 use Rattle.icn_answer.specs.declared.answer.Answer.{Answer}
 use Rattle.icn_answer.specs.declared.answer.Answer.TheVariants.{Wrote, Ran, Refused, Command, Missing, BadUcode, BadImage, FileFault, ReadFault, WriteFault, NoMemory}
 use Rattle.icn_answer.specs.Refusing.{PutsOwn}
-use Rattle.icn_run_answer.specs.ToldObjects.{with_errors}
 
 -- Where it is answered that the input or an output failed, or that memory was wanting, that count rose once, and no other; where it is not, none
 -- rose. Want of memory may have no count.
@@ -24,11 +24,42 @@ IsFirstFaultOf ReadFault before after = InputFails before after
 IsFirstFaultOf WriteFault before after = OutputFails before after
 IsFirstFaultOf NoMemory before after = WantsMemory before after
 
--- The first fault ends a call that reads the input and puts on the outputs. Only the put of the fault's own line comes behind.
+-- An output was settled as far as it could be: it holds what it held, and failed or wanted memory once at most.
+pub record TriesToSettle (before after : SinkState) : Type 0 where
+  pub held : Keeps before.held after.held
+  pub counts : KeepsFaultCounts before after ⊎ FailsOnce before after ⊎ WantsOnce before after
+
+-- nothing of an output is pending, or one of its counts rose, once
+abbrev pub IsSettledOrFailed : ℕ → SinkState → SinkState → Type 0
+IsSettledOrFailed pending before after = (pending ≡ 0) ⊎ FailsOnce before after ⊎ WantsOnce before after
+
+-- What becomes of the output behind the first fault: where memory was wanting, it is settled as far as it can be, so that what the program has put
+-- stands before the fault's own line. Behind any other answer it stays as it is.
+abbrev pub SettlesBehind : Answer → SinkState → SinkState → Type 0
+SettlesBehind Wrote before after = after ≡ before
+SettlesBehind (Ran ending) before after = after ≡ before
+SettlesBehind (Refused file line rule) before after = after ≡ before
+SettlesBehind (Command kind) before after = after ≡ before
+SettlesBehind (Missing name) before after = after ≡ before
+SettlesBehind (BadUcode name rule) before after = after ≡ before
+SettlesBehind (BadImage rule) before after = after ≡ before
+SettlesBehind FileFault before after = after ≡ before
+SettlesBehind ReadFault before after = after ≡ before
+SettlesBehind WriteFault before after = after ≡ before
+SettlesBehind NoMemory before after = TriesToSettle before after
+
+-- What comes behind the first fault: the output may be settled, and the fault's own line is put. Nothing is read.
+pub record EndsBehind (answer : Answer) (between after : CallStreams) : Type 0 where
+  pub left : after.left ≡ between.left
+  pub faults : after.faults ≡ between.faults
+  pub output : SettlesBehind answer between.output after.output
+  pub own_line : PutsOwn answer between.errors after.errors
+
+-- The first fault ends a call that reads the input and puts on the outputs.
 pub record RunEndsAtFirst (answer : Answer) (before after : CallStreams) : Type 0 where
-  pub between : SinkState
-  pub first : IsFirstFaultOf answer before (with_errors between after)
-  pub own_line : PutsOwn answer between after.errors
+  pub between : CallStreams
+  pub first : IsFirstFaultOf answer before between
+  pub behind : EndsBehind answer between after
 
 -- how often the files have failed and a file was not there; and the input and both outputs
 pub record OutsideState : Type 0 where

@@ -5,3 +5,4 @@ pub mod InputLeft
 pub mod CountCauses
 pub mod CountsRise
 pub mod OutsideLeft
+pub mod PendingBytes

@@ -5,4 +5,4 @@ mod count_laws;
 mod run_fault;
 
 pub use count_laws::counts_stay;
-pub use run_fault::answer_of;
+pub use run_fault::broken_answer;

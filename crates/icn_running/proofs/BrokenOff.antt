@@ -1,18 +1,20 @@
 -- From what is said of the step that a fault or want of memory broke off to what is said of the whole run.
 use Rattle.std.proofs.Common.{◌≡◌, ◌∙◌, refl, sym, ap, subst, ℕ, zero, suc, List, [], ◌∷◌, ◌++◌, length, take, min, Option, Some, None, arith}
 use Rattle.std.specs.Prelude.{◌≤◌, ◌-◌, slice_get}
-use Rattle.std.specs.Io.KnownBytes.{Appends}
+use Rattle.std.specs.Io.KnownBytes.{Appends, Keeps}
 use Rattle.std.proofs.Math.Seq.{take-append_seam}
 use Rattle.std.proofs.lemmas.List.{length-drop, drop_min}
 use Rattle.icn_host.specs.Sinks.{SinkState, Gains, GainsPart}
-use Rattle.icn_host.proofs.SinkSteps.{part_more}
+use Rattle.icn_host.proofs.SinkSteps.{part_more, part_nothing}
+use Rattle.icn_host.proofs.KeptSteps.{gains_keeps}
 use Rattle.icn_value.specs.Limited.{Bounds}
 use Rattle.icn_value.specs.Store.{Outside, Reading, outside_of}
 use Rattle.icn_code.specs.Codes.{Tables}
 use Rattle.icn_defs.specs.Interruptions.{LosesPart, BreaksRun, taken_of, BreaksRunReading}
 use Rattle.icn_defs.specs.Running.{Ending, Observation, Launch, launch_of, after_steps, with_errors}
 use Rattle.icn_defs.proofs.Interruptions.{outside_begins, reading_breaks}
-use Rattle.icn_streams.specs.Handed.{CallStreams, Follows, PutsAdded, PutsPart}
+use Rattle.icn_streams.specs.Handed.{CallStreams, Follows, LeavesSink, LeavesStreams, PutsAdded, PutsPart}
+use Rattle.icn_streams.specs.Settling.{HoldsBoth}
 use Rattle.icn_streams.proofs.CallSequences.{follows_then, part_of_nothing, puts_whole, then_puts_part}
 use Rattle.icn_run.specs.FlatStep as Flat
 use Rattle.icn_run.specs.Stacks.{Frames, flat, empty}
@@ -35,12 +37,16 @@ front : (was all text more : List ℕ) → was ≡ text → all ≡ was ++ more 
 front was all text more is e = sym is ∙ sym (ap (take (length was)) e ∙ take-append_seam was more)
 
 gains_front : (before between after : SinkState) (was all more : List ℕ)
-    → PutsAdded before between [] was → after ≡ between → all ≡ was ++ more → Gains before.held after.held (take (length was) all)
-gains_front before between after was all more p same e = record {
-  appends =
-      subst (Appends before.held after.held) (front was all p.text more p.is e)
-      (subst (λ (s : SinkState). Appends before.held s.held p.text) (sym same) p.gains.appends);
-}
+    → PutsAdded before between [] was → LeavesSink between after → all ≡ was ++ more → Gains before.held after.held (take (length was) all)
+gains_front before between after was all more p left e =
+    let gained : Gains before.held after.held p.text = gains_keeps p.gains left.held in
+    record { appends = subst (Appends before.held after.held) (front was all p.text more p.is e) gained.appends }
+
+pub still_added : {a b c : SinkState} {was now : List ℕ} → PutsAdded a b was now → LeavesSink b c → PutsAdded a c was now
+still_added first left = record { text = first.text; is = first.is; gains = gains_keeps first.gains left.held }
+
+held_added : {a b c : SinkState} {was now : List ℕ} → PutsAdded a b was now → Keeps b.held c.held → PutsAdded a c was now
+held_added first same = record { text = first.text; is = first.is; gains = gains_keeps first.gains same }
 
 gains_part : (before after : SinkState) (now all more : List ℕ)
     → PutsPart before after [] now → all ≡ now ++ more → GainsPart before.held after.held all
@@ -176,6 +182,21 @@ module _ (tables : Tables) where
         breaks_at before (then_errors between errors) (with_errors report comes.now) (with_errors report comes.now) since rest rest comes.follows.left
         (puts_whole comes.follows.output) (then_puts_part comes.follows.errors put)
 
+    -- a run that is over, whose outputs could not be settled
+    pub run_unsettled : (before between after : CallStreams) (ending : Ending) (report : List ℕ)
+        → ComesToEnd tables launch before between ending report
+        → HoldsBoth between after → BreaksRun input seen (streams_of before) (streams_of after)
+    run_unsettled before between after ending report comes holds =
+        let there : outside_at (at comes.count) ≡ with_errors report comes.now = ap outside_at comes.is in
+        let since : ExtendsOutside (outside_of input) (with_errors report comes.now) = subst (ExtendsOutside (outside_of input)) there
+        (since_start comes.count) in
+        let rest : ExtendsOutside (with_errors report comes.now) seen.outside = subst (λ (o : Outside). ExtendsOutside o seen.outside) there
+        (until_end comes.count) in
+        let none : PutsPart after.errors after.errors comes.now.errors (comes.now.errors ++ report)
+        = record { text = report; is = refl; gains = part_nothing after.errors.held report } in
+        breaks_at before after (with_errors report comes.now) (with_errors report comes.now) since rest rest (holds.left ∙ comes.follows.left)
+        (puts_whole (held_added comes.follows.output holds.output)) (then_puts_part (held_added comes.follows.errors holds.errors) none)
+
     module _ (n : ℕ) (before between after : CallStreams) (f : Follows before between (outside_of input) (outside_at (at n))) where
       -- a step that was broken off as it read
       pub run_breaks_reading : Step.BreaksReading (at (suc n)) (outside_at (at n)) between after → BreaksRunReading seen (streams_of before) (streams_of after)
@@ -207,12 +228,10 @@ module _ (tables : Tables) where
           (next_until_end n (outside_at (at n)))
           (b.left ∙ f.left) (then_puts_part f.output b.output) (then_puts_part f.errors b.errors)
 
-      from_idle : after ≡ between → BreaksRun input seen (streams_of before) (streams_of after)
+      from_idle : LeavesStreams between after → BreaksRun input seen (streams_of before) (streams_of after)
       from_idle e =
-          let g : Follows before after (outside_of input) (outside_at (at n)) =
-          subst (λ (h : CallStreams). Follows before h (outside_of input) (outside_at (at n))) (sym e) f in
-          breaks_at before after (outside_at (at n)) (outside_at (at n)) (since_start n) (until_end n) (until_end n) g.left (puts_whole g.output)
-          (puts_whole g.errors)
+          breaks_at before after (outside_at (at n)) (outside_at (at n)) (since_start n) (until_end n) (until_end n) (e.left ∙ f.left)
+          (puts_whole (still_added f.output e.output)) (puts_whole (still_added f.errors e.errors))
 
       from_behind : Follows between after (outside_at (at n)) (outside_in (outside_at (at n)) (at (suc n)))
           → BreaksRun input seen (streams_of before) (streams_of after)

@@ -10,3 +10,4 @@ mod RecordNumbers
 mod RunAnswers
 mod Starts
 mod EndsAtStart
+pub mod SettledEnds

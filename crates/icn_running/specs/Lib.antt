@@ -5,3 +5,4 @@ pub mod DueInstructions
 pub mod PlainValues
 pub mod Reported
 pub mod Runs
+pub mod SettledEnds

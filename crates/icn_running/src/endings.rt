@@ -1,5 +1,5 @@
 // The end of a run: its report, and what is answered.
-ghost use Rattle.std.specs.Prelude.{◌≡◌, IfErr, IfOk, IfSome, false};
+ghost use Rattle.std.specs.Prelude.{◌≡◌, IfErr, IfOk, IfSome, OnOk, false};
 ghost use Rattle.std.specs.Option.{option_map};
 ghost use Rattle.icn_value.specs.Store.{Heap as HeapSeen};
 ghost use Rattle.icn_defs.specs.Errors.{error_report};
@@ -29,7 +29,8 @@ use std::alloc::Global;
 
 // Puts the report of an ending on the error output, and answers the ending.
 fn put_report<E: Sink>(ending: Ending, report: &[u8], err: &mut E) -> Result<Ending, RunFault>
-    ensures { AnswersEnd (ending_seen ending) report.now result (E.state err.old) (E.state err.new) }
+    ensures answers { AnswersEnd (ending_seen ending) report.now result (E.state err.old) (E.state err.new) }
+    ensures settled { OnOk result (E.pending err.new ≡ 0) }
 {
     put_line(report, err)?;
     Ok(ending)
@@ -45,9 +46,10 @@ fn put_error<E: Sink>(
     err: &mut E,
 ) -> Result<Ending, RunFault>
     requires live { IfSome offending (IsLive (extent_of heap.now)) }
-    ensures { AnswersEnd (Errored number) (error_report (all_names (tables_of code.now))
+    ensures answers { AnswersEnd (Errored number) (error_report (all_names (tables_of code.now))
         (heap_of heap.now) number (option_map (value_in (extent_of heap.now)) offending))
         result (E.state err.old) (E.state err.new) }
+    ensures settled { OnOk result (E.pending err.new ≡ 0) }
 {
     let report = error_report(alloc, code, heap, number, offending)?;
     put_report(Ending::Errored(number), &report, err)
@@ -62,8 +64,9 @@ fn end_halted<E: Sink>(
     err: &mut E,
 ) -> Result<Ending, RunFault>
     requires { IsAboutLive (extent_of heap.now) halt }
-    ensures { AnswersHalt (all_names (tables_of code.now)) (heap_of heap.now) (extent_of heap.now) halt result
-        (E.state err.old) (E.state err.new) }
+    ensures answers { AnswersHalt (all_names (tables_of code.now)) (heap_of heap.now) (extent_of heap.now)
+        halt result (E.state err.old) (E.state err.new) }
+    ensures settled { E.pending err.old ≡ 0 → OnOk result (E.pending err.new ≡ 0) }
 {
     match halt {
         Halt::Error(number, offending) => put_error(alloc, code, heap, number, offending, err),
@@ -77,7 +80,8 @@ fn end_halted<E: Sink>(
 // Answers what a run came to that is finished or stands at its bound, and puts its report.
 fn end_stopped<E: Sink>(stepped: AfterStep, err: &mut E) -> Result<Ending, RunFault>
     requires { is_on stepped ≡ false }
-    ensures { AnswersStop stepped result (E.state err.old) (E.state err.new) }
+    ensures answers { AnswersStop stepped result (E.state err.old) (E.state err.new) }
+    ensures settled { E.pending err.old ≡ 0 → OnOk result (E.pending err.new ≡ 0) }
 {
     match stepped {
         AfterStep::Running => unreachable!(),
@@ -100,8 +104,9 @@ pub fn end_run<K: Stack<Cell> + Drop, E: Sink>(
 ) -> Result<Ending, RunFault>
     requires stops { IfOk stopped (λ stepped. is_on stepped ≡ false) }
     requires halt { IfErr stopped (IsLiveHalt (world_reach m.now)) }
-    ensures { AnswersMachine (all_names (tables_of code.now)) m.now stopped result (E.state err.old)
+    ensures answers { AnswersMachine (all_names (tables_of code.now)) m.now stopped result (E.state err.old)
         (E.state err.new) }
+    ensures settled { E.pending err.old ≡ 0 → OnOk result (E.pending err.new ≡ 0) }
 {
     match stopped {
         Ok(stepped) => end_stopped(stepped, err),
@@ -123,8 +128,9 @@ pub fn end_unbegun<E: Sink>(
     err: &mut E,
 ) -> Result<Ending, RunFault>
     requires { IsUnbegun halt }
-    ensures { (heap : HeapSeen) → AnswersUnbegun (all_names (tables_of code.now)) heap halt result
+    ensures answers { (heap : HeapSeen) → AnswersUnbegun (all_names (tables_of code.now)) heap halt result
         (E.state err.old) (E.state err.new) }
+    ensures settled { E.pending err.old ≡ 0 → OnOk result (E.pending err.new ≡ 0) }
 {
     let heap = Heap::new(alloc, limits)?;
     end_halted(alloc, code, &heap, halt, err)

@@ -1,5 +1,5 @@
 // A run, from its start to its end.
-ghost use Rattle.std.specs.Prelude.{◌≡◌, List, Some, ℕ, IfErr, IfOk};
+ghost use Rattle.std.specs.Prelude.{◌≡◌, List, Some, ℕ, IfErr, IfOk, OnOk};
 ghost use Rattle.icn_value.specs.Store.{outside_of};
 ghost use Rattle.icn_code.specs.CodeTables.{tables_of};
 ghost use Rattle.icn_streams.specs.Handed.{call_streams};
@@ -13,6 +13,7 @@ ghost use Rattle.icn_running.specs.Runs.{AnswersRuns, EndsAtFirst, IsBrokenOff, 
 use crate::endings::{end_run, end_unbegun};
 use crate::fault::RunFault;
 use crate::running::run_on;
+use crate::settling::{is_broken, settle_outputs};
 use crate::verified_run_laws::runs_hold;
 use icn_control::Machine;
 use icn_defs::Ending;
@@ -52,6 +53,8 @@ pub fn run<K: Stack<Cell> + Drop, I: Source, O: Sink, E: Sink>(
         (call_streams (I.left input.new) (I.faults input.new) (O.state out.new) (E.state err.new)) }
     ensures reported { IfOk result (λ ending. (left : List ℕ) → I.left input.old ≡ Some left
         → PutsReport (ending_seen ending) (E.state err.old) (E.state err.new)) }
+    ensures settled { O.pending out.old ≡ 0 → E.pending err.old ≡ 0
+        → OnOk result ((O.pending out.new ≡ 0) × (E.pending err.new ≡ 0)) }
 {
     runs_hold();
     match start::<K>(alloc, code.code(), words, limits) {
@@ -77,6 +80,7 @@ fn run_started<K: Stack<Cell> + Drop, I: Source, O: Sink, E: Sink>(
     ensures first_fault { EndsAtFirst result
         (call_streams (I.left input.old) (I.faults input.old) (O.state out.old) (E.state err.old))
         (call_streams (I.left input.new) (I.faults input.new) (O.state out.new) (E.state err.new)) }
+    ensures settled { OnOk result ((O.pending out.new ≡ 0) × (E.pending err.new ≡ 0)) }
 {
     runs_hold();
     let mut rooms = Rooms {
@@ -85,5 +89,9 @@ fn run_started<K: Stack<Cell> + Drop, I: Source, O: Sink, E: Sink>(
         buffer: Vec::new(alloc),
     };
     let stopped = run_on(m, code, &mut rooms, input, out, err);
+    if is_broken(&stopped) {
+        return end_run(alloc, code.code(), m, stopped, err);
+    }
+    settle_outputs(out, err)?;
     end_run(alloc, code.code(), m, stopped, err)
 }

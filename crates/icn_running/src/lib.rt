@@ -7,6 +7,7 @@ mod launching;
 mod names;
 mod report;
 mod running;
+mod settling;
 mod shown;
 mod verified_run_laws;
 

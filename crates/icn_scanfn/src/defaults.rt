@@ -10,7 +10,7 @@ use icn_heap::short_text;
 use icn_value::{Cset, Val};
 use icn_vars::World;
 
-// The first position in a text: `&pos` where that text is null, else 1.
+/// The first position in a text: `&pos` where that text is null, else 1.
 pub fn first_position(w: &World, text: Val) -> Val
     ensures value { (all : Extent) → value_in all result
         ≡ Integer (pos (if is_null (value_in all text) then w.now.pair.position else 1)) }
@@ -23,7 +23,7 @@ pub fn first_position(w: &World, text: Val) -> Val
     }
 }
 
-// A value, or the cset of all bytes where it is null.
+/// A value, or the cset of all bytes where it is null.
 pub fn or_all_bytes(val: Val) -> Val
     ensures value { (all : Extent)
         → value_in all result ≡ value_or (Chars (members (λ byte. true))) (value_in all val) }
@@ -35,7 +35,7 @@ pub fn or_all_bytes(val: Val) -> Val
     }
 }
 
-// A value, or the cset of the bracket that opens where it is null.
+/// A value, or the cset of the bracket that opens where it is null.
 pub fn or_opening(val: Val) -> Val
     ensures value { (all : Extent) → value_in all result ≡ value_or (Chars (codes "(")) (value_in all val) }
     ensures live { (all : Extent) → IsLive all val → IsLive all result }
@@ -46,7 +46,7 @@ pub fn or_opening(val: Val) -> Val
     }
 }
 
-// A value, or the cset of the bracket that closes where it is null.
+/// A value, or the cset of the bracket that closes where it is null.
 pub fn or_closing(val: Val) -> Val
     ensures value { (all : Extent) → value_in all result ≡ value_or (Chars (codes ")")) (value_in all val) }
     ensures live { (all : Extent) → IsLive all val → IsLive all result }

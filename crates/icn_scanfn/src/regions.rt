@@ -44,8 +44,8 @@ pub struct Searched {
     pub last: i64,
 }
 
-// The arguments from this one on as a text and two positions. The text is `&subject` where it is null, and then the first position
-// is `&pos` where that is null, else 1; the second is 0 where it is null. The errors are 103 and 101.
+/// The arguments from this one on as a text and two positions. The text is `&subject` where it is null, and then the first
+/// position is `&pos` where that is null, else 1; the second is 0 where it is null. The errors are 103 and 101.
 pub fn region_from(w: &World, args: &[Val], place: usize) -> Result<Given, Stop>
     requires args { All (IsLive (extent_of w.now.heap)) args.now }
     requires place { place < 2 ^ 32 }
@@ -68,7 +68,7 @@ pub fn region_from(w: &World, args: &[Val], place: usize) -> Result<Given, Stop>
     Ok(Given { val, first, last })
 }
 
-// The same, once the text is charged. Further errors are 306 and want of memory.
+/// The same, once the text is charged. Further errors are 306 and want of memory.
 #[tactic(auto, using(icn_vars::proofs::KeptItems::keeps_items_refl))]
 pub fn charged_region<L: Locals>(
     w: &mut World,
@@ -98,7 +98,7 @@ pub fn charged_region<L: Locals>(
     })
 }
 
-// The places that the two positions mean, the smaller first, or none where one is out of range.
+/// The places that the two positions mean, the smaller first, or none where one is out of range.
 pub fn ends_of(heap: &Heap, searched: Searched) -> Option<(u64, u64)>
     requires { IsText (extent_of heap.now) searched.text }
     ensures ends { (next : ℕ × ℕ → Row) (setting : Setting)

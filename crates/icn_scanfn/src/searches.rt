@@ -16,7 +16,7 @@ use icn_args::{arg, check_text, cset_of, texts_of};
 use icn_value::{Cset, Span, Val};
 use icn_vars::{Locals, Stop, World};
 
-// A cset, and a text with two positions. The errors are 104, 103, 101, 306 and want of memory.
+/// A cset, and a text with two positions. The errors are 104, 103, 101, 306 and want of memory.
 #[tactic(auto, using(icn_vars::proofs::KeptItems::keeps_items_refl))]
 pub fn cset_search<L: Locals>(w: &mut World, l: &L, args: &[Val]) -> Result<(Cset, Searched), Stop>
     requires locals { All (IsLive (extent_of w.old.heap)) (L.items l.now) }
@@ -35,7 +35,7 @@ pub fn cset_search<L: Locals>(w: &mut World, l: &L, args: &[Val]) -> Result<(Cse
     Ok((wanted, searched))
 }
 
-// A text, and another one with two positions. The errors are 103, 101, 306 and want of memory.
+/// A text, and another one with two positions. The errors are 103, 101, 306 and want of memory.
 #[tactic(auto, using(icn_vars::proofs::KeptItems::keeps_items_refl))]
 pub fn text_search<L: Locals>(w: &mut World, l: &L, args: &[Val]) -> Result<(Span, Searched), Stop>
     requires locals { All (IsLive (extent_of w.old.heap)) (L.items l.now) }

@@ -5,3 +5,4 @@ pub mod NextRead
 pub mod SomeInput
 pub mod ReadRows
 pub mod RowAnswers
+pub mod SettledRows

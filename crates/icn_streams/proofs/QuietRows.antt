@@ -1,5 +1,5 @@
 -- A row that neither reads nor puts, as one over the input and the outputs.
-use Rattle.std.proofs.Common.{◌≡◌, refl, sym, ap, List, [], Result, Ok, Err, Some}
+use Rattle.std.proofs.Common.{◌≡◌, sym, ap, List, [], Result, Ok, Err, Some}
 use Rattle.std.specs.List.{All}
 use Rattle.icn_value.specs.Store.{Outside, outside_of}
 use Rattle.icn_defs.specs.Rows.{Row}
@@ -16,7 +16,7 @@ use Rattle.icn_streams.specs.Handed.{CallStreams, uncounted}
 use Rattle.icn_streams.specs.Answers.{Answers, CausedBy, call_state, idle}
 use Rattle.icn_streams.specs.Applies.{Applies}
 use Rattle.icn_streams.proofs.CallSequences.{follows_all}
-use Rattle.icn_streams.proofs.IdleCalls.{keeps_all_counts_refl}
+use Rattle.icn_streams.proofs.IdleCalls.{keeps_all_counts_refl, leaves_streams_refl}
 
 module _ (row : Row) (old new : World) (locals locals' : List Val) (handed : CallStreams) where
   answers_by : (result : Result Outcome Halt)
@@ -28,7 +28,7 @@ module _ (row : Row) (old new : World) (locals locals' : List Val) (handed : Cal
   answers_by (Err (EndsHalt status)) row streams was told = record { now = was; follows = follows_all streams was told; comes = row was }
   answers_by (Err ReadFault) row streams was told = absurd (row was)
   answers_by (Err WriteFault) row streams was told = absurd (row was)
-  answers_by (Err NoMemory) row streams was told = idle refl
+  answers_by (Err NoMemory) row streams was told = idle (leaves_streams_refl _)
 
   caused_by : (result : Result Outcome Halt)
       → ((outside : Outside) → ComesToAnswer (extent_of new.heap) row (setting_of outside old locals) (setting_of outside new locals') result)

@@ -24,7 +24,7 @@ use Rattle.icn_streams.specs.Answers.{Answers, CausedBy, call_state, outside_aft
 use Rattle.icn_streams.specs.Applies.{Applies}
 use Rattle.icn_streams.specs.Readings.{InputCause, Reads, ReadsOfSome, next_read}
 use Rattle.icn_host.proofs.SinkSteps.{gains_nothing}
-use Rattle.icn_streams.proofs.IdleCalls.{keeps_counts_refl}
+use Rattle.icn_streams.proofs.IdleCalls.{keeps_counts_refl, leaves_sink_refl}
 
 -- Behind the reading nothing more is read or put.
 pub record IsQuiet (next : List ℕ → Row) : Type 0 where
@@ -77,15 +77,27 @@ module _ (asked : Request) (next : List ℕ → Row) (quiet : IsQuiet next) (old
   halted tells tells' was (ErrorHalt number offending) reads =
       record { now = after_reading asked was; follows = was_read tells tells' was (after_reading asked was) reads.1 refl refl; comes = reads.0 next }
   halted tells tells' was (EndsHalt status) reads = absurd reads
-  halted tells tells' was ReadFault reads = record { asked = asked; made = reads_once asked next quiet _; left = reads; output = refl; errors = refl }
+  halted tells tells' was ReadFault reads = record {
+    asked = asked;
+    made = reads_once asked next quiet _;
+    left = reads;
+    output = leaves_sink_refl output;
+    errors = leaves_sink_refl errors;
+  }
   halted tells tells' was WriteFault reads = absurd reads
-  halted tells tells' was NoMemory reads = reading (record { asked = asked; made = reads_once asked next quiet _; left = reads; output = refl; errors = refl })
+  halted tells tells' was NoMemory reads = reading (record {
+    asked = asked;
+    made = reads_once asked next quiet _;
+    left = reads;
+    output = leaves_sink_refl output;
+    errors = leaves_sink_refl errors;
+  })
 
   halt_caused : (halt : Halt) → InputCause faults faults' (Err halt)
       → CausedBy (Err halt) (call_streams left faults output errors) (call_streams left' faults' output errors)
   halt_caused (ErrorHalt number offending) cause = record { faults = cause; output = keeps_counts_refl output; errors = keeps_counts_refl errors }
   halt_caused (EndsHalt status) cause = absurd cause
-  halt_caused ReadFault cause = record { faults = cause; output = refl; errors = refl }
+  halt_caused ReadFault cause = record { faults = cause; output = leaves_sink_refl output; errors = leaves_sink_refl errors }
   halt_caused WriteFault cause = absurd cause
   halt_caused NoMemory cause = uncounted (record { faults = cause; output = keeps_counts_refl output; errors = keeps_counts_refl errors })
 

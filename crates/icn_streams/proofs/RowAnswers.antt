@@ -1,5 +1,5 @@
 -- A row that goes on as another one, and a row that stops where a thing is looked for.
-use Rattle.std.proofs.Common.{◌≡◌, ◌∙◌, refl, sym, ap, subst, [], Some, Result, Ok, Err}
+use Rattle.std.proofs.Common.{◌≡◌, ◌∙◌, sym, ap, subst, [], Some, Result, Ok, Err}
 use Rattle.std.specs.Prelude.{IsErrAnd}
 use Rattle.std.specs.List.{All}
 use Rattle.icn_value.specs.Store.{Outside, Setting}
@@ -16,7 +16,7 @@ use Rattle.icn_streams.specs.Handed.{CallStreams, PutsPart, uncounted}
 use Rattle.icn_streams.specs.Answers.{Answers, CallState, Stops, StopsPutting, StopsReading, idle, outside_after, putting, reading, setting_with, with_left}
 use Rattle.icn_streams.specs.Applies.{Applies, reach_given}
 use Rattle.icn_streams.proofs.CallSequences.{follows_all}
-use Rattle.icn_streams.proofs.IdleCalls.{keeps_all_counts_refl, keeps_items_refl}
+use Rattle.icn_streams.proofs.IdleCalls.{keeps_all_counts_refl, keeps_items_refl, leaves_streams_refl}
 
 -- A row that is another one here
 
@@ -88,8 +88,8 @@ stopped find next all (ErrorStop number offending) stops live lives = record {
   kept = keeps_items_refl (reach_given all);
 }
 stopped find next all NoMemoryStop stops live lives = record {
-  answers = λ was told. idle refl;
-  meant = record { had = []; has = []; answers = λ was is. idle refl };
+  answers = λ was told. idle (leaves_streams_refl _);
+  meant = record { had = []; has = []; answers = λ was is. idle (leaves_streams_refl _) };
   caused = uncounted (keeps_all_counts_refl all.handed);
   live = tt;
   locals = lives;

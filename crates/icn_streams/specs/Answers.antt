@@ -11,7 +11,7 @@ use Rattle.icn_vars.specs.declared.outcome.Outcome.{Outcome as HeldOutcome}
 use Rattle.icn_vars.specs.declared.outcome.Halt.{Halt}
 use Rattle.icn_vars.specs.declared.outcome.Halt.TheVariants.{Error as ErrorHalt, Ends as EndsHalt, ReadFault, WriteFault, NoMemory}
 use Rattle.icn_vars.specs.declared.world.World.{World}
-use Rattle.icn_streams.specs.Handed.{CallStreams, Follows, PutsPart, KeepsAllCounts, ReadingFails, WritingFails, WantsMemory}
+use Rattle.icn_streams.specs.Handed.{CallStreams, Follows, LeavesSink, LeavesStreams, PutsPart, KeepsAllCounts, ReadingFails, WritingFails, WantsMemory}
 
 -- what a call is given beside its arguments: the world, the locals, the input and the outputs
 pub record CallState : Type 0 where
@@ -53,8 +53,8 @@ pub record StopsReading (row : Row) (at : Setting) (before after : CallStreams) 
   pub asked : Request
   pub made : (outside_after (row at)).readings ≡ (with_reading asked at.outside).readings
   pub left : LosesPart at.outside.left (asked_of asked at.outside.left) after.left
-  pub output : after.output ≡ before.output
-  pub errors : after.errors ≡ before.errors
+  pub output : LeavesSink before.output after.output
+  pub errors : LeavesSink before.errors after.errors
 
 -- The row was broken off as it put: each output has gained some first part of what the row puts there, and the
 -- input is as it was.
@@ -65,7 +65,7 @@ pub record StopsPutting (row : Row) (at : Setting) (before after : CallStreams) 
 
 -- The row was broken off before it read or put anything, or as it read, or as it put.
 pub data Stops (row : Row) (at : Setting) (before after : CallStreams) : Type 0 where
-  idle : after ≡ before → Stops row at before after
+  idle : LeavesStreams before after → Stops row at before after
   reading : StopsReading row at before after → Stops row at before after
   putting : StopsPutting row at before after → Stops row at before after
 

@@ -1,5 +1,6 @@
 -- What the input and the outputs tell that a call is handed, and how they follow the outside.
 use Rattle.std.specs.Prelude.{◌≡◌, ℕ, List, ◌++◌, Option, Some}
+use Rattle.std.specs.Io.KnownBytes.{Keeps}
 use Rattle.icn_host.specs.Counts.{one_more}
 use Rattle.icn_host.specs.Sinks.{SinkState, Gains, GainsPart}
 use Rattle.icn_value.specs.Store.{Outside}
@@ -59,11 +60,23 @@ pub record KeepsAllCounts (before after : CallStreams) : Type 0 where
   pub output : KeepsFaultCounts before.output after.output
   pub errors : KeepsFaultCounts before.errors after.errors
 
--- the input has failed, once, and the outputs were left alone
+-- a sink holds what it held, and has neither failed nor wanted memory: at most, what was pending was settled
+pub record LeavesSink (before after : SinkState) : Type 0 where
+  pub held : Keeps before.held after.held
+  pub counts : KeepsFaultCounts before after
+
+-- nothing was read, put or failed
+pub record LeavesStreams (before after : CallStreams) : Type 0 where
+  pub left : after.left ≡ before.left
+  pub faults : after.faults ≡ before.faults
+  pub output : LeavesSink before.output after.output
+  pub errors : LeavesSink before.errors after.errors
+
+-- the input has failed, once, and nothing was put
 pub record ReadingFails (before after : CallStreams) : Type 0 where
   pub faults : after.faults ≡ one_more before.faults
-  pub output : after.output ≡ before.output
-  pub errors : after.errors ≡ before.errors
+  pub output : LeavesSink before.output after.output
+  pub errors : LeavesSink before.errors after.errors
 
 -- the input was left alone, and one of the outputs has failed, once
 pub data WritingFails (before after : CallStreams) : Type 0 where

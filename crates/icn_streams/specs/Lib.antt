@@ -2,3 +2,4 @@ pub mod Handed
 pub mod Answers
 pub mod Applies
 pub mod Readings
+pub mod Settling

@@ -5,7 +5,9 @@ mod ask;
 mod filling;
 mod lines;
 mod reading;
+mod settling;
 
 pub use ask::Ask;
 pub use lines::{lines_again, lines_row};
 pub use reading::read_text;
+pub use settling::settle;

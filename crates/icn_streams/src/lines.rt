@@ -9,40 +9,66 @@ ghost use Rattle.icn_heap.specs.Keys.{file_of};
 ghost use Rattle.icn_streams.specs.Answers.{call_state};
 ghost use Rattle.icn_streams.specs.Applies.{Applies};
 ghost use Rattle.icn_streams.specs.Handed.{call_streams};
+ghost use Rattle.icn_streams.specs.Settling.{IsSettled, IsSettledWhereRead};
 
 use crate::ask::Ask;
 use crate::reading::read_text;
-use icn_host::Source;
+use crate::settling::settle;
+use icn_host::{Sink, Source};
 use icn_value::{File, Item, Residual, Val};
 use icn_vars::{Halt, Locals, Outcome, World};
 
 /// `!f`: the first line of a file, and then the others. The error is 212 where the file is not the input, and else those of
 /// `lines_again`.
-pub fn lines_row<L: Locals, I: Source>(
+pub fn lines_row<L: Locals, I: Source, O: Sink, E: Sink>(
     file: File,
     w: &mut World,
     l: &L,
     buffer: &mut Vec<u8>,
     input: &mut I,
+    out: &mut O,
+    err: &mut E,
 ) -> Result<Outcome, Halt>
     requires { All (IsLive (extent_of w.old.heap)) (L.items l.now) }
-    ensures { (output errors : SinkState) → Applies (rows.lines_row (file_of file)) (call_state w.old
-        (L.items l.now) (call_streams (I.left input.old) (I.faults input.old) output errors))
+    ensures row { Applies (rows.lines_row (file_of file)) (call_state w.old (L.items l.now)
+        (call_streams (I.left input.old) (I.faults input.old) (O.state out.old) (E.state err.old)))
         (call_state w.new (L.items l.now)
-        (call_streams (I.left input.new) (I.faults input.new) output errors)) result }
+        (call_streams (I.left input.new) (I.faults input.new) (O.state out.new) (E.state err.new))) result }
+    ensures settled { IsSettledWhereRead result (O.pending out.new) (E.pending err.new) }
 {
     match file {
-        File::Input => lines_again(w, l, buffer, input),
+        File::Input => lines_again(w, l, buffer, input, out, err),
         _ => Err(Halt::Error(212, Some(Val::Std(file)))),
     }
 }
 
-/// The next line of the input. It fails at the end. The buffer is room for the line.
+/// The next line of the input, once both outputs are settled. It fails at the end. The buffer is room for the line.
 ///
 /// # Errors
 ///
-/// `Error` is 306. `ReadFault` where the input failed in this call, `NoMemory` where memory ran out.
-pub fn lines_again<L: Locals, I: Source>(
+/// `Error` is 306. `ReadFault` where the input failed in this call, `WriteFault` where an output did, `NoMemory` where memory ran
+/// out.
+pub fn lines_again<L: Locals, I: Source, O: Sink, E: Sink>(
+    w: &mut World,
+    l: &L,
+    buffer: &mut Vec<u8>,
+    input: &mut I,
+    out: &mut O,
+    err: &mut E,
+) -> Result<Outcome, Halt>
+    requires { All (IsLive (extent_of w.old.heap)) (L.items l.now) }
+    ensures row { Applies rows.lines_again (call_state w.old (L.items l.now)
+        (call_streams (I.left input.old) (I.faults input.old) (O.state out.old) (E.state err.old)))
+        (call_state w.new (L.items l.now)
+        (call_streams (I.left input.new) (I.faults input.new) (O.state out.new) (E.state err.new))) result }
+    ensures settled { IsSettled result (O.pending out.new) (E.pending err.new) }
+{
+    settle(out, err)?;
+    next_line(w, l, buffer, input)
+}
+
+// The next line of the input.
+fn next_line<L: Locals, I: Source>(
     w: &mut World,
     l: &L,
     buffer: &mut Vec<u8>,

@@ -49,7 +49,8 @@ pub fn first<N: Names, L: Locals>(
     Ok(outcome)
 }
 
-/// Resumes what a function of this crate left, which is a sequence.
+/// Resumes what a function of this crate left, which is a sequence. The error is 203 where 64 bits do not hold the next
+/// integer.
 pub fn again<L: Locals>(rest: Residual, w: &World, l: &L) -> Result<Outcome, Halt>
     requires { is_sequence rest ≡ true }
     ensures row { Answers w.now (L.items l.now) w.now (L.items l.now)

@@ -7,7 +7,7 @@ ghost use Rattle.icn_heap.specs.Extents.{Extent, IsLive, value_in};
 
 use icn_value::{Cset, Val};
 
-// A value, or 1 where it is null.
+/// A value, or 1 where it is null.
 pub fn or_one(val: Val) -> Val
     ensures value { (all : Extent) → value_in all result ≡ value_or one (value_in all val) }
     ensures live { (all : Extent) → IsLive all val → IsLive all result }
@@ -18,7 +18,7 @@ pub fn or_one(val: Val) -> Val
     }
 }
 
-// A value, or the cset of a blank where it is null.
+/// A value, or the cset of a blank where it is null.
 pub fn or_blank(val: Val) -> Val
     ensures value { (all : Extent) → value_in all result ≡ value_or (Chars (codes " ")) (value_in all val) }
     ensures live { (all : Extent) → IsLive all val → IsLive all result }

@@ -15,7 +15,7 @@ use icn_heap::Heap;
 use icn_value::{Item, Span, Val};
 use icn_vars::{Locals, Outcome, Stop, World};
 
-// A new text of these bytes, which is charged. The errors are 306 and want of memory.
+/// A new text of these bytes, which is charged. The errors are 306 and want of memory.
 pub fn build_text<L: Locals>(w: &mut World, l: &L, bytes: &[u8]) -> Result<Outcome, Stop>
     requires { All (IsLive (extent_of w.old.heap)) (L.items l.now) }
     ensures row { Gives w.old w.new (L.items l.now) (builds bytes.now) result }
@@ -27,7 +27,7 @@ pub fn build_text<L: Locals>(w: &mut World, l: &L, bytes: &[u8]) -> Result<Outco
     Ok(text(span))
 }
 
-// Whether so many bytes more may not be charged. A text that is longer needs not be made to be refused.
+/// Whether so many bytes more may not be charged. A text that is longer needs not be made to be refused.
 pub fn lacks_room(heap: &Heap, bytes: u64) -> bool
     ensures { MatchBool result ((heap_of heap.now).bounds.strings < (heap_of heap.now).strings + bytes) ⊤ }
 {
@@ -37,7 +37,7 @@ pub fn lacks_room(heap: &Heap, bytes: u64) -> bool
     }
 }
 
-// A text of these bytes, which costs nothing. The error is want of memory.
+/// A text of these bytes, which costs nothing. The error is want of memory.
 #[tactic(auto, using(icn_vars::proofs::GrowingWorlds::grows, icn_vars::proofs::GrowingWorlds::locals_grow))]
 pub fn hold_text<L: Locals>(w: &mut World, l: &L, bytes: &[u8]) -> Result<Outcome, Stop>
     requires { All (IsLive (extent_of w.old.heap)) (L.items l.now) }
@@ -50,13 +50,14 @@ pub fn hold_text<L: Locals>(w: &mut World, l: &L, bytes: &[u8]) -> Result<Outcom
     Ok(text(span))
 }
 
-// A byte as an integer.
+/// A byte as an integer.
 pub fn byte_given(byte: u8) -> Outcome
     ensures { result ≡ Outcome.Gives (ValItem (IntegerVal (pos byte))) }
 {
     Outcome::Gives(Item::Val(Val::Integer(i64::from(byte))))
 }
 
+/// The row gives this text.
 pub fn text(span: Span) -> Outcome
     ensures { result ≡ Outcome.Gives (ValItem (TextVal span)) }
 {

@@ -6,7 +6,7 @@ ghost use Rattle.icn_defs.specs.Strings.{center_text, left_text, right_text};
 use crate::filling::{push_copies, push_filled_left, push_filled_right};
 use std::alloc::{AllocError, Global};
 
-// A text at the left end of a field of so many bytes.
+/// A text at the left end of a field of so many bytes. `AllocError` is want of memory.
 pub fn left(alloc: Global, text: &[u8], width: usize, fill: &[u8]) -> Result<Vec<u8>, AllocError>
     ensures { IfOk result (λ made. made.items ≡ left_text text.now width fill.now) }
 {
@@ -16,7 +16,7 @@ pub fn left(alloc: Global, text: &[u8], width: usize, fill: &[u8]) -> Result<Vec
     Ok(out)
 }
 
-// A text at the right end of a field of so many bytes.
+/// A text at the right end of a field of so many bytes. `AllocError` is want of memory.
 pub fn right(alloc: Global, text: &[u8], width: usize, fill: &[u8]) -> Result<Vec<u8>, AllocError>
     ensures { IfOk result (λ made. made.items ≡ right_text text.now width fill.now) }
 {
@@ -26,7 +26,7 @@ pub fn right(alloc: Global, text: &[u8], width: usize, fill: &[u8]) -> Result<Ve
     Ok(out)
 }
 
-// A text in the middle of a field of so many bytes.
+/// A text in the middle of a field of so many bytes. `AllocError` is want of memory.
 pub fn center(alloc: Global, text: &[u8], width: usize, fill: &[u8]) -> Result<Vec<u8>, AllocError>
     ensures { IfOk result (λ made. made.items ≡ center_text text.now width fill.now) }
 {
@@ -46,7 +46,7 @@ fn push_front(out: &mut Vec<u8>, text: &[u8], count: usize) -> Result<(), AllocE
     out.extend_from_slice(&text[..count.min(text.len())])
 }
 
-// A text so many times.
+/// A text so many times. `AllocError` is want of memory.
 pub fn repeat_text(alloc: Global, text: &[u8], count: usize) -> Result<Vec<u8>, AllocError>
     ensures { IfOk result (λ made. made.items ≡ concat (replicate count text.now)) }
 {
@@ -55,7 +55,7 @@ pub fn repeat_text(alloc: Global, text: &[u8], count: usize) -> Result<Vec<u8>, 
     Ok(out)
 }
 
-// A text from its end to its start.
+/// A text from its end to its start. `AllocError` is want of memory.
 pub fn reverse_text(alloc: Global, text: &[u8]) -> Result<Vec<u8>, AllocError>
     ensures { IfOk result (λ made. made.items ≡ reverse text.now) }
 {

@@ -5,7 +5,7 @@ ghost use Rattle.icn_defs.specs.Strings.{filled_left, filled_right, filling};
 
 use std::alloc::AllocError;
 
-// Appends a text so many times.
+/// Appends a text so many times. `AllocError` is want of memory.
 pub fn push_copies(out: &mut Vec<u8>, text: &[u8], count: usize) -> Result<(), AllocError>
     ensures { OnOk result (out.new.items ≡ out.old.items ++ concat (replicate count text.now)) }
 {
@@ -18,7 +18,7 @@ pub fn push_copies(out: &mut Vec<u8>, text: &[u8], count: usize) -> Result<(), A
     Ok(())
 }
 
-// Appends so many bytes of a text put again and again, aligned at the left end.
+/// Appends so many bytes of a text put again and again, aligned at the left end. `AllocError` is want of memory.
 #[tactic(auto, using(crate::proofs::Fillings::filled_from_left))]
 pub fn push_filled_left(out: &mut Vec<u8>, fill: &[u8], count: usize) -> Result<(), AllocError>
     ensures { OnOk result (out.new.items ≡ out.old.items ++ filled_left fill.now count) }
@@ -29,7 +29,7 @@ pub fn push_filled_left(out: &mut Vec<u8>, fill: &[u8], count: usize) -> Result<
     Ok(())
 }
 
-// Appends so many bytes of a text put again and again, aligned at the right end.
+/// Appends so many bytes of a text put again and again, aligned at the right end. `AllocError` is want of memory.
 pub fn push_filled_right(out: &mut Vec<u8>, fill: &[u8], count: usize) -> Result<(), AllocError>
     ensures { OnOk result (out.new.items ≡ out.old.items ++ filled_right fill.now count) }
 {

@@ -143,7 +143,7 @@ pub fn seq_row<L: Locals>(w: &World, l: &L, args: &[Val]) -> Result<Outcome, Sto
     }
 }
 
-/// A sequence goes on by its step; 203 where 64 bits do not hold the next integer.
+/// A sequence goes on by its step. The error is 203 where 64 bits do not hold the next integer.
 pub fn sequence_again(given: i64, step: i64) -> Result<Outcome, Halt>
     ensures row { (all : Extent) (setting : Setting)
         → ComesToAnswer all (sequence_again given step) setting setting result }

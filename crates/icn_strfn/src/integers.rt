@@ -6,14 +6,14 @@ ghost use Rattle.icn_strfn.specs.Checks.{natural_in};
 
 use icn_text::Arith;
 
-// The absolute value, or `Overflow`.
+/// The absolute value. The error is `Overflow`, for the least integer.
 pub fn absolute_value(n: i64) -> Result<i64, Arith>
     ensures { result ≡ within_64_bits (pos (unsigned_abs n)) }
 {
     n.checked_abs().ok_or(Arith::Overflow)
 }
 
-// An integer shifted to the left, or to the right with zeros by a count below 0; 0 from 64 on.
+/// An integer shifted to the left, or to the right with zeros by a count below 0; 0 from 64 on.
 pub fn shift_integer(m: i64, n: i64) -> i64
     ensures { result ≡ shift_by m n }
 {
@@ -23,7 +23,7 @@ pub fn shift_integer(m: i64, n: i64) -> i64
     }
 }
 
-// An integer at or above 0.
+/// An integer at or above 0.
 pub fn natural_number(n: i64) -> Option<u64>
     ensures { result ≡ natural_in n }
 {

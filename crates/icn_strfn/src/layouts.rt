@@ -16,7 +16,7 @@ pub enum Layout {
     Center,
 }
 
-// A text in a field of so many bytes, filled with another text. The error is want of memory.
+/// A text in a field of so many bytes, filled with another text. The error is want of memory.
 pub fn laid_out(
     alloc: Global,
     layout: Layout,

@@ -4,8 +4,8 @@ ghost use Rattle.icn_defs.specs.Strings.{map_byte};
 
 use std::alloc::{AllocError, Global};
 
-// A text whose bytes become others: a byte of the first text the one at its last place, in the second. The error is
-// want of memory.
+/// A text whose bytes become others: a byte of the first text the one at its last place, in the second. The error is
+/// want of memory.
 #[tactic(auto, using(crate::proofs::MappedBytes::same_map))]
 pub fn map_bytes(alloc: Global, text: &[u8], from: &[u8], to: &[u8]) -> Result<Vec<u8>, AllocError>
     ensures { IfOk result (λ made. made.items ≡ map (map_byte from.now to.now) text.now) }

@@ -38,6 +38,7 @@ pub enum TextArgument {
 }
 
 impl DefaultText {
+    /// The text that stands for an argument that is null: a blank, the upper-case or the lower-case letters.
     pub fn bytes(self) -> &'static [u8]
         ensures { result.now ≡ default_bytes self }
     {
@@ -50,6 +51,7 @@ impl DefaultText {
 }
 
 impl TextArgument {
+    /// The bytes of the argument, or of what stands for it.
     pub fn bytes(self, heap: &Heap) -> &[u8]
         requires { IsArgument (extent_of heap.now) self }
         ensures { result.now ≡ argument_bytes (extent_of heap.now) self }
@@ -61,7 +63,7 @@ impl TextArgument {
     }
 }
 
-// Whether a value has no text.
+/// Whether a value has no text.
 pub fn lacks_text(val: Val) -> bool
     ensures { (all : Extent)
         → MatchBool result (text_of (value_in all val) ≡ None) (HasText (value_in all val)) }
@@ -72,7 +74,7 @@ pub fn lacks_text(val: Val) -> bool
     }
 }
 
-// Whether a value that is not null has no text.
+/// Whether a value that is not null has no text.
 pub fn lacks_argument(val: Val, default: DefaultText) -> bool
     ensures text { (all : Extent) → MatchBool result (text_of (or_default default (value_in all val)) ≡ None)
         (HasText (or_default default (value_in all val))) }
@@ -85,7 +87,7 @@ pub fn lacks_argument(val: Val, default: DefaultText) -> bool
     }
 }
 
-// How long the text of a value is, which is not made for this.
+/// How long the text of a value is, which is not made for this.
 pub fn text_len(heap: &Heap, val: Val) -> usize
     requires { IsLive (extent_of heap.now) val }
     ensures { result ≡ length (the_text (value_in (extent_of heap.now) val)) }
@@ -98,7 +100,7 @@ pub fn text_len(heap: &Heap, val: Val) -> usize
     }
 }
 
-// How long the text of an argument is.
+/// How long the text of an argument is.
 pub fn argument_len(heap: &Heap, val: Val, default: DefaultText) -> usize
     requires { IsLive (extent_of heap.now) val }
     ensures { result ≡ length (the_text (or_default default (value_in (extent_of heap.now) val))) }
@@ -109,7 +111,7 @@ pub fn argument_len(heap: &Heap, val: Val, default: DefaultText) -> usize
     }
 }
 
-// The text of an argument that has one. A text that is made is charged. The errors are 306 and want of memory.
+/// The text of an argument that has one. A text that is made is charged. The errors are 306 and want of memory.
 #[tactic(auto, using(icn_vars::proofs::KeptItems::keeps_items_refl))]
 pub fn text_argument<L: Locals>(
     w: &mut World,
@@ -139,7 +141,7 @@ pub fn text_argument<L: Locals>(
     }
 }
 
-// The text of a value and that of an argument, which both have one. The errors are 306 and want of memory.
+/// The text of a value and that of an argument, which both have one. The errors are 306 and want of memory.
 pub fn two_texts<L: Locals>(
     w: &mut World,
     l: &L,

@@ -5,7 +5,7 @@ ghost use Rattle.icn_value.specs.Members.{contains, members_of};
 
 use icn_value::Cset;
 
-// How many bytes of a text are left without those at its end that a cset has.
+/// How many bytes of a text are left without those at its end that a cset has.
 pub fn trimmed_len(text: &[u8], bytes: &Cset) -> usize
     ensures value { result ≡ length text.now - suffix_len (contains (members_of bytes.now)) text.now }
     ensures within { result ≤ length text.now }

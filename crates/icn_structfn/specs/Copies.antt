@@ -46,5 +46,6 @@ set_by value None next = do
   set ← new_set_of []
   next set
 
+-- a set of the elements of a list, or an empty one of null: 108 for other values
 abbrev pub set_of_value : Value → Finds Value
 set_of_value value = set_by value (list_of value)

@@ -20,6 +20,7 @@ use icn_value::{Item, Val};
 use icn_vars::{Halt, Locals, Outcome, Stop, World};
 
 /// `put(L, x, ..)`: adds values at the right of a list, one after the other, which it gives. Without a value it adds null.
+/// The error is 108 about what is no list, or 307 where the limit refuses the charge: then nothing is added.
 pub fn put<L: Locals>(w: &mut World, l: &L, args: &[Val]) -> Result<Outcome, Halt>
     requires locals { All (IsLive (extent_of w.old.heap)) (L.items l.now) }
     requires args { All (IsLive (extent_of w.old.heap)) args.now }
@@ -77,6 +78,7 @@ fn put_each(heap: &mut Heap, list: u32, vals: &[Val]) -> Result<(), Full>
 }
 
 /// `push(L, x, ..)`: adds values at the left of a list, one after the other, which it gives. Without a value it adds null.
+/// The error is 108 about what is no list, or 307 where the limit refuses the charge: then nothing is added.
 pub fn push<L: Locals>(w: &mut World, l: &L, args: &[Val]) -> Result<Outcome, Halt>
     requires locals { All (IsLive (extent_of w.old.heap)) (L.items l.now) }
     requires args { All (IsLive (extent_of w.old.heap)) args.now }

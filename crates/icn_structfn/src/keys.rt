@@ -54,7 +54,8 @@ fn has(heap: &Heap, kept: Val, key: Val) -> Result<Option<bool>, AllocError>
     }
 }
 
-/// `insert(X, x, y)`: puts a member, or a key with its value, into a set or a table, which it gives.
+/// `insert(X, x, y)`: puts a member, or a key with its value, into a set or a table, which it gives. The error is 122 about
+/// what is neither, or 307 where the limit refuses the charge.
 pub fn insert<L: Locals>(w: &mut World, l: &L, args: &[Val]) -> Result<Outcome, Halt>
     requires locals { All (IsLive (extent_of w.old.heap)) (L.items l.now) }
     requires args { All (IsLive (extent_of w.old.heap)) args.now }
@@ -91,7 +92,7 @@ fn insert_into<L: Locals>(w: &mut World, l: &L, kept: Val, key: Val, val: Val) -
     }
 }
 
-/// `delete(X, x)`: takes a member or a key out of a set or a table, which it gives.
+/// `delete(X, x)`: takes a member or a key out of a set or a table, which it gives. The error is 122 about what is neither.
 #[tactic(auto, using(icn_vars::proofs::GrowingWorlds::grows))]
 pub fn delete<L: Locals>(w: &mut World, l: &L, args: &[Val]) -> Result<Outcome, Halt>
     requires locals { All (IsLive (extent_of w.old.heap)) (L.items l.now) }
@@ -119,7 +120,7 @@ fn is_keeper(val: Val) -> bool
     matches!(val, Val::Set(_) | Val::Table(_))
 }
 
-/// `key(T)`: gives the keys of a table, one after the other.
+/// `key(T)`: gives the keys of a table, one after the other. The error is 124 about what is no table.
 pub fn key<L: Locals>(w: &World, l: &L, args: &[Val]) -> Result<Outcome, Halt>
     requires locals { All (IsLive (extent_of w.now.heap)) (L.items l.now) }
     requires args { All (IsLive (extent_of w.now.heap)) args.now }

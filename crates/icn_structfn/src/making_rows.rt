@@ -16,7 +16,8 @@ use icn_args::{arg, integer_of, natural_of, new_list, value_or};
 use icn_value::{Item, Val};
 use icn_vars::{Halt, Locals, Outcome, Stop, World};
 
-/// `list(i, x)`: a list of so many times one value.
+/// `list(i, x)`: a list of so many times one value. The error is 101 about a count that is no integer, 205 about one below
+/// 0, or 307 where the limit refuses the charge.
 pub fn list<L: Locals>(w: &mut World, l: &L, args: &[Val]) -> Result<Outcome, Halt>
     requires locals { All (IsLive (extent_of w.old.heap)) (L.items l.now) }
     requires args { All (IsLive (extent_of w.old.heap)) args.now }
@@ -32,7 +33,8 @@ pub fn list<L: Locals>(w: &mut World, l: &L, args: &[Val]) -> Result<Outcome, Ha
     Ok(Outcome::Gives(Item::Val(list)))
 }
 
-/// `table(x)`: a table without pairs, with a value for the keys that are not there.
+/// `table(x)`: a table without pairs, with a value for the keys that are not there. The error is 307 where the limit refuses
+/// the charge.
 pub fn table<L: Locals>(w: &mut World, l: &L, args: &[Val]) -> Result<Outcome, Halt>
     requires locals { All (IsLive (extent_of w.old.heap)) (L.items l.now) }
     requires args { All (IsLive (extent_of w.old.heap)) args.now }
@@ -46,7 +48,8 @@ pub fn table<L: Locals>(w: &mut World, l: &L, args: &[Val]) -> Result<Outcome, H
     Ok(Outcome::Gives(Item::Val(table)))
 }
 
-/// `set(L)`: a set of the elements of a list, or an empty one.
+/// `set(L)`: a set of the elements of a list, or an empty one. The error is 108 about another value, or 307 where the limit
+/// refuses the charge.
 pub fn set<L: Locals>(w: &mut World, l: &L, args: &[Val]) -> Result<Outcome, Halt>
     requires locals { All (IsLive (extent_of w.old.heap)) (L.items l.now) }
     requires args { All (IsLive (extent_of w.old.heap)) args.now }
@@ -82,7 +85,8 @@ fn set_of<L: Locals>(w: &mut World, l: &L, val: Val) -> Result<Val, Stop>
     }
 }
 
-/// `copy(x)`: a structure with the elements of another one, and any other value itself.
+/// `copy(x)`: a structure with the elements of another one, and any other value itself. The error is 307 where the limit
+/// refuses the charge.
 pub fn copy<L: Locals>(w: &mut World, l: &L, args: &[Val]) -> Result<Outcome, Halt>
     requires locals { All (IsLive (extent_of w.old.heap)) (L.items l.now) }
     requires args { All (IsLive (extent_of w.old.heap)) args.now }

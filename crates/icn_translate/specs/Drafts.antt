@@ -17,6 +17,7 @@ pub record Draft : Type 0 where
 
 -- What stands behind a draft: `draft ▹ step` goes on with the step.
 infixl 10 ◌▹◌
+-- the draft behind the step
 abbrev pub ◌▹◌ : Draft → (Draft → Draft) → Draft
 draft ▹ step = step draft
 
@@ -44,6 +45,7 @@ abbrev pub number_of : Option ℕ → Draft → ℕ
 number_of None d = next_label d
 number_of (Some label) d = label
 
+-- a label has a number from here on, if it had none
 abbrev pub with_number : Option ℕ → Draft → Draft
 with_number None d = with_label d
 with_number (Some label) d = d
@@ -52,6 +54,7 @@ with_number (Some label) d = d
 abbrev pub with_name : List (List ℕ) → List ℕ → List (List ℕ)
 with_name names name = if list_any (bytes_eq name) names then names else names ++ name ∷ []
 
+-- names with others, each once
 abbrev pub with_names : List (List ℕ) → List (List ℕ) → List (List ℕ)
 with_names names [] = names
 with_names names (name ∷ others) = with_names (with_name names name) others
@@ -76,10 +79,12 @@ put_variable name d = record {
 abbrev pub no_ways : LoopLabels
 no_ways = record { next = None; last = None }
 
+-- the labels of the innermost loop
 abbrev pub first_ways : List LoopLabels → LoopLabels
 first_ways [] = no_ways
 first_ways (ways ∷ others) = ways
 
+-- the labels of the loops outside the innermost one
 abbrev pub other_ways : List LoopLabels → List LoopLabels
 other_ways [] = []
 other_ways (ways ∷ others) = others
@@ -135,10 +140,12 @@ put_last word d = d ▹ with_last ▹ put (word (last_number d))
 
 -- Cases
 
+-- the last label of the innermost case, where it was mentioned
 abbrev pub first_end : List (Option ℕ) → Option ℕ
 first_end [] = None
 first_end (label ∷ others) = label
 
+-- the last labels of the cases outside the innermost one
 abbrev pub other_ends : List (Option ℕ) → List (Option ℕ)
 other_ends [] = []
 other_ends (label ∷ others) = others

@@ -20,6 +20,7 @@ codes_in (ProcedureOf procedure) = proc_code procedure ∷ []
 abbrev pub proc_codes : List Declaration → List PlainProc
 proc_codes declarations = flat_map codes_in declarations
 
+-- the text that names a linked file
 abbrev pub item_text : DeclItem → List ℕ
 item_text (Identifier name) = name.text
 item_text (Text name) = name.text

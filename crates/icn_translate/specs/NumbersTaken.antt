@@ -4,6 +4,7 @@ use Rattle.std.specs.Prelude.{ℕ, ◌+◌, ◌<◌, List, [], ◌∷◌, length
 use Rattle.std.specs.List.{AllByRecursion}
 use Rattle.icn_tree.specs.Trees.{Declaration, Global, Link, Invocable, Record, ProcedureOf, Procedure, LocalDecl, Initial, NoInitial, Initially, Tree, MaybeTree, Trees, Clauses, Empty, Constant, Identifier, Keyword, Parentheses, Listing, Compound, Call, CoCall, Subscript, Section, Field, Prefix, Not, Binary, To, If, Case, Loop, Repeat, Create, Next, Fail, Break, Return, Suspend, Absent, Present, NoTrees, More, Default, Guarded, NoClauses, MoreClauses}
 
+-- The numbers that trees take, with those of their parts
 abbrev mutual
   -- the numbers that an expression takes
   pub numbers : Tree → ℕ

@@ -15,19 +15,24 @@ use Rattle.icn_translate.specs.Translation.{initially, body}
 
 -- Names
 
+-- a name of a unit with its kind
 abbrev pub entry_of : NameKind → List ℕ → UnitName
 entry_of kind name = record { kind = kind; name = name }
 
+-- names without their places
 abbrev pub texts_of : List Name → List (List ℕ)
 texts_of names = map (λ name. name.text) names
 
+-- a local or a static variable as a kind of names
 abbrev pub kind_of : LocalKind → NameKind
 kind_of Kept.Local = Local
 kind_of Kept.Static = Static
 
+-- the names of a local declaration, with their kind
 abbrev pub local_entries : LocalDecl → List UnitName
 local_entries locals = map (λ name. entry_of (kind_of locals.kind) name.text) locals.names
 
+-- the names of a local declaration
 abbrev pub local_texts : LocalDecl → List (List ℕ)
 local_texts locals = texts_of locals.names
 
@@ -36,6 +41,7 @@ abbrev pub declared_entries : Procedure → List UnitName
 declared_entries procedure =
     map (λ name. entry_of Parameter name.text) procedure.parameters ++ flat_map local_entries procedure.locals
 
+-- the names that a procedure declares: parameters first, then locals and statics
 abbrev pub declared_texts : Procedure → List (List ℕ)
 declared_texts procedure = texts_of procedure.parameters ++ flat_map local_texts procedure.locals
 

@@ -18,18 +18,22 @@ TakesAtMost n before later = numbers_given later ≤ numbers_given before + n
 
 -- The numbers of the clauses of a `case` that are guarded, and those of its defaults
 
+-- the numbers of a guarded clause; a default counts 0
 abbrev pub guard_numbers : Clause → ℕ
 guard_numbers (Default place e) = 0
 guard_numbers (Guarded place s b) = 2 + numbers s + numbers b
 
+-- the numbers of all guarded clauses
 abbrev pub guarded_numbers : Clauses → ℕ
 guarded_numbers NoClauses = 0
 guarded_numbers (MoreClauses clause clauses) = guard_numbers clause + guarded_numbers clauses
 
+-- the numbers of a default; a guarded clause counts 0
 abbrev pub value_numbers : Clause → ℕ
 value_numbers (Default place e) = numbers e
 value_numbers (Guarded place s b) = 0
 
+-- the numbers of all defaults
 abbrev pub default_numbers : Clauses → ℕ
 default_numbers NoClauses = 0
 default_numbers (MoreClauses clause clauses) = value_numbers clause + default_numbers clauses

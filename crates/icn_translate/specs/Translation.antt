@@ -20,10 +20,12 @@ abbrev pub is_empty : Tree → Bool
 is_empty Empty = true
 is_empty tree = false
 
+-- no tree at all
 abbrev pub is_nothing : Trees → Bool
 is_nothing NoTrees = true
 is_nothing (More e es) = false
 
+-- how many trees there are
 abbrev pub count_of : Trees → ℕ
 count_of NoTrees = 0
 count_of (More e es) = suc (count_of es)
@@ -32,6 +34,7 @@ count_of (More e es) = suc (count_of es)
 abbrev pub elements : Trees → ℕ
 elements es = count_of (elements_of es)
 
+-- the one empty expression by which a list without elements is written
 abbrev pub is_no_element : Trees → Bool
 is_no_element (More Empty NoTrees) = true
 is_no_element es = false
@@ -49,6 +52,7 @@ abbrev pub created_behind : ℕ → (Draft → Draft) → Draft → Draft
 created_behind outer body d = d ▹ put_mark ▹ body ▹ put I.Coret ▹ put I.Efail ▹ put (I.Lab (next_label d))
     ▹ put I.Cofail ▹ put (I.Lab outer)
 
+-- what makes a co-expression of this body
 abbrev pub create_code : (Draft → Draft) → Draft → Draft
 create_code body d = d ▹ with_label ▹ put (I.Create (next_label d)) ▹ created_behind (next_label d) body
 
@@ -144,6 +148,7 @@ case_of guards default d = d ▹ in_case None ▹ guards ▹ put I.Pop ▹ defau
 abbrev pub looped_body : (Draft → Draft) → Draft → Draft
 looped_body code d = d ▹ put_next I.Mark ▹ code ▹ put I.Unmark
 
+-- The translation of trees, with that of their parts
 abbrev mutual
   -- what a form adds, with these marks and loops open
   pub translate : OpenMarks → Tree → Draft → Draft
@@ -272,6 +277,7 @@ abbrev mutual
 
 -- Procedures
 
+-- the `initial` clause, which runs at the first call alone
 abbrev pub initially : Initial → Draft → Draft
 initially NoInitial d = d
 initially (Initially place e) d = d ▹ with_label ▹ put (I.Init (next_label d)) ▹ put (I.Mark (next_label d))

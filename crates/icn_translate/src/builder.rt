@@ -99,7 +99,7 @@ impl<'a> Builder<'a> {
         self.instrs
     }
 
-    /// Writes an instruction.
+    /// Writes an instruction. `AllocError` is want of memory.
     #[tactic(auto, unfolding(crate::specs::Views::draft_of, crate::specs::Drafts::put, crate::specs::Room::numbers_given))]
     pub fn put(&mut self, instr: UnitInstr) -> Result<(), AllocError>
         ensures draft { OnOk result (draft_of self.new ≡ put instr (draft_of self.old)) }
@@ -109,7 +109,7 @@ impl<'a> Builder<'a> {
         Ok(())
     }
 
-    /// Writes the instruction of a literal.
+    /// Writes the instruction of a literal. `AllocError` is want of memory.
     pub fn put_literal(&mut self, value: &Literal) -> Result<(), AllocError>
         ensures draft { OnOk result (draft_of self.new ≡ put (literal_instr value.now) (draft_of self.old)) }
         ensures given { OnOk result (TakesAtMost 0 (draft_of self.old) (draft_of self.new)) }
@@ -118,7 +118,7 @@ impl<'a> Builder<'a> {
         self.put(instr)
     }
 
-    /// Writes `field` with a name.
+    /// Writes `field` with a name. `AllocError` is want of memory.
     pub fn put_field(&mut self, name: &[u8]) -> Result<(), AllocError>
         ensures draft { OnOk result (draft_of self.new ≡ put (FieldInstr name.now) (draft_of self.old)) }
         ensures given { OnOk result (TakesAtMost 0 (draft_of self.old) (draft_of self.new)) }
@@ -127,7 +127,7 @@ impl<'a> Builder<'a> {
         self.put(UnitInstr::Field(name))
     }
 
-    /// Writes two instructions.
+    /// Writes two instructions. `AllocError` is want of memory.
     pub fn put_two(&mut self, first: UnitInstr, second: UnitInstr) -> Result<(), AllocError>
         ensures draft { OnOk result (draft_of self.new ≡ put second (put first (draft_of self.old))) }
         ensures given { OnOk result (TakesAtMost 0 (draft_of self.old) (draft_of self.new)) }
@@ -148,7 +148,7 @@ impl<'a> Builder<'a> {
         self.labels
     }
 
-    /// Writes `mark` with a new label.
+    /// Writes `mark` with a new label. `AllocError` is want of memory.
     pub fn put_mark(&mut self) -> Result<u32, AllocError>
         requires { IsRoomFor 1 (draft_of self.old) }
         ensures number { IfOk result (λ label. label ≡ next_label (draft_of self.old)) }
@@ -173,7 +173,7 @@ impl<'a> Builder<'a> {
         }
     }
 
-    /// Writes the variable of a name.
+    /// Writes the variable of a name. `AllocError` is want of memory.
     #[tactic(auto, unfolding(crate::specs::Views::draft_of, crate::specs::Drafts::put_variable, crate::specs::Room::numbers_given))]
     pub fn put_variable(&mut self, name: &'a [u8]) -> Result<(), AllocError>
         requires { IsRoomFor 1 (draft_of self.old) }
@@ -185,7 +185,7 @@ impl<'a> Builder<'a> {
         Ok(())
     }
 
-    /// Goes on in one more loop, with these labels.
+    /// Goes on in one more loop, with these labels. `AllocError` is want of memory.
     #[tactic(auto, unfolding(crate::specs::Views::draft_of, crate::specs::Drafts::in_loop, crate::specs::Room::numbers_given))]
     pub fn enter_loop(&mut self, ways: LoopLabels) -> Result<(), AllocError>
         ensures draft { OnOk result (draft_of self.new ≡ in_loop ways (draft_of self.old)) }
@@ -208,7 +208,7 @@ impl<'a> Builder<'a> {
         }
     }
 
-    /// The label that `next` goes to in the innermost loop, which is mentioned.
+    /// The label that `next` goes to in the innermost loop, which is mentioned. `AllocError` is want of memory.
     pub fn next_label(&mut self) -> Result<u32, AllocError>
         requires { IsRoomFor 1 (draft_of self.old) }
         ensures number { IfOk result (λ label. label ≡ next_number (draft_of self.old)) }
@@ -224,7 +224,7 @@ impl<'a> Builder<'a> {
         Ok(label)
     }
 
-    /// The last label of the innermost loop, which is mentioned.
+    /// The last label of the innermost loop, which is mentioned. `AllocError` is want of memory.
     pub fn last_label(&mut self) -> Result<u32, AllocError>
         requires { IsRoomFor 1 (draft_of self.old) }
         ensures number { IfOk result (λ label. label ≡ last_number (draft_of self.old)) }
@@ -240,7 +240,7 @@ impl<'a> Builder<'a> {
         Ok(label)
     }
 
-    /// Goes on in one more case.
+    /// Goes on in one more case. `AllocError` is want of memory.
     #[tactic(auto, unfolding(crate::specs::Views::draft_of, crate::specs::Drafts::in_case, crate::specs::Room::numbers_given))]
     pub fn enter_case(&mut self, end: Option<u32>) -> Result<(), AllocError>
         ensures draft { OnOk result (draft_of self.new ≡ in_case end (draft_of self.old)) }
@@ -263,7 +263,7 @@ impl<'a> Builder<'a> {
         }
     }
 
-    /// The last label of the innermost case, which is mentioned.
+    /// The last label of the innermost case, which is mentioned. `AllocError` is want of memory.
     pub fn end_label(&mut self) -> Result<u32, AllocError>
         requires { IsRoomFor 1 (draft_of self.old) }
         ensures number { IfOk result (λ label. label ≡ end_number (draft_of self.old)) }
@@ -276,7 +276,7 @@ impl<'a> Builder<'a> {
         Ok(label)
     }
 
-    /// Writes `unmark` for each mark that was opened in the innermost loop.
+    /// Writes `unmark` for each mark that was opened in the innermost loop. `AllocError` is want of memory.
     pub fn put_unmarks_for_break(&mut self, within: OpenMarks<'_>) -> Result<(), AllocError>
         ensures draft { OnOk result
             (draft_of self.new ≡ unmarks_for_break (open_of within.entry) (draft_of self.old)) }
@@ -292,7 +292,8 @@ impl<'a> Builder<'a> {
         }
     }
 
-    /// Writes `unmark` for each mark that was opened since the place that `next` goes to was last passed.
+    /// Writes `unmark` for each mark that was opened since the place that `next` goes to was last passed. `AllocError` is
+    /// want of memory.
     pub fn put_unmarks_for_next(&mut self, within: OpenMarks<'_>) -> Result<(), AllocError>
         ensures draft { OnOk result
             (draft_of self.new ≡ unmarks_for_next (open_of within.entry) (draft_of self.old)) }
@@ -307,7 +308,7 @@ impl<'a> Builder<'a> {
         }
     }
 
-    /// Writes a new label at its place.
+    /// Writes a new label at its place. `AllocError` is want of memory.
     pub fn put_label(&mut self) -> Result<u32, AllocError>
         requires { IsRoomFor 1 (draft_of self.old) }
         ensures number { IfOk result (λ label. label ≡ next_label (draft_of self.old)) }
@@ -320,7 +321,7 @@ impl<'a> Builder<'a> {
         Ok(label)
     }
 
-    /// Begins a loop with its first label.
+    /// Begins a loop with its first label. `AllocError` is want of memory.
     pub fn begin_loop(&mut self) -> Result<u32, AllocError>
         requires { IsRoomFor 1 (draft_of self.old) }
         ensures start { IfOk result (λ start. start ≡ next_label (draft_of self.old)) }
@@ -333,7 +334,7 @@ impl<'a> Builder<'a> {
         Ok(start)
     }
 
-    /// Writes `mark` with the label that `next` goes to.
+    /// Writes `mark` with the label that `next` goes to. `AllocError` is want of memory.
     pub fn put_next_mark(&mut self) -> Result<(), AllocError>
         requires { IsRoomFor 1 (draft_of self.old) }
         ensures draft { OnOk result (draft_of self.new ≡ put_next MarkInstr (draft_of self.old)) }
@@ -344,6 +345,7 @@ impl<'a> Builder<'a> {
     }
 
     /// Writes what ends a loop: the label that `next` goes to, what goes on with the next pass, and the last label.
+    /// `AllocError` is want of memory.
     pub fn end_loop(&mut self, pass: Pass) -> Result<(), AllocError>
         requires { IsRoomFor 2 (draft_of self.old) }
         ensures draft { OnOk result (draft_of self.new ≡ loop_end (pass_instr pass) (draft_of self.old)) }
@@ -357,7 +359,7 @@ impl<'a> Builder<'a> {
         Ok(())
     }
 
-    /// Writes `goto` to the label that `next` goes to.
+    /// Writes `goto` to the label that `next` goes to. `AllocError` is want of memory.
     pub fn put_next_goto(&mut self) -> Result<(), AllocError>
         requires { IsRoomFor 1 (draft_of self.old) }
         ensures draft { OnOk result (draft_of self.new ≡ put_next GotoInstr (draft_of self.old)) }
@@ -367,7 +369,7 @@ impl<'a> Builder<'a> {
         self.put(UnitInstr::Goto(label))
     }
 
-    /// Goes on in one more loop, with these labels, and writes `goto` to its last one.
+    /// Goes on in one more loop, with these labels, and writes `goto` to its last one. `AllocError` is want of memory.
     pub fn put_last_goto(&mut self, ways: LoopLabels) -> Result<(), AllocError>
         requires { IsRoomFor 1 (draft_of self.old) }
         ensures draft { OnOk result
@@ -379,7 +381,7 @@ impl<'a> Builder<'a> {
         self.put(UnitInstr::Goto(label))
     }
 
-    /// Writes `goto` to the last label of the innermost case.
+    /// Writes `goto` to the last label of the innermost case. `AllocError` is want of memory.
     pub fn put_end_goto(&mut self) -> Result<(), AllocError>
         requires { IsRoomFor 1 (draft_of self.old) }
         ensures draft { OnOk result (draft_of self.new ≡ put_end GotoInstr (draft_of self.old)) }
@@ -389,7 +391,7 @@ impl<'a> Builder<'a> {
         self.put(UnitInstr::Goto(label))
     }
 
-    /// Ends a case with its last label.
+    /// Ends a case with its last label. `AllocError` is want of memory.
     pub fn end_case(&mut self) -> Result<(), AllocError>
         requires { IsRoomFor 1 (draft_of self.old) }
         ensures draft { OnOk result
@@ -402,7 +404,7 @@ impl<'a> Builder<'a> {
         Ok(())
     }
 
-    /// Writes `goto` with a new label, and a label at its place.
+    /// Writes `goto` with a new label, and a label at its place. `AllocError` is want of memory.
     pub fn put_goto(&mut self, label: u32) -> Result<u32, AllocError>
         requires { IsRoomFor 1 (draft_of self.old) }
         ensures number { IfOk result (λ end. end ≡ next_label (draft_of self.old)) }
@@ -415,7 +417,7 @@ impl<'a> Builder<'a> {
         Ok(end)
     }
 
-    /// Writes `create` with a new label.
+    /// Writes `create` with a new label. `AllocError` is want of memory.
     pub fn put_create(&mut self) -> Result<u32, AllocError>
         requires { IsRoomFor 1 (draft_of self.old) }
         ensures number { IfOk result (λ label. label ≡ next_label (draft_of self.old)) }
@@ -428,7 +430,7 @@ impl<'a> Builder<'a> {
         Ok(label)
     }
 
-    /// Writes what ends a create body, whose marks have these labels.
+    /// Writes what ends a create body, whose marks have these labels. `AllocError` is want of memory.
     pub fn end_created(&mut self, inner: u32, outer: u32) -> Result<(), AllocError>
         ensures draft { OnOk result (draft_of self.new ≡ (draft_of self.old ▹ put Coret ▹ put Efail
             ▹ put (LabInstr inner) ▹ put Cofail ▹ put (LabInstr outer))) }
@@ -446,7 +448,7 @@ pub const UNMENTIONED: LoopLabels = LoopLabels {
     last: None,
 };
 
-/// The place of a name among names, which it joins where it is new.
+/// The place of a name among names, which it joins where it is new. `AllocError` is want of memory.
 pub fn enter_name<'a>(names: &mut IndexSet<&'a [u8]>, name: &'a [u8]) -> Result<u32, AllocError>
     requires { length names.old.keys < 4294967296 }
     ensures place { IfOk result

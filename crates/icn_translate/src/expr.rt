@@ -18,7 +18,7 @@ use icn_unit::UnitInstr;
 use std::alloc::AllocError;
 
 impl<'a> Builder<'a> {
-    /// Writes the code of an expression, with these marks and loops open.
+    /// Writes the code of an expression, with these marks and loops open. `AllocError` is want of memory.
     #[cycle(translate)]
     pub fn put_expr(&mut self, expr: &'a Expr, within: OpenMarks<'_>) -> Result<(), AllocError>
         requires { IsRoomFor (numbers (tree_of expr.now)) (draft_of self.old) }
@@ -575,7 +575,8 @@ impl<'a> Builder<'a> {
         self.put(UnitInstr::Lab(end))
     }
 
-    /// Writes the code of an expression in a mark with a new label, where this is open in that mark.
+    /// Writes the code of an expression in a mark with a new label, where this is open in that mark. `AllocError` is want of
+    /// memory.
     #[cycle(translate)]
     pub fn put_bounded(&mut self, expr: &'a Expr, marked: OpenMarks<'_>) -> Result<(), AllocError>
         requires { IsRoomFor (1 + numbers (tree_of expr.now)) (draft_of self.old) }

@@ -94,6 +94,8 @@ pub enum Rule {
     I5,
     /// An image is too long.
     I6,
+    /// The new image of a code would be too long.
+    I7,
     /// An instruction lacks an operand.
     V1,
     /// Two shapes lead to one place, or a label leads back to a place without that shape.
@@ -159,6 +161,7 @@ impl Rule {
             Rule::I4 => b"I4",
             Rule::I5 => b"I5",
             Rule::I6 => b"I6",
+            Rule::I7 => b"I7",
             Rule::V1 => b"V1",
             Rule::V2 => b"V2",
             Rule::V3 => b"V3",

@@ -16,11 +16,13 @@ use Rattle.icn_ucode.specs.declared.decl_lists.DeclStage.TheVariants.{Heading as
 use Rattle.icn_ucode.specs.UnitReading.{DeclStage, DeclHeading, Declaring, Ended, DeclsRead, UnitOutcome, Whole, Faulty}
 use Rattle.icn_ucode.specs.UnitViews.{StopIs}
 
+-- what the next line may be, as the definitions see it
 abbrev pub stage_seen : StageRead → DeclStage
 stage_seen HeadingRead = DeclHeading
 stage_seen DeclaringRead = Declaring
 stage_seen EndedRead = Ended
 
+-- what the lines so far come to, as the definitions see it
 abbrev pub reading_seen : DeclReading → DeclsRead
 reading_seen reading =
     record { decls = map decl_seen reading.decls.decls.items; stage = stage_seen reading.stage }

@@ -24,6 +24,7 @@ has_place labels place = option_map_or (λ label. labels label) place false
 abbrev pub known_label : (ℕ → Bool) → Option ℕ → Bool
 known_label labels goal = option_map_or (λ label. labels label) goal true
 
+-- a set of labels, with the label whose place this is, if it is one
 abbrev pub with_place : (ℕ → Bool) → Option ℕ → ℕ → Bool
 with_place labels None = labels
 with_place labels (Some label) = with_label labels label

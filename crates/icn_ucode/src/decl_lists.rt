@@ -18,7 +18,7 @@ pub struct Decls<'a> {
 }
 
 impl<'a> Decls<'a> {
-    // None.
+    /// None.
     pub fn new(alloc: Global) -> Self
         ensures { result.decls.items ≡ [] }
     {
@@ -28,14 +28,14 @@ impl<'a> Decls<'a> {
         }
     }
 
-    // Whether a procedure or a record has a name.
+    /// Whether a procedure or a record has a name.
     pub fn has(&self, name: &'a [u8]) -> bool
         ensures { result ≡ has_name (owned_names (map decl_seen self.now.decls.items)) name.now }
     {
         self.names.has(name)
     }
 
-    // One more, which is no procedure and no record.
+    /// One more, which is no procedure and no record. `AllocError` is want of memory.
     pub fn with(self, decl: UnitDecl) -> Result<Self, AllocError>
         requires { owned_name (decl_seen decl) ≡ [] }
         ensures { IfOk result (λ more. more.decls.items ≡ self.entry.decls.items ++ decl ∷ []) }
@@ -45,7 +45,7 @@ impl<'a> Decls<'a> {
         Ok(Decls { decls, names })
     }
 
-    // One more, a procedure or a record of a name.
+    /// One more, a procedure or a record of a name. `AllocError` is want of memory.
     pub fn with_owner(self, name: &'a [u8], decl: UnitDecl) -> Result<Self, AllocError>
         requires { owned_name (decl_seen decl) ≡ name.now ∷ [] }
         ensures { IfOk result (λ more. more.decls.items ≡ self.entry.decls.items ++ decl ∷ []) }
@@ -69,7 +69,7 @@ pub struct RecordFields<'a> {
 }
 
 impl<'a> RecordFields<'a> {
-    // None.
+    /// None.
     pub fn new(alloc: Global) -> Self
         ensures { result.fields.items ≡ [] }
     {
@@ -79,13 +79,14 @@ impl<'a> RecordFields<'a> {
         }
     }
 
+    /// Whether a field has a name.
     pub fn has(&self, name: &'a [u8]) -> bool
         ensures { result ≡ has_name self.now.fields.items name.now }
     {
         self.names.has(name)
     }
 
-    // One more field.
+    /// One more field. `AllocError` is want of memory.
     pub fn with(self, alloc: Global, name: &'a [u8]) -> Result<Self, AllocError>
         ensures { IfOk result (λ more. more.fields.items ≡ self.entry.fields.items ++ name.now ∷ []) }
     {

@@ -220,7 +220,7 @@ fn take_line<'a>(
     }
 }
 
-// The declarations of a text.
+/// The declarations of a text. The error is the first rule that the text breaks, or want of memory.
 pub fn read_decls<'a>(
     alloc: Global,
     procs: &Procs<'a>,

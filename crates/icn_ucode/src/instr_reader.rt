@@ -13,7 +13,8 @@ use icn_unit::{
 };
 use std::alloc::{AllocError, Global};
 
-// The instruction of a word with its operand, in a procedure of so many names.
+/// The instruction of a word with its operand, in a procedure of so many names. `None` comes exactly where the operand does
+/// not fit the word. `AllocError` is want of memory.
 pub fn instr(
     alloc: Global,
     word: InstrWord,

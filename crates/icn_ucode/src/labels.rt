@@ -14,7 +14,7 @@ pub struct LabelSet {
 impl LabelSet {
     ghost use Rattle.icn_ucode.specs.LabelSets.{holds};
 
-    // None.
+    /// None.
     pub fn new(alloc: Global) -> Self
         ensures { holds result ≡ no_labels }
     {
@@ -23,12 +23,14 @@ impl LabelSet {
         }
     }
 
+    /// Whether a label is in the set.
     pub fn has(&self, label: u32) -> bool
         ensures { result ≡ holds self.now label }
     {
         self.labels.contains(&label)
     }
 
+    /// Adds a label to the set. `AllocError` is want of memory.
     pub fn add(&mut self, label: u32) -> Result<(), AllocError>
         ensures { OnOk result (holds self.new ≡ with_label (holds self.old) label) }
     {

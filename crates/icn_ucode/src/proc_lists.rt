@@ -22,7 +22,7 @@ pub struct Procs<'a> {
 }
 
 impl<'a> Procs<'a> {
-    // None.
+    /// None.
     pub fn new(alloc: Global) -> Self
         ensures { result.procs.items ≡ [] }
     {
@@ -32,6 +32,7 @@ impl<'a> Procs<'a> {
         }
     }
 
+    /// Whether a procedure has a name.
     pub fn has(&self, name: &'a [u8]) -> bool
         ensures { result ≡ has_name (proc_names (map proc_seen self.now.procs.items)) name.now }
     {
@@ -66,7 +67,7 @@ pub struct Begun<'a> {
 }
 
 impl<'a> Begun<'a> {
-    // One of a name, which is to have so many parameters.
+    /// One of a name, which is to have so many parameters. `AllocError` is want of memory.
     pub fn new(
         alloc: Global,
         name: &'a [u8],
@@ -91,13 +92,14 @@ impl<'a> Begun<'a> {
         })
     }
 
+    /// Whether a name of the procedure is this one.
     pub fn has(&self, name: &'a [u8]) -> bool
         ensures { result ≡ has_name (entry_names self.now.proc.names.items) name.now }
     {
         self.names.has(name)
     }
 
-    // One more name.
+    /// One more name. `AllocError` is want of memory.
     pub fn with(self, alloc: Global, kind: NameKind, name: &'a [u8]) -> Result<Self, AllocError>
         ensures params { IfOk result (λ more. more.params ≡ self.entry.params) }
         ensures procedure { IfOk result (λ more. proc_seen more.proc
@@ -123,7 +125,7 @@ impl<'a> Begun<'a> {
         })
     }
 
-    // The procedure at the begin of its code.
+    /// The procedure at the begin of its code.
     pub fn at_code(self, alloc: Global) -> Coded<'a>
         ensures { result.proc ≡ self.entry.proc }
     {
@@ -146,21 +148,21 @@ pub struct Coded<'a> {
 }
 
 impl<'a> Coded<'a> {
-    // Whether an instruction is the place of a label that has one.
+    /// Whether an instruction is the place of a label that has one.
     pub fn is_repeated(&self, instr: &UnitInstr) -> bool
         ensures { result ≡ is_repeated self.now.proc.instrs.items instr.now }
     {
         has_place(&self.labels, instr)
     }
 
-    // Whether each label that an instruction goes to has its place.
+    /// Whether each label that an instruction goes to has its place.
     pub fn labels_placed(&self) -> bool
         ensures { result ≡ labels_placed self.now.proc.instrs.items }
     {
         are_known(&self.labels, &self.proc.instrs)
     }
 
-    // One more instruction.
+    /// One more instruction. `AllocError` is want of memory.
     pub fn with(self, instr: UnitInstr) -> Result<Self, AllocError>
         ensures { IfOk result (λ more. proc_seen more.proc ≡ with_instr (proc_seen self.entry.proc) instr) }
     {
@@ -174,7 +176,7 @@ impl<'a> Coded<'a> {
         Ok(Coded { proc, name, labels })
     }
 
-    // The procedures with this one.
+    /// The procedures with this one. `AllocError` is want of memory.
     pub fn behind(self, procs: Procs<'a>) -> Result<Procs<'a>, AllocError>
         ensures { IfOk result (λ more. more.procs.items ≡ procs.entry.procs.items ++ self.entry.proc ∷ []) }
     {

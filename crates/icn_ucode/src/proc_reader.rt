@@ -100,6 +100,7 @@ fn read_entry<'a>(begun: &Begun<'a>, operand: Option<&'a [u8]>) -> Option<(NameK
     }
 }
 
+/// Whether a line begins with a blank.
 pub fn is_indented(line: &[u8]) -> bool
     ensures { result ≡ is_indented line.now }
 {
@@ -250,7 +251,7 @@ fn instr_line<'a>(
     Ok(ProcStage::Coding(coded.with(instr)?))
 }
 
-// The procedures of a text.
+/// The procedures of a text. The error is the first rule that the text breaks, or want of memory.
 pub fn read_procs<'a>(alloc: Global, text: &'a [u8]) -> Result<Procs<'a>, UnitStop>
     ensures { ProcsAre result (procs_of text.now) }
 {

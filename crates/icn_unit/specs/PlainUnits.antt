@@ -6,12 +6,15 @@ use Rattle.icn_unit.specs.declared.unit.NameKind.TheVariants.{Parameter, Local, 
 use Rattle.icn_unit.specs.declared.unit.UnitInstr.{UnitInstr}
 use Rattle.icn_unit.specs.declared.unit.UnitName.{UnitName}
 
+-- a procedure: its name, whether its last parameter collects, its names with their kinds, and its
+-- instructions
 pub record PlainProc : Type 0 where
   pub name : List ℕ
   pub collects : Bool
   pub names : List UnitName
   pub instrs : List UnitInstr
 
+-- a declaration: of globals, a procedure, a linked unit, or a record with its fields
 pub data PlainDecl : Type 0 where
   Global : List ℕ → PlainDecl
   Procedure : List ℕ → PlainDecl
@@ -24,6 +27,7 @@ pub record UnitRead : Type 0 where
   pub procs : List PlainProc
   pub decls : List PlainDecl
 
+-- the kind of a parameter
 abbrev pub is_parameter : NameKind → Bool
 is_parameter Parameter = true
 is_parameter Local = false
@@ -60,5 +64,6 @@ declared_name (Global name) = []
 declared_name (Link bytes) = []
 declared_name (Record name fields) = []
 
+-- the names of the procedures among declarations
 abbrev pub declared_names : List PlainDecl → List (List ℕ)
 declared_names decls = flat_map declared_name decls

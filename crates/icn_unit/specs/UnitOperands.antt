@@ -48,6 +48,7 @@ is_name (b ∷ rest) = begins_identifier b && list_all continues_identifier rest
 abbrev pub is_hexadecimal : ℕ → Bool
 is_hexadecimal b = is_digit b || is_between 97 102 b
 
+-- the value of a hexadecimal digit, from 0 to 15
 abbrev pub hexadecimal_value : ℕ → ℕ
 hexadecimal_value b = if is_digit b then b - 48 else b - 87
 
@@ -70,6 +71,7 @@ ascends [] = true
 ascends (a ∷ []) = true
 ascends (a ∷ b ∷ rest) = nat_lt a b && ascends (b ∷ rest)
 
+-- the keywords that an instruction may name
 abbrev pub keywords : List Keyword
 keywords = Ascii ∷ Cset ∷ Current ∷ Digits ∷ Errout ∷ Fail ∷ Input ∷ Lcase ∷ Letters ∷ Level ∷ Main ∷ Null
     ∷ Output ∷ Pos ∷ Random ∷ Source ∷ Subject ∷ Ucase

@@ -15,6 +15,7 @@ use Rattle.icn_unit.specs.UnitOperands.{is_name, ascends}
 
 -- Texts and numbers
 
+-- a number below 256
 abbrev pub is_byte : ℕ → Bool
 is_byte b = nat_lt b 256
 
@@ -22,6 +23,7 @@ is_byte b = nat_lt b 256
 abbrev pub is_byte_text : List ℕ → Bool
 is_byte_text bytes = list_all is_byte bytes && nat_le (length bytes) most_bytes_of_name
 
+-- an integer that a literal writes: none is negative or above the greatest
 abbrev pub is_integer : ℤ → Bool
 is_integer (pos n) = nat_le n greatest_integer
 is_integer (negsuc n) = false
@@ -32,9 +34,11 @@ is_number n = nat_le n greatest_number
 
 -- Names and labels that differ
 
+-- one is the same as one of others
 abbrev pub is_among : {A : Type 0} → (A → A → Bool) → List A → A → Bool
 is_among same xs x = list_any (λ y. same x y) xs
 
+-- no two are the same
 abbrev pub all_differ : {A : Type 0} → (A → A → Bool) → List A → Bool
 all_differ same [] = true
 all_differ same (x ∷ xs) = not (is_among same xs x) && all_differ same xs
@@ -101,6 +105,7 @@ abbrev pub own_label : UnitInstr → Option ℕ
 own_label (Lab label) = Some label
 own_label _ = None
 
+-- none or one label as a list
 abbrev pub own_labels : Option ℕ → List ℕ
 own_labels None = []
 own_labels (Some label) = label ∷ []
@@ -119,6 +124,7 @@ label_in (Init label) = Some label
 label_in (Create label) = Some label
 label_in _ = None
 
+-- the label that an instruction goes to, if any, has its place among instructions
 abbrev pub label_placed : List UnitInstr → UnitInstr → Bool
 label_placed instrs instr =
     option_map_or (λ label. has_label (placed_labels instrs) label) (label_in instr) true
@@ -127,6 +133,7 @@ label_placed instrs instr =
 abbrev pub labels_placed : List UnitInstr → Bool
 labels_placed instrs = list_all (λ instr. label_placed instrs instr) instrs
 
+-- the rules of the code of a procedure with so many names
 abbrev pub keeps_code : ℕ → List UnitInstr → Bool
 keeps_code names instrs = list_all (λ instr. keeps_operand names instr) instrs
     && labels_differ (placed_labels instrs) && labels_placed instrs
@@ -146,6 +153,7 @@ in_order [] = true
 in_order (a ∷ []) = true
 in_order (a ∷ b ∷ rest) = nat_le (rank a.kind) (rank b.kind) && in_order (b ∷ rest)
 
+-- the rules of the names of a procedure
 abbrev pub keeps_names : List UnitName → Bool
 keeps_names names = list_all is_name (entry_names names) && names_differ (entry_names names) && in_order names
 
@@ -153,26 +161,31 @@ keeps_names names = list_all is_name (entry_names names) && names_differ (entry_
 abbrev pub keeps_head : List ℕ → ℕ → Bool → Bool
 keeps_head name params collects = is_name name && is_number params && (not collects || nat_lt 0 params)
 
+-- the rules of a procedure
 abbrev pub keeps_proc : PlainProc → Bool
 keeps_proc proc = keeps_head proc.name (params_in proc.names) proc.collects && keeps_names proc.names
     && keeps_code (length proc.names) proc.instrs
 
+-- the rules of the procedures of a unit, whose names differ
 abbrev pub keeps_procs : List PlainProc → Bool
 keeps_procs procs = list_all keeps_proc procs && names_differ (proc_names procs)
 
 -- Declarations
 
+-- the rules of a declaration
 abbrev pub keeps_decl : PlainDecl → Bool
 keeps_decl (Global name) = is_name name
 keeps_decl (Procedure name) = is_name name
 keeps_decl (Link bytes) = is_byte_text bytes
 keeps_decl (Record name fields) = is_name name && list_all is_name fields && names_differ fields
 
+-- the rules of the declarations of a unit, of which no two own the same name
 abbrev pub keeps_decls : List PlainDecl → Bool
 keeps_decls decls = list_all keeps_decl decls && names_differ (owned_names decls)
 
 -- Units
 
+-- the same texts in the same order
 abbrev pub same_texts : List (List ℕ) → List (List ℕ) → Bool
 same_texts [] [] = true
 same_texts [] (y ∷ ys) = false

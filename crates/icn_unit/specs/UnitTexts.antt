@@ -16,6 +16,7 @@ use Rattle.icn_unit.specs.PlainUnits.{PlainProc, PlainDecl, Global, Procedure, L
 abbrev pub hexadecimal_digit : ℕ → ℕ
 hexadecimal_digit n = if nat_lt n 10 then n + 48 else n + 87
 
+-- a byte in two hexadecimal digits
 abbrev pub byte_text : ℕ → List ℕ
 byte_text b = hexadecimal_digit (b / 16) ∷ hexadecimal_digit (b % 16) ∷ []
 
@@ -28,6 +29,7 @@ bytes_text (b ∷ rest) = flat_map byte_text (b ∷ rest)
 abbrev pub behind_blank : List ℕ → List ℕ
 behind_blank text = 32 ∷ text
 
+-- `L` and the number of a label
 abbrev pub label_text : ℕ → List ℕ
 label_text label = 76 ∷ decimal label
 
@@ -51,26 +53,32 @@ operand_text (Create label) = behind_blank (label_text label)
 operand_text (Lab label) = behind_blank (label_text label)
 operand_text _ = []
 
+-- the line of an instruction
 abbrev pub instr_text : UnitInstr → List ℕ
 instr_text instr = word_text (word_of instr) ++ operand_text instr ++ 10 ∷ []
 
+-- the letter of a kind of names
 abbrev pub kind_text : NameKind → List ℕ
 kind_text Parameter = codes "p"
 kind_text Local = codes "l"
 kind_text Static = codes "s"
 kind_text Undeclared = codes "u"
 
+-- the line of a name with its kind
 abbrev pub name_text : UnitName → List ℕ
 name_text entry = codes "name " ++ kind_text entry.kind ++ 32 ∷ entry.name ++ 10 ∷ []
 
+-- `1` where the last parameter collects, and else `0`
 abbrev pub flag_text : Bool → List ℕ
 flag_text false = codes "0"
 flag_text true = codes "1"
 
+-- the line that begins a procedure: its name, how many parameters it has, and whether the last one collects
 abbrev pub head_text : PlainProc → List ℕ
 head_text proc = codes "proc " ++ proc.name ++ 32 ∷ decimal (params_in proc.names) ++ 32
     ∷ flag_text proc.collects ++ 10 ∷ []
 
+-- the lines of a procedure
 abbrev pub proc_text : PlainProc → List ℕ
 proc_text proc = head_text proc ++ flat_map name_text proc.names ++ codes "code" ++ 10
     ∷ flat_map instr_text proc.instrs ++ codes "end" ++ 10 ∷ []
@@ -79,6 +87,7 @@ proc_text proc = head_text proc ++ flat_map name_text proc.names ++ codes "code"
 abbrev pub procs_text : List PlainProc → List ℕ
 procs_text procs = codes "U9.1" ++ 10 ∷ flat_map proc_text procs
 
+-- the line of a declaration
 abbrev pub decl_text : PlainDecl → List ℕ
 decl_text (Global name) = codes "global " ++ name ++ 10 ∷ []
 decl_text (Procedure name) = codes "proc " ++ name ++ 10 ∷ []

@@ -387,7 +387,7 @@ pub fn instr_with_label(word: InstrWord, label: u32) -> Option<UnitInstr>
     }
 }
 
-// The word of an instruction.
+/// The word of an instruction.
 pub fn word_of(instr: &UnitInstr) -> InstrWord
     ensures { result ≡ word_of instr.now }
 {

@@ -6,6 +6,7 @@ use Rattle.icn_unit.specs.declared.unit.UnitInstr.TheVariants as I
 use Rattle.icn_unit.specs.PlainUnits.{PlainProc, PlainDecl, Global, Procedure, Link, Record}
 use Rattle.icn_unit.specs.UnitRules.{is_byte, is_number}
 
+-- the number of an instruction has 32 bits, and its text is of bytes
 abbrev pub number_fits : UnitInstr → Bool
 number_fits (I.Str bytes) = list_all is_byte bytes
 number_fits (I.Var k) = is_number k

@@ -15,6 +15,7 @@ use Rattle.icn_unit.specs.declared.unit.UnitInstr.TheVariants as I
 use Rattle.icn_unit.specs.UnitOperands.{is_name, ascends}
 use Rattle.icn_unit.specs.UnitRules.{is_byte, is_integer}
 
+-- a name of the source is a name of units
 abbrev pub name_fits : Name → Bool
 name_fits name = is_name name.text
 
@@ -29,6 +30,7 @@ literal_fits passes (Integer n) = is_integer n
 literal_fits passes (Text bytes) = passes bytes
 literal_fits passes (Cset members) = list_all is_byte members && ascends members
 
+-- Each name and literal of a tree fits
 abbrev mutual
   pub tree_fits : (List ℕ → Bool) → Tree → Bool
   tree_fits passes Empty = true
@@ -78,9 +80,11 @@ abbrev mutual
   clauses_fit passes NoClauses = true
   clauses_fit passes (MoreClauses clause clauses) = clause_fits passes clause && clauses_fit passes clauses
 
+-- each name fits
 abbrev pub names_fit : List Name → Bool
 names_fit names = list_all name_fits names
 
+-- each name and literal of the `initial` clause fits
 abbrev pub initial_fits : (List ℕ → Bool) → Initial → Bool
 initial_fits passes NoInitial = true
 initial_fits passes (Initially place value) = tree_fits passes value
@@ -90,6 +94,7 @@ abbrev pub item_fits : (List ℕ → Bool) → DeclItem → Bool
 item_fits passes (Items.Identifier name) = name_fits name
 item_fits passes (Items.Text name) = passes name.text
 
+-- each name of local declarations fits
 abbrev pub all_locals_fit : List LocalDecl → Bool
 all_locals_fit locals = list_all (λ (l : LocalDecl). names_fit l.names) locals
 
@@ -103,6 +108,7 @@ procedure_fits passes procedure = name_fits procedure.name &&
 abbrev pub collects_fits : Procedure → Bool
 collects_fits procedure = not procedure.is_variadic || nat_lt 0 (length procedure.parameters)
 
+-- each name and literal of a declaration fits
 abbrev pub declaration_fits : (List ℕ → Bool) → Declaration → Bool
 declaration_fits passes (Global place names) = names_fit names
 declaration_fits passes (Link place items) = list_all (item_fits passes) items

@@ -47,6 +47,7 @@ charged_unless false heap = charged_cells heap 1
 
 -- New structures: each goes behind those of its type, and costs a cell and one more for each element
 
+-- a list of these items goes behind the others, without a charge
 abbrev pub having_list : List Value → Heap → Heap
 having_list items heap = record heap { lists = heap.lists ++ new_list items ∷ [] }
 
@@ -54,6 +55,7 @@ having_list items heap = record heap { lists = heap.lists ++ new_list items ∷ 
 abbrev pub made_list : Heap → List Value → ChangedHeap
 made_list heap items = and_then (charged_cells heap (1 + length items)) (λ paid. Ok (having_list items paid))
 
+-- an empty set goes behind the others, without a charge
 abbrev pub having_set : Heap → Heap
 having_set heap = record heap { sets = heap.sets ++ [] ∷ [] }
 
@@ -61,6 +63,7 @@ having_set heap = record heap { sets = heap.sets ++ [] ∷ [] }
 abbrev pub made_set : Heap → ChangedHeap
 made_set heap = and_then (charged_cells heap 1) (λ paid. Ok (having_set paid))
 
+-- a table without pairs, with this default, goes behind the others, without a charge
 abbrev pub having_table : Value → Heap → Heap
 having_table default heap =
     record heap { tables = heap.tables ++ record { default = default; pairs = [] } ∷ [] }
@@ -69,6 +72,7 @@ having_table default heap =
 abbrev pub made_table : Heap → Value → ChangedHeap
 made_table heap default = and_then (charged_cells heap 1) (λ paid. Ok (having_table default paid))
 
+-- a record of this kind with these fields goes behind the others, without a charge
 abbrev pub having_record : ℕ → List Value → Heap → Heap
 having_record kind fields heap =
     record heap { records = heap.records ++ record { kind = kind; fields = fields } ∷ [] }
@@ -78,6 +82,7 @@ abbrev pub made_record : Heap → ℕ → List Value → ChangedHeap
 made_record heap kind fields =
     and_then (charged_cells heap (1 + length fields)) (λ paid. Ok (having_record kind fields paid))
 
+-- a co-expression that has given nothing goes behind the others, without a charge
 abbrev pub having_coexp : Heap → Heap
 having_coexp heap = record heap { coexps = heap.coexps ++ 0 ∷ [] }
 
@@ -121,6 +126,7 @@ pushed_on heap id value =
 abbrev pub value_at_key : Heap → ℕ → Value → Option Value
 value_at_key heap id key = value_of same (table_at heap id).pairs key
 
+-- a table with a value at a key, without a charge: a key that is there keeps its place, a new one goes last
 abbrev pub with_pair : ℕ → Value → Value → Heap → Heap
 with_pair id key value heap =
     with_table id
@@ -131,6 +137,7 @@ abbrev pub stored_in : Heap → ℕ → Value → Value → ChangedHeap
 stored_in heap id key value = and_then (charged_unless (is_some (value_at_key heap id key)) heap)
     (λ paid. Ok (with_pair id key value paid))
 
+-- a set with a member, without a charge: a new one goes last
 abbrev pub having_member : ℕ → Value → Heap → Heap
 having_member id value heap = with_set id (with_member (set_at heap id) value) heap
 

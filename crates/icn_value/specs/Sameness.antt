@@ -12,11 +12,13 @@ pub record ValueRank : Type 0 where
   pub text : List ℕ
   pub number : ℤ
 
+-- the order of the files among one another in sorted lists
 abbrev pub file_rank : File → ℕ
 file_rank Errout = 0
 file_rank Input = 1
 file_rank Output = 2
 
+-- what tells a value apart: its type by the rank, and its content by the text or by the number
 abbrev pub shape_of : Value → ValueRank
 shape_of Null = record { rank = 0; text = []; number = pos 0 }
 shape_of (Integer n) = record { rank = 1; text = []; number = n }

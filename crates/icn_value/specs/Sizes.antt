@@ -15,6 +15,8 @@ pub data ValueGroup : Type 0 where
   Activated : ℕ → ValueGroup
   Single : ValueGroup
 
+-- a text is its bytes, a cset its members, an integer its decimal digits with the sign; a structure its
+-- number
 abbrev pub group_of : Value → ValueGroup
 group_of Null = Single
 group_of (Integer n) = Textual (signed_decimal n)
@@ -28,6 +30,8 @@ group_of (ASet id) = Collected id
 group_of (ATable id) = Tabled id
 group_of (ACoexp id) = Activated id
 
+-- how many bytes, items, members, pairs, fields or results there are; a file, null and a procedure have no
+-- size
 abbrev pub size_in : Heap → ValueGroup → Option ℕ
 size_in heap (Textual bytes) = Some (length bytes)
 size_in heap (Listed id) = Some (length ((list_at heap id).items))

@@ -93,6 +93,7 @@ pub record Names : Type 0 where
 -- Structures by their numbers. Each number of a value is that of a structure; elsewhere these give
 -- something empty.
 
+-- a list as it is made: its leftmost item has the number 1
 abbrev pub new_list : List Value → NumberedList Value
 new_list items = record { items = items; number = pos 1 }
 
@@ -126,12 +127,15 @@ value_at values place = unwrap_or (slice_get values place) Null
 abbrev pub with_list : ℕ → NumberedList Value → Heap → Heap
 with_list id list heap = record heap { lists = slice_set heap.lists id list }
 
+-- other members in the set of this number
 abbrev pub with_set : ℕ → List Value → Heap → Heap
 with_set id members heap = record heap { sets = slice_set heap.sets id members }
 
+-- another table under this number
 abbrev pub with_table : ℕ → Table → Heap → Heap
 with_table id table heap = record heap { tables = slice_set heap.tables id table }
 
+-- another record under this number
 abbrev pub with_record : ℕ → Record → Heap → Heap
 with_record id structure heap = record heap { records = slice_set heap.records id structure }
 
@@ -140,26 +144,34 @@ abbrev pub having_heap : (Heap → Heap) → Setting → Setting
 having_heap change setting =
     record setting { world = record setting.world { heap = change setting.world.heap } }
 
+-- the setting with other values of the globals
 abbrev pub having_globals : List Value → Setting → Setting
 having_globals values setting = record setting { world = record setting.world { globals = values } }
 
+-- the setting with other values of the static variables
 abbrev pub having_statics : List Value → Setting → Setting
 having_statics values setting = record setting { world = record setting.world { statics = values } }
 
+-- the setting with another subject, at whose start the position is then
 abbrev pub having_subject : List ℕ → Setting → Setting
 having_subject text setting = record setting { world = record setting.world { subject = text; position = 1 } }
 
+-- the setting with another value of `&pos`
 abbrev pub having_position : ℕ → Setting → Setting
 having_position place setting = record setting { world = record setting.world { position = place } }
 
+-- the setting with another state of the generator of random numbers
 abbrev pub having_random : ℕ → Setting → Setting
 having_random state setting = record setting { world = record setting.world { random = state } }
 
+-- the setting with another value of `&error`
 abbrev pub having_error : ℤ → Setting → Setting
 having_error count setting = record setting { world = record setting.world { error = count } }
 
+-- the setting with another error that is kept, or none
 abbrev pub having_kept : Option KeptError → Setting → Setting
 having_kept kept setting = record setting { world = record setting.world { kept = kept } }
 
+-- the setting with other bytes left of the input
 abbrev pub having_left : List ℕ → Setting → Setting
 having_left bytes setting = record setting { outside = record setting.outside { left = bytes } }

@@ -70,6 +70,7 @@ pub record IsSearch (all : Extent) (text : Span) (place last : ℕ) : Type 0 whe
   pub low : 1 ≤ place
   pub high : last ≤ length (text_in all text) + 1
 
+-- texts, structures and variables of the residual are of the world, and its places are in range
 abbrev pub ResidualBy : Reach → HeldResidual → Type 0
 ResidualBy reach (HeldTextBytes text place) = IsText reach.extent text
 ResidualBy reach (HeldVariableBytes variable place) = IsLiveVariable reach variable
@@ -94,6 +95,7 @@ ResidualBy reach (HeldAmong wanted text place last) = IsSearch reach.extent text
 pub record IsLiveResidual (reach : Reach) (rest : HeldResidual) : Type 0 where
   pub live : ResidualBy reach rest
 
+-- an item and a residual of the outcome are of the world
 abbrev pub OutcomeBy : Reach → HeldOutcome → Type 0
 OutcomeBy reach HeldFails = ⊤
 OutcomeBy reach (HeldGives item) = IsLiveItem reach item

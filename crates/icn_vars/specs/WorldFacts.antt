@@ -27,6 +27,7 @@ pub record IsSoundWorld (all : Extent) (pair : Pair) (words : Words)
 IsText-prop : (all : Extent) (pair : Pair) → IsProp (IsText all pair.subject)
 IsText-prop all pair = hlevel IsOf-prop
 
+-- there is one proof at most that a world is sound
 pub IsSoundWorld-prop : (all : Extent) (pair : Pair) (words : Words) (globals statics : List Val)
     → IsProp (IsSoundWorld all pair words globals statics)
 IsSoundWorld-prop all pair words globals statics = hlevel (IsLive-prop, IsText-prop, props)

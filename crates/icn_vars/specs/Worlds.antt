@@ -112,6 +112,7 @@ reach_of world locals = record {
   locals = length locals;
 }
 
+-- a place is below the count of what it counts, and a structure, a field or a key is of the heap
 abbrev pub RootBy : Reach → HeldRoot → Type 0
 RootBy reach (HeldGlobal place) = place < reach.globals
 RootBy reach (HeldStatic place) = place < reach.statics
@@ -125,6 +126,7 @@ RootBy reach (HeldKeyword word) = ⊤
 pub record IsLiveRoot (reach : Reach) (root : HeldRoot) : Type 0 where
   pub live : RootBy reach root
 
+-- the root is of the world, and the place of a part counts from 1
 abbrev pub VariableBy : Reach → VarRef → Type 0
 VariableBy reach (HeldWhole root) = IsLiveRoot reach root
 VariableBy reach (HeldPart root place len) = IsLiveRoot reach root × (1 ≤ place)
@@ -133,6 +135,7 @@ VariableBy reach (HeldPart root place len) = IsLiveRoot reach root × (1 ≤ pla
 pub record IsLiveVariable (reach : Reach) (variable : VarRef) : Type 0 where
   pub live : VariableBy reach variable
 
+-- the value is of the heap, or the variable of the world
 abbrev pub ItemBy : Reach → HeldItem → Type 0
 ItemBy reach (HeldVal val) = IsLive reach.extent val
 ItemBy reach (HeldVar variable) = IsLiveVariable reach variable

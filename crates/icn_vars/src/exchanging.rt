@@ -52,7 +52,8 @@ pub fn exchange<L: Locals>(
     assign_both(w, l, mover, left, right, of_right, of_left)
 }
 
-// Assigns to the left side, and then to the right one. The assignment of the mover moves the other side.
+/// Assigns to the left side, and then to the right one. The assignment of the mover moves the other side. `Stop` is the
+/// error that an assignment stops with, or want of memory.
 pub fn assign_both<L: Locals>(
     w: &mut World,
     l: &mut L,

@@ -20,7 +20,8 @@ use icn_convert::to_integer;
 use icn_heap::short_text;
 use icn_value::{KeywordVariable, Pair, Val};
 
-// Assigns to a keyword. `false` comes exactly where `&pos` would be out of range.
+/// Assigns to a keyword. `false` comes exactly where `&pos` would be out of range. `Stop` is the error of a value that the
+/// keyword cannot hold or of a limit, or want of memory; this last only where the value has to be converted first.
 pub fn assign_keyword<L: Locals>(
     w: &mut World,
     l: &L,

@@ -99,7 +99,7 @@ fn root_key<L: Locals>(w: &World, l: &L, root: Root) -> Val
     }
 }
 
-// The length of a part.
+/// The length of a part, and 0 for a whole variable.
 pub fn part_length(variable: VarRef) -> u64
     ensures { (all : Extent) → result ≡ part_length (variable_in all variable) }
 {
@@ -109,7 +109,8 @@ pub fn part_length(variable: VarRef) -> u64
     }
 }
 
-// A part that moves by the change of length of another one.
+/// A part that moves by the change from the length `old` to `new` of another one; or that it would stand before its text, or
+/// behind all texts. A whole variable stays.
 pub fn move_part(old: u64, new: u64, variable: VarRef) -> Moved
     ensures moved { MovesTo old new variable result }
     ensures live { (reach : Reach) → IsLiveVariable reach variable → IsLiveMoved reach result }

@@ -64,7 +64,8 @@ fn read<L: Locals>(w: &World, l: &L, variable: VarRef) -> Result<Val, Stop>
     }
 }
 
-// The text that a part is of, which reaches to the part's end.
+/// The text that a part is of, which reaches to the part's end. The error is 205 where the list element is gone or the text
+/// ends before the part does, 103 where the value is no text; `NoMemory` is want of memory for the copy of a key.
 pub fn read_text<L: Locals>(
     w: &World,
     l: &L,
@@ -97,7 +98,8 @@ pub fn read_text<L: Locals>(
     }
 }
 
-// The value of a whole variable. `Error` comes exactly where a list element is gone, and is 205.
+/// The value of a whole variable. `Error` comes exactly where a list element is gone, and is 205. `NoMemory` is want of
+/// memory for the copy of a key.
 pub fn read_root<L: Locals>(w: &World, l: &L, root: Root) -> Result<Val, Stop>
     requires locals { All (IsLive (extent_of w.now.heap)) (L.items l.now) }
     requires live { IsLiveRoot (reach_of w.now (L.items l.now)) root }

@@ -18,7 +18,9 @@ use crate::stop::Stop;
 use crate::world::World;
 use icn_value::{Root, Val};
 
-// Assigns to a whole variable. `false` comes exactly where `&pos` would be out of range.
+/// Assigns to a whole variable. `false` comes exactly where `&pos` would be out of range. `Stop` is the error that the
+/// assignment comes to, or want of memory; no want of memory where the root is no key of a table and holds the value
+/// unconverted.
 #[tactic(auto, using(crate::proofs::GrowingWorlds::grows, crate::proofs::GrowingWorlds::locals_grow, crate::proofs::KeptItems::keeps_items_refl))]
 pub fn assign_root<L: Locals>(w: &mut World, l: &mut L, root: Root, val: Val) -> Result<bool, Stop>
     requires locals { All (IsLive (extent_of w.old.heap)) (L.items l.old) }

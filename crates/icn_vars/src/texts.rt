@@ -19,14 +19,15 @@ use icn_heap::short_text;
 use icn_value::{Span, Val};
 use std::alloc::{AllocError, Global};
 
-// Whether a value is or converts to a text.
+/// Whether a value is or converts to a text.
 pub fn has_text(val: Val) -> bool
     ensures { (all : Extent) → result ≡ is_some (text_of (value_in all val)) }
 {
     matches!(val, Val::Integer(_) | Val::Text(_) | Val::Chars(_))
 }
 
-// The text of a value that has one. A text that is made is charged.
+/// The text of a value that has one. A text that is made is charged. `Stop` is error 306 where the limit refuses the charge,
+/// or want of memory.
 #[tactic(auto, using(crate::proofs::GrowingWorlds::grows, crate::proofs::GrowingWorlds::locals_grow))]
 pub fn made_text<L: Locals>(w: &mut World, l: &L, val: Val) -> Result<Span, Stop>
     requires locals { All (IsLive (extent_of w.old.heap)) (L.items l.now) }
@@ -70,7 +71,8 @@ fn replaced_bytes(
     Ok(bytes)
 }
 
-// A text with another in the place of a part of it, which is charged.
+/// A text with another in the place of a part of it, which is charged. `Stop` is error 306 where the limit refuses the
+/// charge, or want of memory.
 #[tactic(auto, using(crate::proofs::GrowingWorlds::grows, crate::proofs::GrowingWorlds::locals_grow))]
 pub fn replace<L: Locals>(
     w: &mut World,
@@ -108,7 +110,7 @@ pub fn replace<L: Locals>(
     Ok(w.heap.build(&bytes)?)
 }
 
-// How many bytes a text has.
+/// How many bytes a text has.
 pub fn length_of(w: &World, text: Span) -> u64
     requires { IsText (extent_of w.now.heap) text }
     ensures { result ≡ length (text_in (extent_of w.now.heap) text) }

@@ -11,6 +11,7 @@ mod BaseLevels
 mod SlotTables
 mod RisingCounts
 mod TableRules
+mod StaticsLoop
 mod ProcedureChecks
 mod ShapeLaws
 pub mod DecidedFaults

@@ -1,11 +1,11 @@
 -- What the rules of tables say of procedures.
 use Rattle.std.proofs.Common.{◌≡◌, ℕ, zero, suc, ◌+◌, ◌<◌, ◌≤◌, ◌^◌, Bool, true, false, ◌&&◌, ◌||◌, not, IsTrue, nat_le, nat_lt, List, [], ◌∷◌, length, slice_get, Option, None, Some, refl, sym, ap, ◌∙◌, true≢false, arith}
-use Rattle.std.specs.List.{list_all}
+use Rattle.std.specs.List.{list_all, sum_by}
 use Rattle.std.proofs.lemmas.Bool.Decides.{nat_tests}
 use Rattle.icn_code.specs.declared.instr.Instr.{Instr}
 use Rattle.icn_code.specs.declared.instr.Instr.TheVariants.{Mark, Chfail, Goto, Loop, Init, Create}
 use Rattle.icn_code.specs.Codes.{Proc, Tables}
-use Rattle.icn_code.specs.Rules.{keeps_rules, is_count, are_counts, is_proc, is_head, is_instr}
+use Rattle.icn_code.specs.Rules.{keeps_rules, number_limit, is_number, are_counts, are_procs, is_proc, is_head, is_instr}
 use Rattle.icn_verify.specs.Rows.{is_within}
 use Rattle.icn_verify.specs.ReachingShapes.{AreWithin}
 use Rattle.icn_verify.specs.Refusals.{AreBounded}
@@ -48,7 +48,7 @@ procs_kept : (tables : Tables) → keeps_rules tables ≡ true → list_all (is_
 unfolding keeps_rules
 procs_kept tables h = right _ _ h
 
-counts_kept : (tables : Tables) → keeps_rules tables ≡ true → are_counts tables ≡ true
+counts_kept : (tables : Tables) → keeps_rules tables ≡ true → are_counts number_limit tables ≡ true
 unfolding keeps_rules
 counts_kept tables h = left _ _ (left _ _ (left _ _ (left _ _ (left _ _ (left _ _ (left _ _ (left _ _ h)))))))
 
@@ -56,16 +56,22 @@ counts_kept tables h = left _ _ (left _ _ (left _ _ (left _ _ (left _ _ (left _ 
 last_count : (a b c d e f g : Bool) → (a && b && c && d && e && f && g) ≡ true → g ≡ true
 last_count a b c d e f g h = right (a && b && c && d && e && f) g h
 
-few_kept : (tables : Tables) → keeps_rules tables ≡ true → length tables.procs ≤ 65535
-few_kept tables h =
-    at_most (length tables.procs) 65535
-    (last_count (is_count (length tables.strings)) (is_count (length tables.csets)) (is_count (length tables.integers)) (is_count (length tables.fields))
-    (is_count (length tables.records)) (is_count (length tables.globals)) (is_count (length tables.procs)) (counts_kept tables h))
+procs_counted : (tables : Tables) → keeps_rules tables ≡ true → are_procs number_limit tables.procs ≡ true
+procs_counted tables h = last_count (is_number (length tables.strings)) (is_number (length tables.csets)) (is_number (length tables.integers))
+    (nat_le (length tables.fields) 65535) (nat_le (length tables.records) 65535) (is_number (length tables.globals)) (are_procs number_limit tables.procs)
+    (counts_kept tables h)
+
+few_kept : (tables : Tables) → keeps_rules tables ≡ true → length tables.procs ≤ 16777216
+few_kept tables h = at_most (length tables.procs) 16777216 (right _ _ (left _ _ (procs_counted tables h)))
+
+-- the procedures have few statics together
+pub statics_kept : (tables : Tables) → IsTrue (keeps_rules tables) → sum_by (λ proc. proc.statics) tables.procs ≤ 4294967295
+statics_kept tables kept = at_most (sum_by (λ proc. proc.statics) tables.procs) 4294967295 (right _ _ (procs_counted tables kept))
 
 head_short : (strings : ℕ) (proc : Proc) → is_head strings proc ≡ true → length proc.instrs < 2 ^ 32
 head_short strings proc h =
     below (length proc.instrs) (2 ^ 32)
-    (right (nat_lt proc.name strings && (not proc.collects || nat_lt 0 proc.parameters) && is_count (proc.parameters + proc.locals) && is_count proc.statics)
+    (right (nat_lt proc.name strings && (not proc.collects || nat_lt 0 proc.parameters) && nat_le (proc.parameters + proc.locals) 65535 && nat_le proc.statics 65535)
     (nat_lt (length proc.instrs) (2 ^ 32)) h)
 
 -- tables that keep the rules are within the bounds of codes

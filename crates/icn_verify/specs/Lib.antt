@@ -9,3 +9,4 @@ pub mod Refusals
 pub mod KeptOnce
 pub mod Stacks
 pub mod ShapeCounts
+pub mod FirstStatics

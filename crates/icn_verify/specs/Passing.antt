@@ -7,10 +7,12 @@ use Rattle.icn_verify.specs.declared.shape.Level.{Level}
 use Rattle.icn_verify.specs.Shapes.{PlainShape, look_of, same_level, start_shape}
 use Rattle.icn_verify.specs.Rows.{row_of, lacks, meets, next, forward, back, strays}
 
+-- the same truth value
 abbrev pub bool_eq : Bool → Bool → Bool
 bool_eq true b = b
 bool_eq false b = not b
 
+-- the same levels in the same order
 abbrev pub same_levels : List Level → List Level → Bool
 same_levels [] [] = true
 same_levels (a ∷ as') (b ∷ bs) = same_level a b && same_levels as' bs
@@ -33,6 +35,7 @@ with_shape (one before) shape =
     if same_shape before shape then one before else several (min before.inner.operands shape.inner.operands)
 with_shape (several fewest) shape = several (min fewest shape.inner.operands)
 
+-- what was seen to come to an address
 abbrev pub seen_at : List Arrival → ℕ → Arrival
 seen_at table address = slice_index_or table address unseen
 
@@ -61,6 +64,7 @@ rule_of_one table address instr shape =
     else if meets (row_of instr).asks (look_of shape) then None
     else Some V4
 
+-- the rule that is broken at an address, by what was seen to come there
 abbrev pub rule_at : List Arrival → ℕ → Instr → Arrival → Option Rule
 rule_at table address instr unseen = None
 rule_at table address instr (one shape) = rule_of_one table address instr shape
@@ -73,15 +77,18 @@ pass_on table address instr (one shape) =
     with_arrival (with_arrival table (next instr address shape)) (forward instr shape)
 pass_on table address instr (several fewest) = table
 
+-- the rule that is broken where something comes to the end of the instructions
 abbrev pub rule_at_end : Arrival → Option Rule
 rule_at_end unseen = None
 rule_at_end (one shape) = Some V5
 rule_at_end (several fewest) = Some V2
 
+-- a rule that is broken, with the address
 abbrev pub at_address : ℕ → Option Rule → Option (Rule × ℕ)
 at_address address None = None
 at_address address (Some rule) = Some (rule, address)
 
+-- the rule that is broken at this address, or else what is broken behind it
 abbrev pub first_placed : ℕ → Option Rule → Option (Rule × ℕ) → Option (Rule × ℕ)
 first_placed address None rest = rest
 first_placed address (Some rule) rest = Some (rule, address)

@@ -83,6 +83,7 @@ lacks instr shape = nat_lt shape.inner.operands (row_of instr).takes
 abbrev pub is_ended : Level → Bool
 is_ended level = nat_eq level.operands 1 && nat_eq level.scans 0
 
+-- an operand at least
 abbrev pub has_operand : Level → Bool
 has_operand level = nat_lt 0 level.operands
 
@@ -139,6 +140,7 @@ forward_by (Retries label) shape left = None
 forward_by (Skips label) shape left = Some (label, left)
 forward_by (Forks label) shape left = Some (label, left)
 
+-- a label with the shape there, if there is one
 abbrev pub with_label : ℕ → Option PlainShape → Option (ℕ × PlainShape)
 with_label label None = None
 with_label label (Some shape) = Some (label, shape)
@@ -159,9 +161,11 @@ back_by (Forks label) shape = None
 abbrev pub next : Instr → ℕ → PlainShape → Option (ℕ × PlainShape)
 next instr address shape = next_by (row_of instr).way address (after (row_of instr) shape)
 
+-- the label to which an instruction goes forward, if there is one, and the shape there
 abbrev pub forward : Instr → PlainShape → Option (ℕ × PlainShape)
 forward instr shape = forward_by (row_of instr).way shape (after (row_of instr) shape)
 
+-- the label to which an instruction goes back, if there is one, and the shape there
 abbrev pub back : Instr → PlainShape → Option (ℕ × PlainShape)
 back instr shape = back_by (row_of instr).way shape
 
@@ -176,6 +180,7 @@ strays_by (Retries label) address = nat_lt address label
 strays_by (Skips label) address = nat_le label address
 strays_by (Forks label) address = nat_le label address
 
+-- the label of an instruction lies on the wrong side of its address
 abbrev pub strays : Instr → ℕ → Bool
 strays instr address = strays_by (row_of instr).way address
 

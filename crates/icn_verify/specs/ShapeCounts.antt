@@ -12,6 +12,7 @@ pub record IsLow (most : ℕ) (level : Level) : Type 0 where
   pub operands : level.operands ≤ most
   pub scans : level.scans ≤ most
 
+-- each level has at most so many operands, and at most so many open scans
 abbrev pub AreLow : ℕ → List Level → Type 0
 AreLow most [] = Unit {0}
 AreLow most (level ∷ levels) = IsLow most level × AreLow most levels
@@ -21,6 +22,7 @@ pub record IsLowShape (most : ℕ) (shape : PlainShape) : Type 0 where
   pub inner : IsLow most shape.inner
   pub outer : AreLow most shape.outer
 
+-- the one shape that was seen, if it is one, has levels with at most so many
 abbrev pub IsLowSeen : ℕ → Arrival → Type 0
 IsLowSeen most unseen = Unit {0}
 IsLowSeen most (one shape) = IsLowShape most shape

@@ -13,6 +13,7 @@ pub record PlainShape : Type 0 where
   pub inner : Level
   pub outer : List Level
 
+-- a level of this kind without operands and open scans
 abbrev pub empty_level : LevelKind → Level
 empty_level kind = record { kind = kind; operands = 0; scans = 0 }
 
@@ -32,6 +33,7 @@ look_of shape = record { in_create = shape.in_create; inner = shape.inner; outsi
 abbrev pub with_fewer : ℕ → PlainShape → PlainShape
 with_fewer n shape = record shape { inner = record shape.inner { operands = shape.inner.operands - n } }
 
+-- the shape whose innermost level has so many operands more
 abbrev pub with_more : ℕ → PlainShape → PlainShape
 with_more n shape = record shape { inner = record shape.inner { operands = shape.inner.operands + n } }
 
@@ -39,6 +41,7 @@ with_more n shape = record shape { inner = record shape.inner { operands = shape
 abbrev pub with_scan : PlainShape → PlainShape
 with_scan shape = record shape { inner = record shape.inner { scans = shape.inner.scans + 1 } }
 
+-- the shape with an open scan fewer in its innermost level
 abbrev pub without_scan : PlainShape → PlainShape
 without_scan shape = record shape { inner = record shape.inner { scans = shape.inner.scans - 1 } }
 
@@ -64,6 +67,7 @@ same_kind Plain Plain = true
 same_kind Limit Limit = true
 same_kind _ _ = false
 
+-- levels of the same kind with the same counts
 abbrev pub same_level : Level → Level → Bool
 same_level a b = same_kind a.kind b.kind && nat_eq a.operands b.operands && nat_eq a.scans b.scans
 
@@ -72,6 +76,7 @@ abbrev pub shape_within : Bool → Level → List Level → List Level → Plain
 shape_within in_create inner outer [] = record { in_create = in_create; inner = inner; outer = outer }
 shape_within in_create inner outer (mark ∷ marks) = shape_within in_create mark (inner ∷ outer) marks
 
+-- the shape of levels with the base first
 abbrev pub shape_by : Bool → List Level → PlainShape
 shape_by in_create [] = start_shape in_create
 shape_by in_create (base ∷ marks) = shape_within in_create base [] marks

@@ -87,7 +87,8 @@ impl Arena {
         }
     }
 
-    /// The number of the stack with one more level on it. There has to be room for one more number.
+    /// The number of the stack with one more level on it. There has to be room for one more number. `AllocError` is want of
+    /// memory.
     pub fn nest(&mut self, level: Level, outer: u32) -> Result<u32, AllocError>
         requires held { outer < length self.old }
         requires room { length self.old < 2 ^ 32 }

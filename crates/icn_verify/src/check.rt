@@ -8,6 +8,7 @@ ghost use Rattle.icn_verify.specs.Refusals.{Refuses, AreBounded};
 
 use crate::fault::VerifyFault;
 use crate::pass::fault_of;
+use crate::statics::first_statics;
 use crate::verified::Verified;
 use icn_code::{Code, Instr, LinkedProcedure};
 use icn_tree::Rule;
@@ -57,5 +58,6 @@ pub fn verify(alloc: Global, code: Code) -> Result<Verified, VerifyFault>
     ensures refused { IfErr result (Refuses (procs_of code.procs.items)) }
 {
     check_procs(alloc, &code.procs)?;
-    Ok(Verified::new(code))
+    let firsts = first_statics(alloc, &code.procs)?;
+    Ok(Verified::new(code, firsts))
 }

@@ -9,6 +9,7 @@ mod flat;
 mod pass;
 mod rows;
 mod shape;
+mod statics;
 mod table;
 mod verification_laws;
 mod verified;

@@ -307,7 +307,8 @@ fn judge(
     }
 }
 
-/// The first rule that a procedure's instructions break, and its address.
+/// The first rule that a procedure's instructions break, and its address. `None` comes exactly where they break none.
+/// `AllocError` is want of memory.
 pub fn fault_of(alloc: Global, instrs: &[Instr]) -> Result<Option<(Rule, usize)>, AllocError>
     requires { length instrs.now < 2 ^ 32 }
     ensures { IfOk result (λ found. found ≡ fault_of instrs.now) }

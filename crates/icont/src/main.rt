@@ -1,27 +1,33 @@
 //! The program `icont`: it translates a program of the Icon language, and runs it.
 #![tactic(auto)]
 
-use icn_host::{DiskFiles, RuntimeFiles, Settling, Sink, StdSink, StdSource};
-use icont_top::{Answer, icont_main};
+use icn_host::{DiskFiles, RuntimeFiles, Settling, StdSink, StdSource};
+use icont_top::program_status;
 use std::alloc::AllocError;
+use std::io::IsTerminal;
 use std::process::ExitCode;
 use std::rt::Env;
 use std::{env, io};
 
 fn main(rt: HostRuntime) -> ExitCode {
     let alloc = rt.alloc();
-    let mut files = DiskFiles::new(alloc, RuntimeFiles::new(&rt));
-    let mut input = StdSource::new(rt.stdin());
-    let mut out = StdSink::new(alloc, rt.stdout(), Settling::EachPiece);
-    let mut err = StdSink::new(alloc, rt.stderr(), Settling::EachPiece);
-    let answer = match words(&rt) {
-        Ok(words) => icont_main(alloc, &words, &mut files, &mut input, &mut out, &mut err),
-        Err(_) => {
-            let _ = err.put(b"no memory\n");
-            Answer::NoMemory
-        }
-    };
-    ExitCode::from(answer.code())
+    program_status(
+        alloc,
+        words(&rt),
+        &mut DiskFiles::new(alloc, RuntimeFiles::new(&rt)),
+        &mut StdSource::new(rt.stdin()),
+        &mut StdSink::new(alloc, rt.stdout(), settling(rt.stdout().is_terminal())),
+        &mut StdSink::new(alloc, rt.stderr(), settling(rt.stderr().is_terminal())),
+    )
+}
+
+// A terminal sees each line as it is put.
+fn settling(is_terminal: bool) -> Settling {
+    if is_terminal {
+        Settling::EachLine
+    } else {
+        Settling::WhenFull
+    }
 }
 
 // The words of the command line. Where one of them is no text there are none, so that the command is faulty.

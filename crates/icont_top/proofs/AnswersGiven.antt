@@ -1,5 +1,5 @@
 -- Which answers the parts of the call give.
-use Rattle.std.proofs.Common.{◌≡◌, ◌⊎◌, ◌≤◌, inl, inr, ℕ, List, [], Option, None, Some, Result, Ok, Err, Bor, refl, sym, ap, ◌∙◌, subst, arith}
+use Rattle.std.proofs.Common.{◌≡◌, ◌⊎◌, ◌≤◌, inl, inr, ℕ, List, [], Option, None, Some, Result, Ok, Err, Bor, refl, ap, ◌∙◌, subst, arith}
 use Rattle.std.specs.Prelude.{unwrap_or}
 use Rattle.std.specs.Option.{option_map}
 use Rattle.icn_host.specs.Counts.{Rose}
@@ -57,20 +57,6 @@ no_command answer given is line = given_none IsCommand answer given (loading_no_
 pub command_refuses : (answer : Answer) → (IsRefusal answer → ⊥) → IsCommand answer → ⊥
 command_refuses (Command kind) n is = n tt
 command_refuses _ n is = is
-
--- Files that were not written whole
-
-pub torn_no_absence : (answer : Answer) → (answer ≡ FileFault) ⊎ (answer ≡ NoMemory) → IsAbsence answer → ⊥
-torn_no_absence answer (inl e) a = rw e at a
-torn_no_absence answer (inr e) a = rw e at a
-
-pub torn_no_read : (answer : Answer) → (answer ≡ FileFault) ⊎ (answer ≡ NoMemory) → answer ≡ ReadFault → ⊥
-torn_no_read answer (inl e) r = let both : FileFault ≡ ReadFault = sym e ∙ r in cc
-torn_no_read answer (inr e) r = let both : NoMemory ≡ ReadFault = sym e ∙ r in cc
-
-pub torn_no_write : (answer : Answer) → (answer ≡ FileFault) ⊎ (answer ≡ NoMemory) → answer ≡ WriteFault → ⊥
-torn_no_write answer (inl e) w = let both : FileFault ≡ WriteFault = sym e ∙ w in cc
-torn_no_write answer (inr e) w = let both : NoMemory ≡ WriteFault = sym e ∙ w in cc
 
 -- Words
 

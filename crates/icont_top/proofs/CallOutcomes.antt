@@ -30,6 +30,7 @@ use Rattle.icn_answer.specs.Lines.{line_of}
 use Rattle.icn_answer.specs.Refusing.{PutsOwn, PutsItsLine as PutsRefusal, put, own, write_fault, want}
 use Rattle.icn_run_answer.specs.ToldObjects.{CallObjects, call_objects}
 use Rattle.icn_answer.proofs.NoFaults.{no_fault}
+use Rattle.icn_answer.proofs.TornAnswers.{is_torn, torn_fault}
 use Rattle.icn_run_answer.proofs.Reports.{is_run_fault, puts_own}
 use Rattle.icn_answer.proofs.ToldContent.{if_some_elim, if_some_intro}
 use Rattle.icont_words.specs.Asking.{run_seen}
@@ -42,7 +43,7 @@ use Rattle.icont_top.specs.Answered.{IsAnswered, fault as answered_fault, refuse
 use Rattle.icont_top.specs.Answering.{IsDone}
 use Rattle.icont_top.specs.Asking.{IsProgram, IsProgramOf, IsReadyProgram, plan_seen}
 use Rattle.icont_top.specs.Job.{IsJob, Job, IsPlanned, AsksForUnits, Plan, Plans, RefusesCommand, WrittenFile, behind, image_file, image_name, run_launch, no_members, no_program, no_units, refusal, refuses, run_job, runs, translates, ucode_files, writes, files_job}
-use Rattle.icont_top.specs.Outcomes.{AreWritten, HasWritten, HoldsNow, HoldsWritten, IsBehindFiles, IsIdleFault, IsImage, IsReadBack, IsTornFault, IsUnwritten, AnswersCommand, WritesAll, WritesPart, all_written, broke, broke_behind, done, fault, idle, left_alone, part_written, torn}
+use Rattle.icont_top.specs.Outcomes.{AreWritten, HasWritten, HoldsNow, HoldsWritten, IsBehindFiles, IsIdleFault, IsImage, IsReadBack, IsUnwritten, AnswersCommand, WritesAll, WritesPart, all_written, broke, broke_behind, done, fault, idle, left_alone, part_written, torn}
 use Rattle.icont_top.specs.Programs.{Behaves, Links, RunsBy, files_of, is_program, linked_code, not_linked, unverified}
 use Rattle.icont_top.specs.Running.{HasRun, has_ended, was_broken, was_broken_behind}
 use Rattle.icont_top.specs.Usage.{usage}
@@ -301,10 +302,10 @@ ran_outcome left members plan program run answer before after alike ready sets e
     done (run_job (plan_file plan members) seen (behind (plan_seen plan).number seen.ending))
     (runs (plan_seen plan) members (linked_code members) run seen (planned ready) e (behaves alike members program ready.is (run_launch run left) seen flat))
     (record { answered = same; files = sets; left = left'; output = out; errors = err })
-ran_outcome left members plan program run answer before after alike ready sets e (was_broken wrong between same first off puts) =
+ran_outcome left members plan program run answer before after alike ready sets e (was_broken wrong between same first off behind) =
     fault (rw same (is_run_fault wrong))
     (broke (plan_seen plan) members (linked_code members) run wrong between (planned ready) e sets same first
-    (record { seen = off.0; behaves = behaves alike members program ready.is (run_launch run left) off.0 off.1.0; leaves = off.1.1 }) puts)
+    (record { seen = off.0; behaves = behaves alike members program ready.is (run_launch run left) off.0 off.1.0; leaves = off.1.1 }) behind)
 ran_outcome left members plan program run answer before after alike ready sets e
     (was_broken_behind n wrong between seen number stops same first flat leaves puts) =
     fault (rw same (is_run_fault wrong))
@@ -325,14 +326,6 @@ ran_done members plan program run answer before after back alike ready e sets as
 }
 
 -- A file that was not written whole
-
-pub is_torn : (answer : Answer) → (answer ≡ FileFault) ⊎ (answer ≡ NoMemory) → IsFault answer
-is_torn answer (inl e) = rw e refl
-is_torn answer (inr e) = rw e refl
-
-torn_fault : (answer : Answer) → (answer ≡ FileFault) ⊎ (answer ≡ NoMemory) → IsTornFault answer
-torn_fault answer (inl e) = rw e tt
-torn_fault answer (inr e) = rw e tt
 
 torn_no_image : (answer : Answer) → (answer ≡ FileFault) ⊎ (answer ≡ NoMemory) → HasWritten answer → ⊥
 torn_no_image answer (inl e) w = rw e at w

@@ -1,5 +1,5 @@
 -- What the run of a program leaves of the input, whatever the files tell.
-use Rattle.std.proofs.Common.{ℕ, List, Option}
+use Rattle.std.proofs.Common.{ℕ, List, Option, subst, sym}
 use Rattle.icn_code.specs.Codes.{Tables}
 use Rattle.icn_streams.specs.Handed.{CallStreams}
 use Rattle.icn_answer.specs.declared.answer.Answer.{Answer}
@@ -13,7 +13,7 @@ pub run_lost : Leave → Break → Begin → {tables : Tables} {number : Option 
     → HasRun tables (run_launch run left) number answer before after → LosesSome left after.left
 run_lost leave breaks begin {tables} run left (has_ended seen flat same told out err) =
     ended_lost leave tables (run_launch run left) left seen (begin left) flat told
-run_lost leave breaks begin {tables} run left (was_broken fault between same first off puts) =
-    broken_lost leave breaks tables (run_launch run left) fault left off.0 _ _ (begin left) off.1.0 off.1.1
+run_lost leave breaks begin {tables} run left (was_broken fault between same first off behind) =
+    subst (LosesSome left) (sym behind.left) (broken_lost leave breaks tables (run_launch run left) fault left off.0 _ _ (begin left) off.1.0 off.1.1)
 run_lost leave breaks begin {tables} run left (was_broken_behind n fault between seen number stops same first flat leaves puts) =
     ended_lost leave tables (run_launch run left) left seen (begin left) flat leaves.input

@@ -10,8 +10,8 @@ use Rattle.icn_image.specs.Spelling.{image_of}
 use Rattle.icn_link.specs.declared.fault.LinkFault.{LinkFault}
 use Rattle.icn_link.specs.declared.fault.LinkFault.TheVariants.{NoMemory}
 use Rattle.icn_link.specs.Joined.{joined_code, joined_of}
-use Rattle.icn_link.specs.LinkFaults.{Owner, count_fault, first_fault, local_counts, missing, missing_fault, missing_from, missing_in, over, owner_named, owners_from, record_sizes, repeat_of, repeated_name, repeated_from, size_of, static_counts, table_sizes, too_large_of, unit_names}
-use Rattle.icn_link.specs.Mentions.{globals, all_mentions, mentioned_by, operands_in}
+use Rattle.icn_link.specs.LinkFaults.{all_statics, kind_counts, Owner, count_fault, first_fault, local_counts, missing, missing_fault, missing_from, missing_in, over, owner_named, owners_from, record_sizes, repeat_of, repeated_name, repeated_from, size_of, static_counts, table_sizes, too_large_of, unit_names}
+use Rattle.icn_link.specs.Mentions.{globals, all_mentions}
 use Rattle.icn_link.specs.Units.{all_decls, all_procs}
 
 -- Faults of linking
@@ -45,10 +45,13 @@ abbrev instrs : List PlainProc → Option LinkFault
 instrs procs = over 16777216 (sum_by size_of procs ∷ [])
 
 abbrev entries : List PlainDecl → List PlainProc → Option LinkFault
-entries decls procs = over 65535 (table_sizes (all_mentions decls procs) decls procs)
+entries decls procs = over 16777216 (table_sizes (all_mentions decls procs) decls procs)
 
-abbrev operands : List PlainProc → Option LinkFault
-operands procs = over 65535 (mentioned_by operands_in procs)
+abbrev together : List PlainDecl → List PlainProc → Option LinkFault
+together decls procs = over 4294967295 (all_statics (globals decls procs) procs ∷ [])
+
+abbrev kinds : List PlainDecl → List PlainProc → Option LinkFault
+kinds decls procs = over 65535 (kind_counts (all_mentions decls procs) decls)
 
 abbrev fields : List PlainDecl → Option LinkFault
 fields decls = over 65535 (record_sizes decls)
@@ -68,23 +71,27 @@ behind_locals decls procs = option_or (statics decls procs) (bytes decls procs)
 abbrev behind_fields : List PlainDecl → List PlainProc → Option LinkFault
 behind_fields decls procs = option_or (locals decls procs) (behind_locals decls procs)
 
-abbrev behind_operands : List PlainDecl → List PlainProc → Option LinkFault
-behind_operands decls procs = option_or (fields decls) (behind_fields decls procs)
+abbrev behind_kinds : List PlainDecl → List PlainProc → Option LinkFault
+behind_kinds decls procs = option_or (fields decls) (behind_fields decls procs)
+
+abbrev behind_together : List PlainDecl → List PlainProc → Option LinkFault
+behind_together decls procs = option_or (kinds decls procs) (behind_kinds decls procs)
 
 abbrev behind_entries : List PlainDecl → List PlainProc → Option LinkFault
-behind_entries decls procs = option_or (operands procs) (behind_operands decls procs)
+behind_entries decls procs = option_or (together decls procs) (behind_together decls procs)
 
 abbrev behind_instrs : List PlainDecl → List PlainProc → Option LinkFault
 behind_instrs decls procs = option_or (entries decls procs) (behind_entries decls procs)
 
 large_none : (decls : List PlainDecl) (procs : List PlainProc) → IsNoWant (too_large_of decls procs)
 large_none D P = or_none (instrs P) (behind_instrs D P) (over_none 16777216 (sum_by size_of P ∷ []))
-    (or_none (entries D P) (behind_entries D P) (over_none 65535 (table_sizes (all_mentions D P) D P))
-    (or_none (operands P) (behind_operands D P) (over_none 65535 (mentioned_by operands_in P))
+    (or_none (entries D P) (behind_entries D P) (over_none 16777216 (table_sizes (all_mentions D P) D P))
+    (or_none (together D P) (behind_together D P) (over_none 4294967295 (all_statics (globals D P) P ∷ []))
+    (or_none (kinds D P) (behind_kinds D P) (over_none 65535 (kind_counts (all_mentions D P) D))
     (or_none (fields D) (behind_fields D P) (over_none 65535 (record_sizes D))
     (or_none (locals D P) (behind_locals D P) (over_none 65535 (local_counts (globals D P) P))
     (or_none (statics D P) (bytes D P) (over_none 65535 (static_counts (globals D P) P))
-    (over_none 1073741824 (length (image_of (joined_of D P)) ∷ [])))))))
+    (over_none 1073741824 (length (image_of (joined_of D P)) ∷ []))))))))
 
 abbrev large : List UnitRead → Option LinkFault
 large units = too_large_of (all_decls units) (all_procs units)
@@ -111,7 +118,7 @@ within_count most count e = by_test (nat_lt most count) refl where
 
 image_counted : (decls : List PlainDecl) (procs : List PlainProc) → too_large_of decls procs ≡ None → bytes decls procs ≡ None
 image_counted D P e = right_none (statics D P) (bytes D P) (right_none (locals D P) (behind_locals D P) (right_none (fields D) (behind_fields D P)
-    (right_none (operands P) (behind_operands D P) (right_none (entries D P) (behind_entries D P) (right_none (instrs P) (behind_instrs D P) e)))))
+    (right_none (kinds D P) (behind_kinds D P) (right_none (together D P) (behind_together D P) (right_none (entries D P) (behind_entries D P) (right_none (instrs P) (behind_instrs D P) e))))))
 
 -- where the linker finds no fault, the image is within the bound
 pub image_within : (units : List UnitRead) → first_fault units ≡ None → length (image_of (joined_code units)) ≤ 1073741824

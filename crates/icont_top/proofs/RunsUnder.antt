@@ -1,5 +1,5 @@
 -- Runs under the bound of turns that is said.
-use Rattle.std.proofs.Common.{◌≡◌, ℕ, List, Err, refl, sym, ap, subst}
+use Rattle.std.proofs.Common.{◌≡◌, ℕ, List, Err, refl, ap, subst}
 use Rattle.icn_code.specs.Codes.{Tables}
 use Rattle.icn_value.specs.Limited.{Bounds}
 use Rattle.icn_defs.specs.Running.{Launch, launch_of}
@@ -9,11 +9,10 @@ use Rattle.icn_running.specs.declared.fault.RunFault.{RunFault}
 use Rattle.icn_running.specs.Reported.{ending_seen}
 use Rattle.icn_running.specs.Runs.{EndsAtFirst as RunEnds, IsBrokenOff, RunsTo}
 use Rattle.icn_answer.specs.declared.answer.Answer.TheVariants.{Ran}
+use Rattle.icn_run_answer.specs.CountCauses.{EndsBehind}
 use Rattle.icn_run_answer.specs.FaultAnswers.{of_run}
-use Rattle.icn_answer.specs.Refusing.{PutsOwn}
 use Rattle.icn_run_answer.specs.Reporting.{PutsSome}
-use Rattle.icn_run_answer.specs.ToldObjects.{with_errors}
-use Rattle.icn_run_answer.proofs.Reports.{broken_puts, puts_own}
+use Rattle.icn_run_answer.proofs.Reports.{broken_puts}
 use Rattle.icont_words.specs.Words.{Run}
 use Rattle.icont_top.specs.Job.{bounds_with, run_launch}
 use Rattle.icont_top.specs.Running.{IsRanOrBroken, broken, ran}
@@ -32,11 +31,9 @@ pub off_puts : (tables : Tables) (launch : Launch) (wrong : RunFault) (before af
     → PutsSome before.errors after.errors
 off_puts tables launch wrong before after off = broken_puts wrong launch.outside.left off.0 before after off.1.1
 
-pub run_broken : (tables : Tables) (run : Run) (left : List ℕ) (bounds : Bounds) (wrong : RunFault) (before between after : CallStreams)
+pub run_broken : {before between after : CallStreams} (tables : Tables) (run : Run) (left : List ℕ) (bounds : Bounds) (wrong : RunFault)
     → bounds ≡ bounds_with run.turns → RunEnds {A = Ending} (Err wrong) before between
-    → IsBrokenOff tables (launch_of run.arguments bounds left) wrong before between → PutsOwn (of_run wrong) between.errors after.errors
-    → with_errors between.errors after ≡ between → IsRanOrBroken tables (run_launch run left) (of_run wrong) before after
-run_broken tables run left bounds wrong before between after e first off puts same =
-    broken wrong between.errors refl (subst (λ (h : CallStreams). RunEnds {A = Ending} (Err wrong) before h) (sym same) first)
-    (subst (λ (h : CallStreams). IsBrokenOff tables (run_launch run left) wrong before h) (sym same)
-    (subst (λ launch. IsBrokenOff tables launch wrong before between) (launched_as run bounds left e) off)) (puts_own _ _ (of_run wrong) puts)
+    → IsBrokenOff tables (launch_of run.arguments bounds left) wrong before between → EndsBehind (of_run wrong) between after
+    → IsRanOrBroken tables (run_launch run left) (of_run wrong) before after
+run_broken {before} {between} tables run left bounds wrong e first off behind =
+    broken wrong between refl first (subst (λ launch. IsBrokenOff tables launch wrong before between) (launched_as run bounds left e) off) behind

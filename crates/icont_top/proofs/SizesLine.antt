@@ -19,6 +19,9 @@ use Rattle.icn_running.specs.Reported.{ending_seen}
 use Rattle.icn_running.specs.Runs.{EndsAtFirst as RunEnds}
 use Rattle.icn_answer.specs.declared.answer.Answer.{Answer}
 use Rattle.icn_answer.specs.declared.answer.Answer.TheVariants.{Wrote, Ran, Refused, Command, Missing, BadUcode, BadImage, FileFault, ReadFault, WriteFault, NoMemory}
+use Rattle.icn_answer.specs.Answers.{IsFault}
+use Rattle.icn_answer.proofs.NoFaults.{ran_no_fault}
+use Rattle.icn_run_answer.proofs.CountCauses.{broken_counts, own_behind, ran_counts}
 use Rattle.icn_run_answer.specs.CountCauses.{RunEndsAtFirst}
 use Rattle.icn_answer.specs.Endings.{ending_held}
 use Rattle.icn_run_answer.specs.FaultAnswers.{of_run}
@@ -124,9 +127,9 @@ counts_kept : {before after : CallStreams} (answer : Answer) → is_done answer 
 counts_kept {before} {after} answer e ends =
     let there : RunEndsAtFirst (Ran Endings.Done) before after = rw (done_of answer e) at ends in
     record {
-      faults = there.first.faults;
-      output = there.first.output;
-      errors = subst (λ (sink : SinkState). KeepsFaultCounts before.errors sink) (sym there.own_line) there.first.errors;
+      faults = there.behind.faults ∙ there.first.faults;
+      output = subst (λ (sink : SinkState). KeepsFaultCounts before.output sink) (sym there.behind.output) there.first.output;
+      errors = subst (λ (sink : SinkState). KeepsFaultCounts before.errors sink) (sym there.behind.own_line) there.first.errors;
     }
 
 abbrev run_fault : Fault → RunFault
@@ -186,6 +189,29 @@ sizes_run {left = left} {input} {before} {out} {out'} {err} n answer given e run
     (ends_behind left input before out out' err fault (sizes_line n) (counts_kept answer e ends) leads) was.flat
     (record { done = was.done; input = was.left; count = part.count; output = gains_then was.output part.gains; errors = was.errors })
     (puts_own _ _ given own)
+
+-- which counts rose, behind both
+pub sizes_end : {left : Option (List ℕ)} {input : ℕ} {before : CallStreams} {out out' err err' : SinkState} (n : ℕ) (answer given : Answer)
+    → is_done answer ≡ true → RunEndsAtFirst answer before (call_streams left input out err) → PutsSizes n given out out' err err'
+    → RunEndsAtFirst given before (call_streams left input out' err')
+sizes_end {left} {input} {before} {out} {out'} {err} n answer given e ends (sizes_put same put kept) =
+    let run = counts_kept answer e ends in
+    rw (same, kept) (ran_counts Endings.Done (record {
+      faults = run.faults;
+      output = record { faults = put.faults ∙ run.output.faults; wants = put.wants ∙ run.output.wants };
+      errors = run.errors;
+    }))
+sizes_end {left} {input} {before} {out} {out'} {err} n answer given e ends (sizes_broken fault same leads own) =
+    let run = same ∙ as_run fault in
+    rw run (broken_counts (run_fault fault) (ends_behind left input before out out' err fault (sizes_line n) (counts_kept answer e ends) leads)
+    (own_behind (of_run (run_fault fault)) (rw run at own)))
+
+pub done_no_fault : (answer : Answer) → is_done answer ≡ true → IsFault answer → ⊥
+done_no_fault answer e f = ran_no_fault Endings.Done (subst IsFault (done_of answer e) f)
+
+pub is_put_fault : (fault : Fault) → IsFault (put_answer fault)
+is_put_fault Faults.Failed = refl
+is_put_fault Faults.NoMemory = refl
 
 -- what the run put on the error output
 put_some : {tables : Tables} {launch : Launch} {before after : CallStreams} → HasDone tables launch before after → PutsSome before.errors after.errors

@@ -10,3 +10,4 @@ pub mod Asking
 pub mod Running
 pub mod Answering
 pub mod Relinking
+pub mod WholeCall

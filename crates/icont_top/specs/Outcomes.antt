@@ -20,7 +20,8 @@ use Rattle.icn_running.specs.declared.fault.RunFault.TheVariants as RunFaults
 use Rattle.icn_running.specs.Runs.{EndsAtFirst, LeavesBy}
 use Rattle.icn_answer.specs.declared.answer.Answer.{Answer}
 use Rattle.icn_answer.specs.declared.answer.Answer.TheVariants.{Wrote, Ran, Refused, Command, Missing, BadUcode, BadImage, FileFault, ReadFault, WriteFault, NoMemory}
-use Rattle.icn_answer.specs.Answers.{IsFault}
+use Rattle.icn_answer.specs.Answers.{IsFault, IsTornFault}
+use Rattle.icn_run_answer.specs.CountCauses.{EndsBehind}
 use Rattle.icn_run_answer.specs.FaultAnswers.{of_run}
 use Rattle.icn_answer.specs.Lines.{fault_line}
 use Rattle.icn_run_answer.specs.ToldObjects.{CallObjects, with_errors}
@@ -84,20 +85,6 @@ IsIdleFault IsJobOf NoMemory before between =
     (between ≡ before)
     ⊎ ((job : Job) × IsJobOf job × (job.written ≡ []) × RunsShort before between job.errors)
 
--- what a file may fail to be written whole by: a fault of the files, or want of memory
-abbrev pub IsTornFault : Answer → Type 0
-IsTornFault Wrote = ⊥
-IsTornFault (Ran ending) = ⊥
-IsTornFault (Refused file line rule) = ⊥
-IsTornFault (Command kind) = ⊥
-IsTornFault (Missing name) = ⊥
-IsTornFault (BadUcode name rule) = ⊥
-IsTornFault (BadImage rule) = ⊥
-IsTornFault FileFault = Unit {0}
-IsTornFault ReadFault = ⊥
-IsTornFault WriteFault = ⊥
-IsTornFault NoMemory = Unit {0}
-
 -- What a fault leaves of a program that is run with this input: all is said of what is observed of it, as each program comes to an end.
 pub record ProgramBrokenOff (members : List Member) (run : Run) (left : List ℕ) (fault : RunFault)
     (before after : CallStreams) : Type 0 where
@@ -144,12 +131,12 @@ pub data EndsByFault (words : List (List ℕ)) (files : FileMap) (left : List �
       → Puts before.streams.errors after.streams.errors (fault_line answer)
       → EndsByFault words files left answer before after
   broke : (plan : Plan) (members : List Member) (tables : Tables) (run : Run) (fault : RunFault)
-      (between : SinkState)
+      (between : CallStreams)
       → IsPlanned words files plan members tables → plan.run ≡ Some run
       → WritesAll before.files after.files (image_file plan.image members tables ∷ []) → answer ≡ of_run fault
-      → EndsAtFirst {A = Ending} (Err fault) before.streams (with_errors between after.streams)
-      → ProgramBrokenOff members run left fault before.streams (with_errors between after.streams)
-      → Puts between after.streams.errors (fault_line answer)
+      → EndsAtFirst {A = Ending} (Err fault) before.streams between
+      → ProgramBrokenOff members run left fault before.streams between
+      → EndsBehind answer between after.streams
       → EndsByFault words files left answer before after
   broke_behind : (plan : Plan) (members : List Member) (tables : Tables) (run : Run) (number : ℕ)
       (fault : RunFault) (between : SinkState)

@@ -16,6 +16,7 @@ use Rattle.icn_running.specs.Runs.{EndsAtFirst, IsBrokenOff, RunsTo}
 use Rattle.icn_answer.specs.declared.answer.Answer.{Answer}
 use Rattle.icn_answer.specs.declared.answer.Answer.TheVariants.{Wrote, Ran, Refused, Command, Missing, BadUcode, BadImage, FileFault, ReadFault, WriteFault, NoMemory}
 use Rattle.icn_answer.specs.Endings.{ending_held}
+use Rattle.icn_run_answer.specs.CountCauses.{EndsBehind}
 use Rattle.icn_run_answer.specs.FaultAnswers.{of_run}
 use Rattle.icn_answer.specs.Lines.{fault_line}
 use Rattle.icn_answer.specs.Refusing.{PutsOwn}
@@ -29,10 +30,9 @@ pub data IsRanOrBroken (tables : Tables) (launch : Launch) (answer : Answer)
     (before after : CallStreams) : Type 0 where
   ran : (ending : Ending) → answer ≡ Ran ending → RunsTo tables launch (ending_seen ending) before after
       → IsRanOrBroken tables launch answer before after
-  broken : (fault : RunFault) (between : SinkState) → answer ≡ of_run fault
-      → EndsAtFirst {A = Ending} (Err fault) before (with_errors between after)
-      → IsBrokenOff tables launch fault before (with_errors between after)
-      → Puts between after.errors (fault_line answer)
+  broken : (fault : RunFault) (between : CallStreams) → answer ≡ of_run fault
+      → EndsAtFirst {A = Ending} (Err fault) before between
+      → IsBrokenOff tables launch fault before between → EndsBehind answer between after
       → IsRanOrBroken tables launch answer before after
 
 -- The program of a number
@@ -75,10 +75,9 @@ pub data HasRun (tables : Tables) (launch : Launch) (number : Option ℕ) (answe
       → Gains before.output.held after.output.held (seen.outside.output ++ behind number seen.ending)
       → Gains before.errors.held after.errors.held seen.outside.errors
       → HasRun tables launch number answer before after
-  was_broken : (fault : RunFault) (between : SinkState) → answer ≡ of_run fault
-      → EndsAtFirst {A = Ending} (Err fault) before (with_errors between after)
-      → IsBrokenOff tables launch fault before (with_errors between after)
-      → Puts between after.errors (fault_line answer)
+  was_broken : (fault : RunFault) (between : CallStreams) → answer ≡ of_run fault
+      → EndsAtFirst {A = Ending} (Err fault) before between
+      → IsBrokenOff tables launch fault before between → EndsBehind answer between after
       → HasRun tables launch number answer before after
   was_broken_behind : (n : ℕ) (fault : RunFault) (between : SinkState) (seen : Observation) → number ≡ Some n
       → StopsPut fault

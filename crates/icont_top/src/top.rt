@@ -1,5 +1,5 @@
 // The top call.
-ghost use Rattle.std.specs.Prelude.{◌≡◌, ◌↔◌, ◌⊎◌, ℕ, All, List, [], Option, Some, Ok, map, string_bytes, IfErr, IfSome, OnOk};
+ghost use Rattle.std.specs.Prelude.{◌≡◌, ◌⊎◌, ℕ, All, List, [], Option, Some, Ok, map, string_bytes, IfErr, IfSome, OnOk};
 ghost use Rattle.std.specs.Option.{option_map};
 ghost use Rattle.icn_host.specs.Counts.{Rose};
 ghost use Rattle.icn_host.specs.FileMaps.{FileMap};
@@ -10,7 +10,6 @@ ghost use Rattle.icn_streams.specs.Handed.{call_streams};
 ghost use Rattle.icn_answer.specs.Answers.{IsFault, IsRefusal, IsAbsence, IsCommand};
 ghost use Rattle.icn_run_answer.specs.CountCauses.{EndsAtFirst, RunEndsAtFirst, outside};
 ghost use Rattle.icn_run_answer.specs.FaultAnswers.{IsOfRun};
-ghost use Rattle.icn_answer.specs.Refusing.{PutsOwn};
 ghost use Rattle.icn_run_answer.specs.Reporting.{LineStands, Reports};
 ghost use Rattle.icn_run_answer.specs.ToldObjects.{call_objects};
 ghost use Rattle.icont_words.specs.Asking.{run_seen};
@@ -20,6 +19,7 @@ ghost use Rattle.icont_units.specs.Files.{files_named};
 ghost use Rattle.icont_units.specs.Generated.{sizes_line};
 ghost use Rattle.icn_run_answer.specs.InputLeft.{LosesSome};
 ghost use Rattle.icn_run_answer.specs.OutsideLeft.{LeavesOutside};
+ghost use Rattle.icn_run_answer.specs.PendingBytes.{LeavesSettled, pending_bytes};
 ghost use Rattle.icont_units.specs.Units.{Load, Member};
 ghost use Rattle.icont_top.specs.Answered.{IsAnswered, IsCommanded, MissesText};
 ghost use Rattle.icont_top.specs.Answering.{IsDone};
@@ -32,12 +32,12 @@ ghost use Rattle.icont_top.specs.Writing.{texts_seen};
 
 use crate::loading::{LoadedProgram, linked_program, numbered_program, translate_sources};
 use crate::writing::{FileToWrite, write_all};
-use icn_answer::{Answer, own_line, refuse};
+use icn_answer::{Answer, own_line, refuse, torn_answer};
 use icn_defs::{Ending, broken_off};
 use icn_frames::Cell;
 use icn_host::{Fault, Files, Sink, Source, put_line};
 use icn_image::one_spelling;
-use icn_run_answer::answer_of;
+use icn_run_answer::broken_answer;
 use icn_running::run;
 use icn_segments::RawStack;
 use icn_value::Limits;
@@ -73,7 +73,8 @@ pub fn icont_main<F: Files, I: Source, O: Sink, E: Sink>(
 ) -> Answer
     // Where the files and the input tell their content, the job was done, or a fault is answered and leaves a part of it.
     ensures outcome { IfSome (F.held files.old)
-        (λ held. IfSome (I.left input.old) (λ left. AnswersCommand (map string_bytes words.now) held left result
+        (λ held. IfSome (I.left input.old)
+        (λ left. AnswersCommand (map string_bytes words.now) held left result
         (call_objects (F.held files.old)
         (call_streams (I.left input.old) (I.faults input.old) (O.state out.old) (E.state err.old)))
         (call_objects (F.held files.new)
@@ -128,13 +129,18 @@ pub fn icont_main<F: Files, I: Source, O: Sink, E: Sink>(
     ensures refused { (IsOfRun result → ⊥) → (O.state out.new).held ≡ (O.state out.old).held }
     ensures unread { (IsOfRun result → ⊥) → I.left input.new ≡ I.left input.old }
 
-    // The first fault ends the call: its object's count rose once, and no other count of faults did but at the put of the fault's
-    // own line. An absence (also of an included file) is answered only where that count rose.
+    // The first fault ends the call: its object's count rose once, and no other count of faults did but of the output as it is
+    // settled at want of memory, and at the put of the fault's own line. An absence (also of an included file) is answered only
+    // where that count rose.
     ensures causes { EndsAtFirst result (IsAbsence result)
         (outside (F.faults files.old) (F.absences files.old)
         (call_streams (I.left input.old) (I.faults input.old) (O.state out.old) (E.state err.old)))
         (outside (F.faults files.new) (F.absences files.new)
         (call_streams (I.left input.new) (I.faults input.new) (O.state out.new) (E.state err.new))) }
+
+    // Where nothing was pending on the outputs before, and no fault is answered, nothing is pending behind.
+    ensures settled { LeavesSettled result (pending_bytes (O.pending out.old) (E.pending err.old))
+        (pending_bytes (O.pending out.new) (E.pending err.new)) }
 {
     one_reading();
     one_fault();
@@ -182,6 +188,8 @@ fn translate_answer<F: Files, E: Sink>(
         (outside (F.faults files.old) (F.absences files.old) (call_streams left input out (E.state err.old)))
         (outside (F.faults files.new) (F.absences files.new)
         (call_streams left input out (E.state err.new))) }
+    ensures settled { (out : ℕ) → LeavesSettled result (pending_bytes out (E.pending err.old))
+        (pending_bytes out (E.pending err.new)) }
 {
     match translate_sources(alloc, names, files) {
         Ok(texts) => texts_answer(&texts, files, err),
@@ -206,6 +214,8 @@ fn texts_answer<F: Files, E: Sink>(texts: &[FileToWrite], files: &mut F, err: &m
         (outside (F.faults files.old) (F.absences files.old) (call_streams left input out (E.state err.old)))
         (outside (F.faults files.new) (F.absences files.new)
         (call_streams left input out (E.state err.new))) }
+    ensures settled { (out : ℕ) → LeavesSettled result (pending_bytes out (E.pending err.old))
+        (pending_bytes out (E.pending err.new)) }
 {
     match write_all(files, texts) {
         Ok(()) => Answer::Wrote,
@@ -243,6 +253,8 @@ fn link_answer<F: Files, I: Source, O: Sink, E: Sink>(
         (call_streams (I.left input.old) (I.faults input.old) (O.state out.old) (E.state err.old)))
         (outside (F.faults files.new) (F.absences files.new)
         (call_streams (I.left input.new) (I.faults input.new) (O.state out.new) (E.state err.new))) }
+    ensures settled { LeavesSettled result (pending_bytes (O.pending out.old) (E.pending err.old))
+        (pending_bytes (O.pending out.new) (E.pending err.new)) }
 {
     match linked_program(alloc, names, files) {
         Ok(program) => {
@@ -281,6 +293,8 @@ fn generate_answer<F: Files, I: Source, O: Sink, E: Sink>(
         (call_streams (I.left input.old) (I.faults input.old) (O.state out.old) (E.state err.old)))
         (outside (F.faults files.new) (F.absences files.new)
         (call_streams (I.left input.new) (I.faults input.new) (O.state out.new) (E.state err.new))) }
+    ensures settled { LeavesSettled result (pending_bytes (O.pending out.old) (E.pending err.old))
+        (pending_bytes (O.pending out.new) (E.pending err.new)) }
 {
     match numbered_program(alloc, number) {
         Ok(program) => {
@@ -322,6 +336,8 @@ fn image_answer<F: Files, I: Source, O: Sink, E: Sink>(
         (call_streams (I.left input.old) (I.faults input.old) (O.state out.old) (E.state err.old)))
         (outside (F.faults files.new) (F.absences files.new)
         (call_streams (I.left input.new) (I.faults input.new) (O.state out.new) (E.state err.new))) }
+    ensures settled { LeavesSettled result (pending_bytes (O.pending out.old) (E.pending err.old))
+        (pending_bytes (O.pending out.new) (E.pending err.new)) }
 {
     one_spelling();
     same_ends();
@@ -344,20 +360,6 @@ fn image_answer<F: Files, I: Source, O: Sink, E: Sink>(
     }
 }
 
-// The answer where a file could not be written.
-fn torn_answer<E: Sink>(fault: Fault, err: &mut E) -> Answer
-    ensures failed { (result ≡ Answer.FileFault) ↔ (fault ≡ Fault.Failed) }
-    ensures others { (result ≡ Answer.FileFault) ⊎ (result ≡ Answer.NoMemory) }
-    ensures puts { PutsOwn result (E.state err.old) (E.state err.new) }
-{
-    let answer = match fault {
-        Fault::Failed => Answer::FileFault,
-        Fault::NoMemory => Answer::NoMemory,
-    };
-    own_line(&answer, err);
-    answer
-}
-
 // Runs the code of a program, and puts the line of the sizes behind it, where it is the program of a number and was done.
 fn ran_answer<I: Source, O: Sink, E: Sink>(
     alloc: Global,
@@ -377,6 +379,8 @@ fn ran_answer<I: Source, O: Sink, E: Sink>(
     ensures causes { RunEndsAtFirst result
         (call_streams (I.left input.old) (I.faults input.old) (O.state out.old) (E.state err.old))
         (call_streams (I.left input.new) (I.faults input.new) (O.state out.new) (E.state err.new)) }
+    ensures settled { LeavesSettled result (pending_bytes (O.pending out.old) (E.pending err.old))
+        (pending_bytes (O.pending out.new) (E.pending err.new)) }
 {
     let answer = run_answer(alloc, code, run, input, out, err);
     match number {
@@ -409,6 +413,8 @@ fn run_answer<I: Source, O: Sink, E: Sink>(
     ensures causes { RunEndsAtFirst result
         (call_streams (I.left input.old) (I.faults input.old) (O.state out.old) (E.state err.old))
         (call_streams (I.left input.new) (I.faults input.new) (O.state out.new) (E.state err.new)) }
+    ensures settled { LeavesSettled result (pending_bytes (O.pending out.old) (E.pending err.old))
+        (pending_bytes (O.pending out.new) (E.pending err.new)) }
 {
     let standard = Limits::standard();
     let limits = Limits {
@@ -419,11 +425,7 @@ fn run_answer<I: Source, O: Sink, E: Sink>(
     };
     match run::<RawStack<Cell>, I, O, E>(alloc, code, asked.arguments, limits, input, out, err) {
         Ok(ending) => Answer::Ran(ending),
-        Err(fault) => {
-            let answer = answer_of(fault);
-            own_line(&answer, err);
-            answer
-        }
+        Err(fault) => broken_answer(fault, out, err),
     }
 }
 
@@ -436,8 +438,10 @@ fn is_done(answer: &Answer) -> bool
 
 // Puts the line of the sizes of the program of a number, which was done.
 fn sizes_answer<O: Sink, E: Sink>(alloc: Global, number: u16, out: &mut O, err: &mut E) -> Answer
-    ensures { PutsSizes number result (O.state out.old) (O.state out.new) (E.state err.old)
+    ensures puts { PutsSizes number result (O.state out.old) (O.state out.new) (E.state err.old)
         (E.state err.new) }
+    ensures settled { E.pending err.old ≡ 0 → (IsFault result → ⊥)
+        → (O.pending out.new ≡ 0) × (E.pending err.new ≡ 0) }
 {
     match put_sizes(alloc, number, out) {
         Ok(()) => Answer::Ran(Ending::Done),
@@ -453,6 +457,7 @@ fn put_sizes<O: Sink>(alloc: Global, number: u16, out: &mut O) -> Result<(), Fau
     ensures ok { OnOk result (PutsAll (O.state out.old) (O.state out.new) (sizes_line number)) }
     ensures err { IfErr result
         (λ fault. LeadsBy fault (O.state out.old) (O.state out.new) (sizes_line number)) }
+    ensures settled { OnOk result (O.pending out.new ≡ 0) }
 {
     let line = sizes_line(alloc, number)?;
     put_line(&line, out)

@@ -17,9 +17,11 @@ abbrev pub base_before : List ℕ → List ℕ → Option (List ℕ)
 base_before name suffix =
     if ends_with nat_eq name suffix then Some (take (length name - length suffix) name) else None
 
+-- a source of this base
 abbrev pub source : List ℕ → CommandFile
 source base = record { kind = Source; base = base }
 
+-- the ucode of this base
 abbrev pub ucode : List ℕ → CommandFile
 ucode base = record { kind = Ucode; base = base }
 
@@ -32,6 +34,7 @@ file_without_icn name = option_map_or ucode (base_before name (codes ".u1"))
 abbrev pub file_named : List ℕ → CommandFile
 file_named name = option_map_or source (base_before name (codes ".icn")) (file_without_icn name)
 
+-- two files of one base are one unit
 abbrev pub same_base : CommandFile → CommandFile → Bool
 same_base a b = bytes_eq a.base b.base
 
@@ -39,6 +42,7 @@ same_base a b = bytes_eq a.base b.base
 abbrev pub files_named : List (List ℕ) → List CommandFile
 files_named names = firsts same_base (map file_named names)
 
+-- a source, and no ucode
 abbrev pub is_source_file : FileKind → Bool
 is_source_file Source = true
 is_source_file Ucode = false
@@ -49,6 +53,7 @@ sources_in files = filter (λ file. is_source_file file.kind) files
 
 -- The names under which a file stands in the store
 
+-- the name of a source in the store
 abbrev pub source_name : List ℕ → List ℕ
 source_name base = base ++ codes ".icn"
 
@@ -56,5 +61,6 @@ source_name base = base ++ codes ".icn"
 abbrev pub first_name : List ℕ → List ℕ
 first_name base = base ++ codes ".u1"
 
+-- the name of the second text of a unit, of its declarations
 abbrev pub second_name : List ℕ → List ℕ
 second_name base = base ++ codes ".u2"

@@ -16,10 +16,12 @@ use Rattle.icont_units.specs.Units.{FromSource, Member}
 abbrev pub numbers : ℕ → List ℕ
 numbers count = range_with_len 1 count
 
+-- the lines of the procedure of a number, which generates three multiples of it
 abbrev pub procedure_lines : ℕ → List (List ℕ)
 procedure_lines i = (codes "procedure p" ++ decimal i ++ codes "(n)")
     ∷ (codes "suspend (n to n + 2) * " ++ decimal i) ∷ codes "end" ∷ []
 
+-- the line that adds up what a procedure gives
 abbrev pub sum_line : ℕ → List ℕ
 sum_line i = codes "every t +:= p" ++ decimal i ++ codes "(1 to 3)"
 

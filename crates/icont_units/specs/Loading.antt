@@ -50,6 +50,7 @@ pub record KeptUnits : Type 0 where
 abbrev pub kept_of : Members → KeptUnits
 kept_of held = record { units = units_seen held.units.items; first_ucode = held.first_ucode }
 
+-- the kept units with one more, from a source
 abbrev pub with_source : KeptUnits → UnitRead → KeptUnits
 with_source kept unit = record kept { units = kept.units ++ unit ∷ [] }
 
@@ -89,6 +90,7 @@ links_at [] place = []
 links_at (unit ∷ units) zero = links_of unit
 links_at (unit ∷ units) (suc place) = links_at units place
 
+-- texts as their bytes
 abbrev pub texts_in : {Y : Type 0} → List (Vec ℕ Y) → List (List ℕ)
 texts_in texts = map (λ text. text.items) texts
 

@@ -39,6 +39,7 @@ fault_answer name (Prep.Broken rule file line) = Refused file line rule
 fault_answer name Prep.FileFault = FileFault
 fault_answer name Prep.NoMemory = NoMemory
 
+-- the tokens of the lines of a file, or the answer where it gives none
 abbrev pub lines_read : List ℕ → Result PreprocessedSource PrepFault → Result ScannedSource Answer
 lines_read name (Ok source) = tokens_read source.names (tokens_of source.lines)
 lines_read name (Err fault) = Err (fault_answer name fault)

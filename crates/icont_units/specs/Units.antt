@@ -27,6 +27,7 @@ pub data Member : Type 0 where
   FromSource : List ℕ → List Declaration → Member
   FromUcode : UnitRead → Member
 
+-- the unit of a member: the translation of its source, or its ucode itself
 abbrev pub unit_of : Member → UnitRead
 unit_of (FromSource base file) = translated_unit base file
 unit_of (FromUcode unit) = unit
@@ -42,20 +43,25 @@ abbrev pub second_text : List ℕ → List ℕ → Option (List ℕ) → Result 
 second_text base first None = Err (second_name base)
 second_text base first (Some second) = Ok (first, second)
 
+-- the two texts where both are there, or the name of the first that is not
 abbrev pub both_texts : List ℕ → Option (List ℕ) → Option (List ℕ) → Result (List ℕ × List ℕ) (List ℕ)
 both_texts base None second = Err (first_name base)
 both_texts base (Some first) second = second_text base first second
 
+-- the two texts of the unit of a base in the store, or the name of the first that is not there
 abbrev pub texts_held : FileMap → List ℕ → Result (List ℕ × List ℕ) (List ℕ)
 texts_held files base = both_texts base (files (first_name base)) (files (second_name base))
 
+-- the name of the text that is faulty, the first or the second
 abbrev pub faulty_name : List ℕ → Bool → List ℕ
 faulty_name base second = if second then second_name base else first_name base
 
+-- a unit that was read, or the answer that names its faulty text and the rule
 abbrev pub unit_found : List ℕ → UnitOutcome → Result UnitRead Answer
 unit_found base (Whole unit) = Ok unit
 unit_found base (Faulty rule second) = Err (BadUcode (faulty_name base second) rule)
 
+-- a text of ucode with more bytes than the profile allows
 abbrev pub is_too_long : List ℕ → Bool
 is_too_long text = nat_lt most_bytes_of_ucode (length text)
 
@@ -104,6 +110,7 @@ pub data FilesCome (files : FileMap) : List CommandFile → Result (List Member)
 
 -- Files that are linked
 
+-- the base that a declaration links, if it links one
 abbrev pub link_in : PlainDecl → List (List ℕ)
 link_in (Link text) = linked_base text ∷ []
 link_in (Global name) = []
@@ -114,6 +121,7 @@ link_in (Record name fields) = []
 abbrev pub links_of : UnitRead → List (List ℕ)
 links_of unit = flat_map link_in unit.decls
 
+-- a member has this base
 abbrev pub is_there : List Member → List ℕ → Bool
 is_there members base = list_any (bytes_eq base) (unit_names (units_of members))
 
@@ -164,6 +172,7 @@ pub data Load (files : FileMap) (named : List CommandFile) : Result (List Member
 
 -- Rules of linking
 
+-- the name of the unit at a place
 abbrev pub unit_named : List UnitRead → ℕ → List ℕ
 unit_named units place = slice_index_or (unit_names units) place []
 
@@ -176,6 +185,7 @@ link_answer units NoMemory = None
 
 -- Files that are written
 
+-- the names and the bytes of both texts of a unit
 abbrev pub unit_texts : UnitRead → List (List ℕ × List ℕ)
 unit_texts unit =
     (first_name unit.name, procs_text unit.procs) ∷ (second_name unit.name, decls_text unit.decls) ∷ []

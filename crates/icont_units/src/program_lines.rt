@@ -18,7 +18,7 @@ pub fn generated_lines(alloc: Global, number: u16) -> Result<Lines, AllocError>
     Ok(Lines { names, lines })
 }
 
-/// The line that says how many lines and procedures the program of this number has.
+/// The line that says how many lines and procedures the program of this number has. `AllocError` is want of memory.
 pub fn sizes_line(alloc: Global, number: u16) -> Result<Vec<u8>, AllocError>
     ensures { IfOk result (λ line. line.items ≡ sizes_line number) }
 {

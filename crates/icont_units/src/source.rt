@@ -50,7 +50,8 @@ pub fn checked_source<F: Files>(alloc: Global, base: &str, files: &mut F) -> Res
     }
 }
 
-/// The file of this base name that the tokens are, or the answer where they break a rule.
+/// The file of this base name that the tokens are. The error is the answer that refuses them by the first rule that they
+/// break, or want of memory.
 pub fn checked_tokens(alloc: Global, base: &str, source: &SourceTokens) -> Result<Checked, Answer>
     requires scanned { AreScanned source.now.tokens.items }
     ensures file { AreFile (scan_of source.now) result }
@@ -65,7 +66,8 @@ pub fn checked_tokens(alloc: Global, base: &str, source: &SourceTokens) -> Resul
     }
 }
 
-/// The tokens of the file of this name, or the answer where it has none.
+/// The tokens of the file of this name. The error is the answer where it is missing, breaks a rule or cannot be read, or
+/// want of memory.
 pub fn source_tokens<F: Files>(
     alloc: Global,
     name: &str,
@@ -84,7 +86,8 @@ pub fn source_tokens<F: Files>(
     }
 }
 
-/// The tokens of the lines, with the names of the lines, or the answer where they break a rule. The lines are dropped.
+/// The tokens of the lines, with the names of the lines, which are dropped. The error is the answer that refuses them by the
+/// rule that they break, or want of memory.
 pub fn line_tokens(alloc: Global, lines: Lines) -> Result<SourceTokens, Answer>
     ensures read { IsRead (tokens_read lines.names.items (tokens_of lines.lines.items)) result }
     ensures scanned { IfOk result (λ source. AreScanned source.tokens.items) }

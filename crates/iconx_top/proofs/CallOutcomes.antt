@@ -1,12 +1,11 @@
 -- What the words and the files ask for, and what became of it.
 use Rattle.std.proofs.Common.{◌≡◌, ◌⊎◌, inl, inr, ℕ, List, [], Option, Some, Ok, Err, refl, sym, ap, ◌∙◌, subst}
-use Rattle.icn_host.specs.FileMaps.{FileMap}
+use Rattle.icn_host.specs.FileMaps.{FileMap, Follows}
 use Rattle.icn_host.proofs.SinkSteps.{gains_nothing}
 use Rattle.icn_host.specs.Sinks.{SinkState}
 use Rattle.icn_host.specs.declared.fault.Fault.TheVariants.{NoMemory as Wants}
 use Rattle.icn_host.proofs.ToldPuts.{puts_nothing}
 use Rattle.icn_host.specs.Puts.{all, LeadsBy}
-use Rattle.icn_value.specs.Limited.{Bounds}
 use Rattle.icn_value.specs.Store.{outside_of}
 use Rattle.icn_defs.specs.Running.{Launch}
 use Rattle.icn_streams.specs.Handed.{CallStreams, call_streams}
@@ -20,11 +19,11 @@ use Rattle.icn_running.specs.Runs.{EndsAtFirst as RunEnds, IsBrokenOff, RunsTo}
 use Rattle.icn_answer.specs.declared.answer.Answer.{Answer}
 use Rattle.icn_answer.specs.declared.answer.Answer.TheVariants.{Wrote, Ran, Refused, Command, Missing, BadUcode, BadImage, FileFault, ReadFault, WriteFault, NoMemory}
 use Rattle.icn_answer.specs.Answers.{IsFault, IsAbsence}
-use Rattle.icn_run_answer.specs.CountCauses.{EndsAtFirst, outside}
+use Rattle.icn_run_answer.specs.CountCauses.{EndsAtFirst, EndsBehind, outside}
 use Rattle.icn_answer.specs.Endings.{ending_held}
 use Rattle.icn_run_answer.specs.FaultAnswers.{of_run}
 use Rattle.icn_answer.specs.Lines.{line_of}
-use Rattle.icn_answer.specs.Refusing.{PutsOwn, PutsItsLine, own, put, want, write_fault}
+use Rattle.icn_answer.specs.Refusing.{PutsItsLine, own, put, want, write_fault}
 use Rattle.icn_run_answer.specs.Reporting.{PutsSome}
 use Rattle.icn_run_answer.specs.ToldObjects.{CallObjects, call_objects}
 use Rattle.icn_answer.proofs.FaultCounts.{no_cause, unmoved}
@@ -36,7 +35,7 @@ use Rattle.iconx_top.specs.Job.{IsJob, IsRun, Job, bad, missing, observation, ra
 use Rattle.iconx_top.specs.Loading.{IsLoaded, IsOfLoading}
 use Rattle.iconx_top.specs.Outcomes.{IsIdleFault, AnswersCommand, broke, done, fault, idle}
 use Rattle.iconx_top.specs.Usage.{usage}
-use Rattle.iconx_top.specs.Words.{Asks, words_reading}
+use Rattle.iconx_top.specs.Words.{Asks, image_named, words_reading}
 
 -- an answer is the job's refusal, or a fault
 abbrev pub Asked : List (List ℕ) → FileMap → List ℕ → List ℕ → Answer → Type 0
@@ -64,6 +63,11 @@ idle_short : {words : List (List ℕ)} {files : FileMap} {left : List ℕ} (name
 idle_short name answer before between is (inl same) = inl same
 idle_short {files = files} {left} name answer before between is (inr short) = inr (refusal files left name answer, is, short)
 
+-- files that stay as they were are those of the job
+pub files_stay : {held held' : Option FileMap} (files : FileMap) → held ≡ Some files → held' ≡ Some files
+    → Follows held held' (λ old new. (name : List ℕ) → new name ≡ files name)
+files_stay files e e' = rw (e, e') (files, refl, λ name. refl)
+
 -- nothing was done but to put a line
 pub refused : {words : List (List ℕ)} {files : FileMap} {left : List ℕ} (name : List ℕ) (answer given : Answer)
     (held held' : Option FileMap) (left' : Option (List ℕ)) (input : ℕ) (out before after : SinkState)
@@ -72,28 +76,28 @@ pub refused : {words : List (List ℕ)} {files : FileMap} {left : List ℕ} (nam
     → AnswersCommand words files left given (call_objects held (call_streams left' input out before)) (call_objects held' (call_streams left' input out after))
 refused name answer given held held' left' input out before after (inl f) no_write no_read same e d (put n h) = absurd (n f)
 refused {files = files} {left} name answer given held held' left' input out before after (inr is) no_write no_read same e d (put n h) =
-    done (refusal files left name answer) is (record { answered = refl; files = same ∙ e; left = d; output = gains_nothing out.held; errors = h.gains })
+    done (refusal files left name answer) is (record { answered = refl; files = files_stay files e (same ∙ e); left = d; output = gains_nothing out.held; errors = h.gains })
 refused {words} {files} {left} name answer given held held' left' input out before after asks no_write no_read same e d (own f puts) =
-    fault f same (idle before refl refl (idle_of (IsJob words files left) answer before f no_write no_read) (puts_own _ _ answer puts))
+    fault f (idle before same refl refl (idle_of (IsJob words files left) answer before f no_write no_read) (puts_own _ _ answer puts))
 refused name answer given held held' left' input out before after (inl f) no_write no_read same e d (write_fault n stops) = absurd (n f)
 refused {files = files} {left} name answer given held held' left' input out before after (inr is) no_write no_read same e d (write_fault n stops) =
-    fault refl same (idle after refl refl (refusal files left name answer, is, stops) (all (puts_nothing after)))
+    fault refl (idle after same refl refl (refusal files left name answer, is, stops) (all (puts_nothing after)))
 refused name answer given held held' left' input out before after (inl f) no_write no_read same e d (want n between leads puts) = absurd (n f)
 refused name answer given held held' left' input out before after (inr is) no_write no_read same e d (want n between leads puts) =
-    fault refl same (idle between refl refl (idle_short name answer before between is leads) puts)
+    fault refl (idle between same refl refl (idle_short name answer before between is leads) puts)
 
 -- what was loaded
 
-pub asked_load : {words : List (List ℕ)} {files : FileMap} {left : List ℕ} (bounds : Bounds) (name : List ℕ) (arguments : List (List ℕ)) (answer : Answer)
-    → words_reading words ≡ Asks bounds name arguments
+pub asked_load : {words : List (List ℕ)} {files : FileMap} {left : List ℕ} (name : List ℕ) (answer : Answer)
+    → image_named (words_reading words) ≡ Some name
     → IsLoaded (files name) name (Err answer) → Asked words files left name answer
-asked_load {words} {files} {left} bounds name arguments (Missing other) e is =
-    let job : IsJob words files left (refusal files left name (Missing name)) = missing bounds name arguments e is.1 in
+asked_load {words} {files} {left} name (Missing other) e is =
+    let job : IsJob words files left (refusal files left name (Missing name)) = missing name e is.1 in
     inr (subst (λ n. IsJob words files left (refusal files left name (Missing n))) (sym is.0) job)
-asked_load bounds name arguments (BadImage rule) e is = inr (bad bounds name is.0 arguments rule e is.1.0 is.1.1)
-asked_load bounds name arguments FileFault e is = inl refl
-asked_load bounds name arguments NoMemory e is = inl refl
-asked_load bounds name arguments _ e is = absurd is
+asked_load name (BadImage rule) e is = inr (bad name is.0 rule e is.1.0 is.1.1)
+asked_load name FileFault e is = inl refl
+asked_load name NoMemory e is = inl refl
+asked_load name _ e is = absurd is
 
 -- the run of what was loaded, over this input
 pub run_asked : {words : List (List ℕ)} {files : FileMap} (left : List ℕ) (launch : Launch) (name : List ℕ) (verified : Verified)
@@ -108,20 +112,18 @@ ran_outcome {files = files} tables launch ending held e is (seen, (ended, (runs,
     done (observation files seen) (ran tables launch seen is runs)
     (record {
       answered = ap (λ x. Ran x) (sym (held_seen ending) ∙ ap ending_held (sym ended));
-      files = e;
+      files = files_stay files e e;
       left = ends.left;
       output = ends.output;
       errors = ends.errors;
     })
 
-pub broke_outcome : {words : List (List ℕ)} {files : FileMap} {left : List ℕ} {before : CallStreams} {left' : Option (List ℕ)} {input : ℕ}
-    {out : SinkState} (between after : SinkState) (tables : Tables) (launch : Launch) (stopped : RunFault) (held : Option FileMap)
-    → IsRun words files left tables launch → RunEnds {A = Ending} (Err stopped) before (call_streams left' input out between)
-    → IsBrokenOff tables launch stopped before (call_streams left' input out between) → PutsOwn (of_run stopped) between after
-    → AnswersCommand words files left (of_run stopped) (call_objects held before) (call_objects held (call_streams left' input out after))
-broke_outcome {before = before} between after tables launch stopped held is first broken puts =
-    fault (is_run_fault stopped) refl
-    (broke stopped between tables launch refl is (broken_first before _ stopped first) broken (puts_own _ _ (of_run stopped) puts))
+pub broke_outcome : {words : List (List ℕ)} {files : FileMap} {left : List ℕ} {before between after : CallStreams} (tables : Tables) (launch : Launch)
+    (stopped : RunFault) (held : Option FileMap) → IsRun words files left tables launch → RunEnds {A = Ending} (Err stopped) before between
+    → IsBrokenOff tables launch stopped before between → EndsBehind (of_run stopped) between after
+    → AnswersCommand words files left (of_run stopped) (call_objects held before) (call_objects held after)
+broke_outcome {before = before} {between} tables launch stopped held is first broken behind =
+    fault (is_run_fault stopped) (broke stopped between tables launch refl is refl (broken_first before between stopped first) broken behind)
 
 -- what a run put that was broken off
 pub off_puts : (tables : Tables) (launch : Launch) (stopped : RunFault) (before after : CallStreams) → IsBrokenOff tables launch stopped before after
@@ -163,3 +165,6 @@ command_ends kind given refuses =
 
 pub command_unrun : (kind : ℕ) (ending : Ending) → Command kind ≡ Ran ending → ⊥
 command_unrun kind ending e = cc
+
+pub command_unwritten : (kind : ℕ) → Command kind ≡ Wrote → ⊥
+command_unwritten kind e = cc

@@ -5,3 +5,5 @@ pub mod ReportLines
 pub mod OneJob
 pub mod AskedAnswers
 pub mod SomeJob
+pub mod NewImages
+pub mod Migrations

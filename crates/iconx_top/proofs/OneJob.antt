@@ -3,9 +3,11 @@ use Rattle.std.proofs.Common.{◌≡◌, ℕ, ◌≤◌, ◌<◌, List, [], leng
 use Rattle.std.proofs.lemmas.Option.{none-some, same_Some}
 use Rattle.icn_host.specs.FileMaps.{FileMap}
 use Rattle.icn_tree.specs.declared.rule.Rule.{Rule}
+use Rattle.icn_tree.specs.declared.rule.Rule.TheVariants.{I7}
 use Rattle.icn_value.specs.Limited.{Bounds}
 use Rattle.icn_code.specs.Codes.{Tables}
 use Rattle.icn_image.specs.Reading.{image_read}
+use Rattle.icn_image.specs.Spelling.{image_of}
 use Rattle.icn_verify.specs.Faults.{IsFirstFault, IsVerified}
 use Rattle.icn_verify.specs.ShapeLaws.{HaveOneFault, HaveNoFault}
 use Rattle.icn_defs.specs.Running.{Launch, Observation}
@@ -14,8 +16,8 @@ use Rattle.icn_run.proofs.OneObservation.{flat_once}
 use Rattle.icn_answer.specs.Answers.{IsFault}
 use Rattle.icn_answer.specs.declared.answer.Answer.TheVariants.{Command, Missing, BadImage}
 use Rattle.iconx_top.specs.LoadedImages.{IsJudged, too_long, broken, unverified, runs}
-use Rattle.iconx_top.specs.Job.{Job, IsJob, IsRun, wrong_words, missing, bad, ran, refusal, observation}
-use Rattle.iconx_top.specs.Words.{WordsReading, Asks, Faulty, words_reading}
+use Rattle.iconx_top.specs.Job.{Job, IsJob, IsMigration, IsRun, IsShort, wrong_words, missing, bad, ran, writes, grows, migrated, refusal, observation}
+use Rattle.iconx_top.specs.Words.{WordsReading, Asks, Migrates, Faulty, image_named, words_reading}
 
 -- Values of results that are equal
 
@@ -75,27 +77,30 @@ module _ (one : HaveOneFault) (none : HaveNoFault) (bytes : List ℕ) where
 
 bounds_asked : Bounds → WordsReading → Bounds
 bounds_asked other (Asks bounds name arguments) = bounds
+bounds_asked other (Migrates new name) = other
 bounds_asked other (Faulty kind) = other
-
-name_asked : WordsReading → List ℕ
-name_asked (Asks bounds name arguments) = name
-name_asked (Faulty kind) = []
 
 arguments_asked : WordsReading → List (List ℕ)
 arguments_asked (Asks bounds name arguments) = arguments
+arguments_asked (Migrates new name) = []
 arguments_asked (Faulty kind) = []
+
+new_asked : WordsReading → List ℕ
+new_asked (Asks bounds name arguments) = []
+new_asked (Migrates new name) = new
+new_asked (Faulty kind) = []
 
 kind_asked : WordsReading → ℕ
 kind_asked (Asks bounds name arguments) = 0
+kind_asked (Migrates new name) = 0
 kind_asked (Faulty kind) = kind
 
-asks_faulty : (bounds : Bounds) (name : List ℕ) (arguments : List (List ℕ)) (kind : ℕ) (reading : WordsReading) → reading ≡ Asks bounds name arguments
-    → reading ≡ Faulty kind → ⊥
-asks_faulty bounds name arguments kind reading e f = cc
+-- faulty words name no image
+named_faulty : (name : List ℕ) (kind : ℕ) (reading : WordsReading) → image_named reading ≡ Some name → reading ≡ Faulty kind → ⊥
+named_faulty name kind reading e f = none-some name (sym (ap image_named f) ∙ e)
 
-same_name : (b c : Bounds) (n m : List ℕ) (x y : List (List ℕ)) (reading : WordsReading) → reading ≡ Asks b n x → reading ≡ Asks c m y → n ≡ m
-unfolding name_asked
-same_name b c n m x y reading e f = ap name_asked (sym e ∙ f)
+same_name : (n m : List ℕ) (reading : WordsReading) → image_named reading ≡ Some n → image_named reading ≡ Some m → n ≡ m
+same_name n m reading e f = same_Some n m (sym e ∙ f)
 
 same_bounds : (b c : Bounds) (n m : List ℕ) (x y : List (List ℕ)) (reading : WordsReading) → reading ≡ Asks b n x → reading ≡ Asks c m y → b ≡ c
 unfolding bounds_asked
@@ -104,6 +109,14 @@ same_bounds b c n m x y reading e f = ap (bounds_asked b) (sym e ∙ f)
 same_arguments : (b c : Bounds) (n m : List ℕ) (x y : List (List ℕ)) (reading : WordsReading) → reading ≡ Asks b n x → reading ≡ Asks c m y → x ≡ y
 unfolding arguments_asked
 same_arguments b c n m x y reading e f = ap arguments_asked (sym e ∙ f)
+
+same_new : (p q n m : List ℕ) (reading : WordsReading) → reading ≡ Migrates p n → reading ≡ Migrates q m → p ≡ q
+unfolding new_asked
+same_new p q n m reading e f = ap new_asked (sym e ∙ f)
+
+runs_migrates : (b : Bounds) (n : List ℕ) (x : List (List ℕ)) (new m : List ℕ) (reading : WordsReading) → reading ≡ Asks b n x
+    → reading ≡ Migrates new m → ⊥
+runs_migrates b n x new m reading e f = cc
 
 same_kind : (k j : ℕ) (reading : WordsReading) → reading ≡ Faulty k → reading ≡ Faulty j → k ≡ j
 unfolding kind_asked
@@ -127,11 +140,25 @@ module _ (one : HaveOneFault) (none : HaveNoFault) where
   judged_same x y a b same p q = judged_once one none y a b (rw same at p) q
 
   module _ (words : List (List ℕ)) (held : FileMap) (left : List ℕ) where
+    run_named : (t : Tables) (a : Launch) → (is : IsRun words held left t a) → image_named (words_reading words) ≡ Some is.name
+    run_named t a is = ap image_named is.asks
+
+    new_named : (new : List ℕ) (t : Tables) → (is : IsMigration words held new t) → image_named (words_reading words) ≡ Some is.name
+    new_named new t is = ap image_named is.asks
+
+    -- what is held under the image's name is judged in one way
+    same_judged : (n m x y : List ℕ) (a b : Judged) → image_named (words_reading words) ≡ Some n → image_named (words_reading words) ≡ Some m
+        → held n ≡ Some x → held m ≡ Some y → IsJudged x a → IsJudged y b → a ≡ b
+    same_judged n m x y a b e f p q is was =
+        judged_same x y a b (same_bytes held n m x y (same_name n m (words_reading words) e f) p q) is was
+
     same_tables : (s t : Tables) (a b : Launch) → IsRun words held left s a → IsRun words held left t b → s ≡ t
     same_tables s t a b x y =
-        let named : x.name ≡ y.name = same_name a.bounds b.bounds x.name y.name a.words b.words (words_reading words) x.asks y.asks in
-        let bytes : x.bytes ≡ y.bytes = same_bytes held x.name y.name x.bytes y.bytes named x.there y.there in
-        same_ok s t (judged_same x.bytes y.bytes (Ok s) (Ok t) bytes x.judged y.judged)
+        same_ok s t (same_judged x.name y.name x.bytes y.bytes (Ok s) (Ok t) (run_named s a x) (run_named t b y) x.there y.there x.judged y.judged)
+
+    same_migrated : (p q : List ℕ) (s t : Tables) → IsMigration words held p s → IsMigration words held q t → s ≡ t
+    same_migrated p q s t x y =
+        same_ok s t (same_judged x.name y.name x.bytes y.bytes (Ok s) (Ok t) (new_named p s x) (new_named q t y) x.there y.there x.judged y.judged)
 
     launched_once : (s t : Tables) (a b : Launch) → IsRun words held left s a → IsRun words held left t b → a ≡ b
     launched_once s t a b x y = same_launch a b (same_arguments a.bounds b.bounds x.name y.name a.words b.words (words_reading words) x.asks y.asks)
@@ -140,46 +167,85 @@ module _ (one : HaveOneFault) (none : HaveNoFault) where
     observed_once : (s t : Tables) (a b : Launch) (p q : Observation) → IsRun words held left s a → IsRun words held left t b → Runs s a p → Runs t b q → p ≡ q
     observed_once s t a b p q x y = seen_once s t a b p q (same_tables s t a b x y) (launched_once s t a b x y)
 
-    -- an image that is refused is not run
-    refused_run : (bounds : Bounds) (name bytes : List ℕ) (arguments : List (List ℕ)) (rule : Rule) (tables : Tables) (launch : Launch)
-        → words_reading words ≡ Asks bounds name arguments → held name ≡ Some bytes → IsJudged bytes (Err rule) → IsRun words held left tables launch → ⊥
-    refused_run bounds name bytes arguments rule tables launch e f is x =
-        let named : name ≡ x.name = same_name bounds launch.bounds name x.name arguments launch.words (words_reading words) e x.asks in
-        ok_err tables rule (judged_same x.bytes bytes (Ok tables) (Err rule) (sym (same_bytes held name x.name bytes x.bytes named f x.there)) x.judged is)
+    -- an image that is refused, or not there, is neither run nor written anew
+    refused_run : (name bytes : List ℕ) (rule : Rule) (tables : Tables) (launch : Launch)
+        → image_named (words_reading words) ≡ Some name → held name ≡ Some bytes → IsJudged bytes (Err rule) → IsRun words held left tables launch → ⊥
+    refused_run name bytes rule tables launch e f is x =
+        ok_err tables rule (same_judged x.name name x.bytes bytes (Ok tables) (Err rule) (run_named tables launch x) e x.there f x.judged is)
 
-    missing_run : (bounds : Bounds) (name : List ℕ) (arguments : List (List ℕ)) (tables : Tables) (launch : Launch)
-        → words_reading words ≡ Asks bounds name arguments → held name ≡ None → IsRun words held left tables launch → ⊥
-    missing_run bounds name arguments tables launch e f x =
-        some_none held x.name name x.bytes (same_name launch.bounds bounds x.name name launch.words arguments (words_reading words) x.asks e) x.there f
+    refused_new : (name bytes : List ℕ) (rule : Rule) (new : List ℕ) (tables : Tables)
+        → image_named (words_reading words) ≡ Some name → held name ≡ Some bytes → IsJudged bytes (Err rule) → IsMigration words held new tables → ⊥
+    refused_new name bytes rule new tables e f is x =
+        ok_err tables rule (same_judged x.name name x.bytes bytes (Ok tables) (Err rule) (new_named new tables x) e x.there f x.judged is)
+
+    missing_run : (name : List ℕ) (tables : Tables) (launch : Launch)
+        → image_named (words_reading words) ≡ Some name → held name ≡ None → IsRun words held left tables launch → ⊥
+    missing_run name tables launch e f x = some_none held x.name name x.bytes (same_name x.name name (words_reading words) (run_named tables launch x) e) x.there f
+
+    missing_new : (name new : List ℕ) (tables : Tables)
+        → image_named (words_reading words) ≡ Some name → held name ≡ None → IsMigration words held new tables → ⊥
+    missing_new name new tables e f x = some_none held x.name name x.bytes (same_name x.name name (words_reading words) (new_named new tables x) e) x.there f
+
+    run_or_new : (s t : Tables) (launch : Launch) (new : List ℕ) → IsRun words held left s launch → IsMigration words held new t → ⊥
+    run_or_new s t launch new x y = runs_migrates launch.bounds x.name launch.words new y.name (words_reading words) x.asks y.asks
+
+    short_or_long : (p q : List ℕ) (s t : Tables) → IsMigration words held p s → IsMigration words held q t → IsShort s
+        → 1073741824 < length (image_of t) → ⊥
+    short_or_long p q s t x y short long =
+        long_short (length (image_of t)) long (subst (λ (u : Tables). length (image_of u) ≤ 1073741824) (same_migrated p q s t x y) short)
 
   pub one_job : (words : List (List ℕ)) (files : FileMap) (left : List ℕ) (a b : Job) → IsJob words files left a → IsJob words files left b → a ≡ b
   one_job words files left _ _ (wrong_words k e) (wrong_words j f) = ap (λ n. refusal files left [] (Command n)) (same_kind k j (words_reading words) e f)
-  one_job words files left _ b (wrong_words k e) (missing c n x f _) = absurd (asks_faulty c n x k (words_reading words) f e)
-  one_job words files left _ b (wrong_words k e) (bad c n _ x _ f _ _) = absurd (asks_faulty c n x k (words_reading words) f e)
-  one_job words files left _ b (wrong_words k e) (ran _ launch _ is _) =
-      absurd (asks_faulty launch.bounds is.name launch.words k (words_reading words) is.asks e)
-  one_job words files left a _ (missing c n x f _) (wrong_words k e) = absurd (asks_faulty c n x k (words_reading words) f e)
-  one_job words files left a _ (bad c n _ x _ f _ _) (wrong_words k e) = absurd (asks_faulty c n x k (words_reading words) f e)
-  one_job words files left a _ (ran _ launch _ is _) (wrong_words k e) =
-      absurd (asks_faulty launch.bounds is.name launch.words k (words_reading words) is.asks e)
-  one_job words files left _ _ (missing b n x e _) (missing c m y f _) =
-      ap (λ name. refusal files left name (Missing name)) (same_name b c n m x y (words_reading words) e f)
-  one_job words files left _ d (missing b n x e h) (bad c m z y _ f g _) = absurd (some_none files m n z (same_name c b m n y x (words_reading words) f e) g h)
-  one_job words files left d _ (bad c m z y _ f g _) (missing b n x e h) = absurd (some_none files m n z (same_name c b m n y x (words_reading words) f e) g h)
-  one_job words files left _ d (missing b n x e h) (ran t launch _ is _) = absurd (missing_run words files left b n x t launch e h is)
-  one_job words files left d _ (ran t launch _ is _) (missing b n x e h) = absurd (missing_run words files left b n x t launch e h is)
-  one_job words files left _ _ (bad b n u x r e g p) (bad c m v y q f h s) =
-      let named : n ≡ m = same_name b c n m x y (words_reading words) e f in
-      let rules : r ≡ q = same_err r q (judged_same u v (Err r) (Err q) (same_bytes files n m u v named g h) p s) in
+  one_job words files left _ _ (wrong_words k e) (missing n f _) = absurd (named_faulty n k (words_reading words) f e)
+  one_job words files left _ _ (missing n f _) (wrong_words k e) = absurd (named_faulty n k (words_reading words) f e)
+  one_job words files left _ _ (wrong_words k e) (bad n _ _ f _ _) = absurd (named_faulty n k (words_reading words) f e)
+  one_job words files left _ _ (bad n _ _ f _ _) (wrong_words k e) = absurd (named_faulty n k (words_reading words) f e)
+  one_job words files left _ _ (wrong_words k e) (ran t launch _ is _) = absurd (named_faulty is.name k (words_reading words) (run_named words files left t launch is) e)
+  one_job words files left _ _ (ran t launch _ is _) (wrong_words k e) = absurd (named_faulty is.name k (words_reading words) (run_named words files left t launch is) e)
+  one_job words files left _ _ (wrong_words k e) (writes new t is _) = absurd (named_faulty is.name k (words_reading words) (new_named words files left new t is) e)
+  one_job words files left _ _ (writes new t is _) (wrong_words k e) = absurd (named_faulty is.name k (words_reading words) (new_named words files left new t is) e)
+  one_job words files left _ _ (wrong_words k e) (grows new t is _) = absurd (named_faulty is.name k (words_reading words) (new_named words files left new t is) e)
+  one_job words files left _ _ (grows new t is _) (wrong_words k e) = absurd (named_faulty is.name k (words_reading words) (new_named words files left new t is) e)
+  one_job words files left _ _ (missing n e _) (missing m f _) =
+      ap (λ name. refusal files left name (Missing name)) (same_name n m (words_reading words) e f)
+  one_job words files left _ _ (missing n e h) (bad m z _ f g _) = absurd (some_none files m n z (same_name m n (words_reading words) f e) g h)
+  one_job words files left _ _ (bad m z _ f g _) (missing n e h) = absurd (some_none files m n z (same_name m n (words_reading words) f e) g h)
+  one_job words files left _ _ (missing n e h) (ran t launch _ is _) = absurd (missing_run words files left n t launch e h is)
+  one_job words files left _ _ (ran t launch _ is _) (missing n e h) = absurd (missing_run words files left n t launch e h is)
+  one_job words files left _ _ (missing n e h) (writes new t is _) = absurd (missing_new words files left n new t e h is)
+  one_job words files left _ _ (writes new t is _) (missing n e h) = absurd (missing_new words files left n new t e h is)
+  one_job words files left _ _ (missing n e h) (grows new t is _) = absurd (missing_new words files left n new t e h is)
+  one_job words files left _ _ (grows new t is _) (missing n e h) = absurd (missing_new words files left n new t e h is)
+  one_job words files left _ _ (bad n u r e g p) (bad m v q f h s) =
+      let named : n ≡ m = same_name n m (words_reading words) e f in
+      let rules : r ≡ q = same_err r q (same_judged words files left n m u v (Err r) (Err q) e f g h p s) in
       ap (λ name. refusal files left name (BadImage r)) named ∙ ap (λ rule. refusal files left m (BadImage rule)) rules
-  one_job words files left _ d (bad b n u x r e g p) (ran t launch _ is _) = absurd (refused_run words files left b n u x r t launch e g p is)
-  one_job words files left d _ (ran t launch _ is _) (bad b n u x r e g p) = absurd (refused_run words files left b n u x r t launch e g p is)
+  one_job words files left _ _ (bad n u r e g p) (ran t launch _ is _) = absurd (refused_run words files left n u r t launch e g p is)
+  one_job words files left _ _ (ran t launch _ is _) (bad n u r e g p) = absurd (refused_run words files left n u r t launch e g p is)
+  one_job words files left _ _ (bad n u r e g p) (writes new t is _) = absurd (refused_new words files left n u r new t e g p is)
+  one_job words files left _ _ (writes new t is _) (bad n u r e g p) = absurd (refused_new words files left n u r new t e g p is)
+  one_job words files left _ _ (bad n u r e g p) (grows new t is _) = absurd (refused_new words files left n u r new t e g p is)
+  one_job words files left _ _ (grows new t is _) (bad n u r e g p) = absurd (refused_new words files left n u r new t e g p is)
   one_job words files left _ _ (ran s a v x p) (ran t b w y q) =
       ap (λ observed. observation files observed) (observed_once words files left s t a b v w x y p q)
+  one_job words files left _ _ (ran s a _ x _) (writes new t y _) = absurd (run_or_new words files left s t a new x y)
+  one_job words files left _ _ (writes new t y _) (ran s a _ x _) = absurd (run_or_new words files left s t a new x y)
+  one_job words files left _ _ (ran s a _ x _) (grows new t y _) = absurd (run_or_new words files left s t a new x y)
+  one_job words files left _ _ (grows new t y _) (ran s a _ x _) = absurd (run_or_new words files left s t a new x y)
+  one_job words files left _ _ (writes p s x _) (writes q t y _) =
+      ap (λ new. migrated files left new s) (same_new p q x.name y.name (words_reading words) x.asks y.asks)
+      ∙ ap (λ tables. migrated files left q tables) (same_migrated words files left p q s t x y)
+  one_job words files left _ _ (writes p s x short) (grows q t y long) = absurd (short_or_long words files left p q s t x y short long)
+  one_job words files left _ _ (grows q t y long) (writes p s x short) = absurd (short_or_long words files left p q s t x y short long)
+  one_job words files left _ _ (grows p s x _) (grows q t y _) =
+      ap (λ name. refusal files left name (BadImage I7))
+      (same_name x.name y.name (words_reading words) (new_named words files left p s x) (new_named words files left q t y))
 
 -- no job answers a fault
 pub no_fault_asked : (words : List (List ℕ)) (files : FileMap) (left : List ℕ) (job : Job) → IsJob words files left job → IsFault job.answer → ⊥
 no_fault_asked words files left _ (wrong_words k e) f = true_false true refl (sym f)
-no_fault_asked words files left _ (missing b n x e h) f = true_false true refl (sym f)
-no_fault_asked words files left _ (bad b n u x r e g p) f = true_false true refl (sym f)
+no_fault_asked words files left _ (missing n e h) f = true_false true refl (sym f)
+no_fault_asked words files left _ (bad n u r e g p) f = true_false true refl (sym f)
 no_fault_asked words files left _ (ran tables launch observed is p) f = true_false true refl (sym f)
+no_fault_asked words files left _ (writes new t is s) f = true_false true refl (sym f)
+no_fault_asked words files left _ (grows new t is s) f = true_false true refl (sym f)

@@ -1,19 +1,23 @@
 -- What the words, the files and the input ask for.
-use Rattle.std.specs.Prelude.{◌≡◌, ℕ, List, [], None, Some, Ok, Err}
+use Rattle.std.specs.Prelude.{◌≡◌, ◌≤◌, ◌<◌, ℕ, List, [], length, None, Some, Ok, Err}
+use Rattle.std.specs.Map.{update}
+use Rattle.std.specs.Str.{bytes_eq}
+use Rattle.icn_profile.specs.Numbers.{most_bytes_of_image}
 use Rattle.icn_host.specs.FileMaps.{FileMap}
 use Rattle.icn_tree.specs.declared.rule.Rule.{Rule}
-use Rattle.icn_value.specs.Limited.{Bounds}
+use Rattle.icn_tree.specs.declared.rule.Rule.TheVariants.{I7}
 use Rattle.icn_value.specs.Store.{outside_of}
 use Rattle.icn_defs.specs.Running.{Launch, Observation}
 use Rattle.icn_code.specs.Codes.{Tables}
+use Rattle.icn_image.specs.Spelling.{image_of}
 use Rattle.icn_run.specs.FlatStep.{Runs}
 use Rattle.icn_answer.specs.declared.answer.Answer.{Answer}
-use Rattle.icn_answer.specs.declared.answer.Answer.TheVariants.{Ran, Command, Missing, BadImage}
+use Rattle.icn_answer.specs.declared.answer.Answer.TheVariants.{Wrote, Ran, Command, Missing, BadImage}
 use Rattle.icn_answer.specs.Endings.{ending_held}
 use Rattle.icn_answer.specs.Lines.{line_of}
 use Rattle.iconx_top.specs.LoadedImages.{IsJudged}
 use Rattle.iconx_top.specs.Usage.{usage}
-use Rattle.iconx_top.specs.Words.{Asks, Faulty, words_reading}
+use Rattle.iconx_top.specs.Words.{Asks, Migrates, Faulty, image_named, words_reading}
 
 -- the answer, the files and the input left after it, and what is added to the output and to the error output
 pub record Job : Type 0 where
@@ -48,17 +52,43 @@ pub record IsRun (words : List (List ℕ)) (files : FileMap) (left : List ℕ) (
   pub judged : IsJudged bytes (Ok tables)
   pub input : launch.outside ≡ outside_of left
 
+-- the code of the image that the words name, which is to be written in the second version under this name
+pub record IsMigration (words : List (List ℕ)) (files : FileMap) (new : List ℕ)
+    (tables : Tables) : Type 0 where
+  pub name : List ℕ
+  pub bytes : List ℕ
+  pub asks : words_reading words ≡ Migrates new name
+  pub there : files name ≡ Some bytes
+  pub judged : IsJudged bytes (Ok tables)
+
+-- an image has at most 1073741824 bytes
+abbrev pub IsShort : Tables → Type 0
+IsShort tables = length (image_of tables) ≤ most_bytes_of_image
+
+-- the second version of this code is written under this name, and every other file stays
+abbrev pub migrated : FileMap → List ℕ → List ℕ → Tables → Job
+migrated files left new tables = record {
+  answer = Wrote;
+  files = update bytes_eq files new (Some (image_of tables));
+  left = left;
+  output = [];
+  errors = [];
+}
+
 -- what the words, the files and the input ask for
 pub data IsJob (words : List (List ℕ)) (files : FileMap) (left : List ℕ) : Job → Type 0 where
   wrong_words : (kind : ℕ) → words_reading words ≡ Faulty kind
       → IsJob words files left (refusal files left [] (Command kind))
-  missing : (bounds : Bounds) (name : List ℕ) (arguments : List (List ℕ))
-      → words_reading words ≡ Asks bounds name arguments → files name ≡ None
+  missing : (name : List ℕ) → image_named (words_reading words) ≡ Some name → files name ≡ None
       → IsJob words files left (refusal files left name (Missing name))
-  bad : (bounds : Bounds) (name bytes : List ℕ) (arguments : List (List ℕ)) (rule : Rule)
-      → words_reading words ≡ Asks bounds name arguments
+  bad : (name bytes : List ℕ) (rule : Rule) → image_named (words_reading words) ≡ Some name
       → files name ≡ Some bytes → IsJudged bytes (Err rule)
       → IsJob words files left (refusal files left name (BadImage rule))
   ran : (tables : Tables) (launch : Launch) (observed : Observation) → IsRun words files left tables launch
       → Runs tables launch observed
       → IsJob words files left (observation files observed)
+  writes : (new : List ℕ) (tables : Tables) → IsMigration words files new tables → IsShort tables
+      → IsJob words files left (migrated files left new tables)
+  grows : (new : List ℕ) (tables : Tables) (asked : IsMigration words files new tables)
+      → most_bytes_of_image < length (image_of tables)
+      → IsJob words files left (refusal files left asked.name (BadImage I7))

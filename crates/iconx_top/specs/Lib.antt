@@ -7,3 +7,4 @@ pub mod Outcomes
 pub mod Loading
 pub mod Commanded
 pub mod Answered
+pub mod WholeCall

@@ -1,14 +1,18 @@
 -- How the code tells what it reads.
-use Rattle.std.specs.Prelude.{◌≡◌, ℕ, List, take, Option, None, Some, Result, Ok, Err}
+use Rattle.std.specs.Prelude.{◌≡◌, ◌<◌, ℕ, List, length, take, Option, None, Some, Result, Ok, Err, Vec}
+use Rattle.icn_profile.specs.Numbers.{most_bytes_of_image}
 use Rattle.icn_tree.specs.declared.rule.Rule.{Rule}
+use Rattle.icn_tree.specs.declared.rule.Rule.TheVariants.{I7}
 use Rattle.icn_code.specs.Codes.{Tables}
 use Rattle.icn_code.specs.CodeTables.{tables_of}
 use Rattle.icn_image.specs.declared.fault.ImageFault.{ImageFault}
 use Rattle.icn_image.specs.declared.fault.ImageFault.TheVariants.{Broken, NoMemory as WantsMemory}
+use Rattle.icn_image.specs.Spelling.{image_of}
 use Rattle.icn_verify.specs.Faults.{IsFirstFault, IsVerified}
 use Rattle.icn_verify.specs.declared.verified.Verified.{Verified}
 use Rattle.icn_answer.specs.declared.answer.Answer.{Answer}
 use Rattle.icn_answer.specs.declared.answer.Answer.TheVariants.{Missing, BadImage, FileFault, NoMemory}
+use Rattle.iconx_top.specs.Job.{IsShort}
 use Rattle.iconx_top.specs.LoadedImages.{IsJudged}
 
 -- the first bytes of a text, up to one more than an image may have
@@ -61,3 +65,14 @@ IsOfLoading (BadImage rule) = Unit {0}
 IsOfLoading FileFault = Unit {0}
 IsOfLoading NoMemory = Unit {0}
 IsOfLoading answer = ⊥
+
+-- why there is no second version of a code: it would be too long, or memory was wanting
+abbrev pub IsNoSecondImage : Tables → Answer → Type 0
+IsNoSecondImage tables (BadImage rule) = (rule ≡ I7) × (most_bytes_of_image < length (image_of tables))
+IsNoSecondImage tables NoMemory = Unit {0}
+IsNoSecondImage tables answer = ⊥
+
+-- the second version of a code, or the answer where there is none
+abbrev pub IsSecondImage : {Z : Type 0} → Tables → Result (Vec ℕ Z) Answer → Type 0
+IsSecondImage tables (Ok image) = (image.items ≡ image_of tables) × IsShort tables
+IsSecondImage tables (Err answer) = IsNoSecondImage tables answer

@@ -1,5 +1,5 @@
 -- What the words of the command ask for.
-use Rattle.std.specs.Prelude.{ℕ, Bool, false, List, [], ◌∷◌, codes, ◌==◌, Option, None, Some, if◌then◌else◌}
+use Rattle.std.specs.Prelude.{⊤, ℕ, Bool, false, List, [], ◌∷◌, codes, ◌==◌, Option, None, Some, if◌then◌else◌}
 use Rattle.std.specs.Option.{option_map}
 use Rattle.std.specs.Str.{bytes_eq}
 use Rattle.icn_profile.specs.Numbers.{most_cells, most_levels, most_strings}
@@ -8,9 +8,11 @@ use Rattle.iconx_top.specs.declared.words.Limit.{Limit}
 use Rattle.iconx_top.specs.declared.words.Limit.TheVariants.{Turns, Strings, Cells, Levels}
 use Rattle.icn_text.specs.WordNumbers.{number_within}
 
--- a run of an image under these limits with these arguments, or the way in which the first wrong word is wrong
+-- a run of an image under these limits with these arguments; under a new name the second version of an image; or the way in which the first
+-- wrong word is wrong
 pub data WordsReading : Type 0 where
   Asks : Bounds → List ℕ → List (List ℕ) → WordsReading
+  Migrates : List ℕ → List ℕ → WordsReading
   Faulty : ℕ → WordsReading
 
 abbrev pub option_of : List ℕ → Option Limit
@@ -58,12 +60,38 @@ options bounds (word ∷ []) = last_word bounds word (option_of word)
 options bounds (word ∷ value ∷ words) =
     two_words bounds word value words (option_of word) (λ next. options next words)
 
+-- Behind `-m` stand the new name, whatever it is, and the image, and nothing more.
+abbrev pub migration : List (List ℕ) → WordsReading
+migration [] = Faulty 3
+migration (new ∷ []) = Faulty 2
+migration (new ∷ image ∷ []) = Migrates new image
+migration (new ∷ image ∷ word ∷ words) = Faulty 7
+
+-- `-m` counts only as the first word behind the program's own name
+abbrev pub words_behind : List (List ℕ) → WordsReading
+words_behind [] = Faulty 2
+words_behind (word ∷ words) =
+    if bytes_eq word (codes "-m") then migration words else options default_limits (word ∷ words)
+
 -- the program's own name stands first
 abbrev pub words_reading : List (List ℕ) → WordsReading
 words_reading [] = Faulty 2
-words_reading (program ∷ words) = options default_limits words
+words_reading (program ∷ words) = words_behind words
 
--- the name of the image that words ask for
+-- the image that words name, where they are not faulty
+abbrev pub image_named : WordsReading → Option (List ℕ)
+image_named (Asks bounds name arguments) = Some name
+image_named (Migrates new name) = Some name
+image_named (Faulty kind) = None
+
+-- its name, as lines have it
 abbrev pub image_name : WordsReading → List ℕ
 image_name (Asks bounds name arguments) = name
+image_name (Migrates new name) = name
 image_name (Faulty kind) = []
+
+-- the words ask for a file to be written
+abbrev pub AsksToWrite : WordsReading → Type 0
+AsksToWrite (Asks bounds name arguments) = ⊥
+AsksToWrite (Migrates new name) = ⊤
+AsksToWrite (Faulty kind) = ⊥

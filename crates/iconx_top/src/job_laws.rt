@@ -1,8 +1,13 @@
 // Laws of the job.
-ghost use Rattle.std.specs.Prelude.{◌≡◌, ℕ, List};
+ghost use Rattle.std.specs.Prelude.{◌≡◌, ℕ, List, Ok, Some};
 ghost use Rattle.icn_host.specs.FileMaps.{FileMap, HoldBytes};
 ghost use Rattle.icn_answer.specs.Answers.{IsFault};
-ghost use Rattle.iconx_top.specs.Job.{IsJob, Job};
+ghost use Rattle.icn_defs.specs.Running.{Launch};
+ghost use Rattle.icn_code.specs.Codes.{Tables};
+ghost use Rattle.icn_image.specs.Spelling.{image_of};
+ghost use Rattle.iconx_top.specs.Job.{IsJob, IsMigration, IsRun, IsShort, Job};
+ghost use Rattle.iconx_top.specs.LoadedImages.{IsJudged};
+ghost use Rattle.iconx_top.specs.Words.{Asks, words_reading};
 
 use icn_image::one_spelling;
 use icn_verify::one_fault;
@@ -20,4 +25,21 @@ pub fn one_job()
     one_spelling();
     one_fault();
     runs_end();
+}
+
+/// A new image runs as the image that it was made of: words that name it in place of that one, under the same limits and with the same
+/// arguments, ask for a run of the same code with the same launch, which has one observation (`one_observation` of `icn_run`).
+pub fn migration_keeps_runs()
+    ensures judged { (words : List (List ℕ)) (files : FileMap) (new : List ℕ) (tables : Tables)
+        → HoldBytes files → IsMigration words files new tables → IsShort tables
+        → IsJudged (image_of tables) (Ok tables) }
+    ensures alike { (migration : List (List ℕ)) (files after : FileMap) (new : List ℕ) (tables : Tables)
+        → HoldBytes files → (asked : IsMigration migration files new tables) → IsShort tables
+        → after new ≡ Some (image_of tables)
+        → (first second : List (List ℕ)) (left : List ℕ) (launch : Launch)
+        → words_reading first ≡ Asks launch.bounds asked.name launch.words
+        → words_reading second ≡ Asks launch.bounds new launch.words
+        → IsRun first files left tables launch → IsRun second after left tables launch }
+{
+    one_spelling();
 }

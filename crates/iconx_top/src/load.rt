@@ -1,14 +1,14 @@
 // The image that is to run.
-ghost use Rattle.std.specs.Prelude.{◌≡◌, ◌⊎◌, ℕ, List, Some, None, IfSome, IfErr};
+ghost use Rattle.std.specs.Prelude.{◌≡◌, ◌⊎◌, ℕ, List, IfSome, IfErr};
 ghost use Rattle.icn_answer.specs.Answers.{IsErrOfAbsence};
 ghost use Rattle.icn_answer.specs.FilesRead.{ReadsFiles, files_state};
 ghost use Rattle.icn_code.specs.CodeTables.{tables_of};
-ghost use Rattle.iconx_top.specs.Loading.{IsChecked, IsJudgement, IsLoaded, IsOfImage, IsOfLoading, Takes, of_image};
+ghost use Rattle.iconx_top.specs.Loading.{IsChecked, IsJudgement, IsLoaded, IsOfImage, IsOfLoading, IsSecondImage, Takes, of_image};
 
 use icn_answer::Answer;
 use icn_code::Code;
 use icn_host::{Files, ReadFailure};
-use icn_image::{ImageFault, read_image};
+use icn_image::{ImageFault, read_image, write_image};
 use icn_profile::MOST_BYTES_OF_IMAGE;
 use icn_tree::{Bytes, Rule};
 use icn_verify::{Verified, VerifyFault, verify};
@@ -77,5 +77,17 @@ fn verify_code(alloc: Global, code: Code) -> Result<Verified, Answer>
         Ok(verified) => Ok(verified),
         Err(VerifyFault::V { rule, .. }) => Err(Answer::BadImage(rule)),
         Err(VerifyFault::NoMemory) => Err(Answer::NoMemory),
+    }
+}
+
+/// The image of a verified code in the second version, or the answer where it would be too long, or memory ran out.
+pub fn second_image(alloc: Global, code: &Verified) -> Result<Vec<u8>, Answer>
+    ensures image { IsSecondImage (tables_of code.now.code) result }
+    ensures others { IfErr result IsOfImage }
+{
+    match write_image(alloc, code.code()) {
+        Ok(image) if image.len() as u64 > LONGEST => Err(Answer::BadImage(Rule::I7)),
+        Ok(image) => Ok(image),
+        Err(_) => Err(Answer::NoMemory),
     }
 }

@@ -3,28 +3,32 @@ ghost use Rattle.std.specs.Prelude.{◌≡◌, ◌⊎◌, ℕ, List, Option, Ok,
 ghost use Rattle.icn_host.specs.Counts.{Rose};
 ghost use Rattle.icn_host.specs.FileMaps.{FileMap};
 ghost use Rattle.icn_streams.specs.Handed.{call_streams};
-ghost use Rattle.icn_answer.specs.Answers.{IsAbsence, IsCommand, IsFault};
+ghost use Rattle.icn_host.specs.Sinks.{SinkState};
+ghost use Rattle.icn_code.specs.CodeTables.{tables_of};
+ghost use Rattle.icn_answer.specs.Answers.{IsAbsence, IsCommand, IsFault, IsRefusal};
 ghost use Rattle.icn_run_answer.specs.CountCauses.{EndsAtFirst, RunEndsAtFirst, outside};
 ghost use Rattle.icn_run_answer.specs.FaultAnswers.{IsOfRun};
 ghost use Rattle.icn_run_answer.specs.InputLeft.{LosesSome};
 ghost use Rattle.icn_run_answer.specs.OutsideLeft.{LeavesOutside};
+ghost use Rattle.icn_run_answer.specs.PendingBytes.{LeavesSettled, pending_bytes};
 ghost use Rattle.icn_run_answer.specs.Reporting.{LineStands, Reports};
 ghost use Rattle.icn_run_answer.specs.ToldObjects.{call_objects};
 ghost use Rattle.iconx_top.specs.Answered.{IsAnswered};
-ghost use Rattle.iconx_top.specs.Asking.{run_reading};
+ghost use Rattle.iconx_top.specs.Asking.{migration_reading, run_reading};
 ghost use Rattle.iconx_top.specs.Commanded.{IsCommanded};
+ghost use Rattle.iconx_top.specs.Job.{IsMigration};
 ghost use Rattle.iconx_top.specs.Loading.{IsLoaded};
-ghost use Rattle.iconx_top.specs.Outcomes.{AnswersCommand};
+ghost use Rattle.iconx_top.specs.Outcomes.{AnswersCommand, HoldsMigration, LeavesFiles};
 ghost use Rattle.iconx_top.specs.Usage.{usage};
-ghost use Rattle.iconx_top.specs.Words.{words_reading as read, image_name};
+ghost use Rattle.iconx_top.specs.Words.{AsksToWrite, words_reading as read, image_name};
 
-use crate::load::load;
-use crate::words::{RunAsked, read_command};
-use icn_answer::{Answer, own_line, refuse};
+use crate::load::{load, second_image};
+use crate::words::{CommandAsked, MigrationAsked, RunAsked, read_command};
+use icn_answer::{Answer, refuse, torn_answer};
 use icn_defs::broken_off;
 use icn_frames::Cell;
 use icn_host::{Files, Sink, Source};
-use icn_run_answer::answer_of;
+use icn_run_answer::broken_answer;
 use icn_running::run;
 use icn_segments::RawStack;
 use icn_verify::Verified;
@@ -32,10 +36,11 @@ use law_outside::runs_leave;
 use std::alloc::Global;
 
 const USAGE: &[u8] =
-    b"usage: iconx [-n turns] [-s bytes] [-b cells] [-l levels] image [argument ...]\n";
+    b"usage: iconx [-n turns] [-s bytes] [-b cells] [-l levels] image [argument ...] | iconx -m new image\n";
 
 /// All that the program `iconx` does: it reads the image that the words name from `files`, and runs its code over `input`, `out`
-/// and `err`. The line of an answer goes to `err` too. The words begin with the program's name.
+/// and `err`, or writes the second version of it under a new name. The line of an answer goes to `err` too. The words begin with
+/// the program's name.
 pub fn iconx_main<F: Files, I: Source, O: Sink, E: Sink>(
     alloc: Global,
     words: &[String],
@@ -80,21 +85,39 @@ pub fn iconx_main<F: Files, I: Source, O: Sink, E: Sink>(
     // Where the input tells what it has left, some first bytes of it were taken, whatever the files tell.
     ensures input { IfSome (I.left input.old) (λ left. LosesSome left (I.left input.new)) }
 
-    // An answer that no run gives leaves the output and the input as they were; the files stay so whatever is answered.
+    // An answer that no run gives leaves the output and the input as they were.
     ensures refused { (IsOfRun result → ⊥) → (O.state out.new).held ≡ (O.state out.old).held }
     ensures unread { (IsOfRun result → ⊥) → I.left input.new ≡ I.left input.old }
-    ensures files { F.held files.new ≡ F.held files.old }
 
-    // The first fault ends the call: its object's count rose once, and no other count did but at the put of the fault's own line. An
-    // absence is answered only where that count rose.
+    // The files stay as they were where the words do not ask for a new image, and where the answer is a refusal.
+    ensures files { (AsksToWrite (read (map string_bytes words.now)) → ⊥)
+        → F.held files.new ≡ F.held files.old }
+    ensures unwritten { IsRefusal result → F.held files.new ≡ F.held files.old }
+
+    // Where the files tell their content, and an image was written, its name holds the second version of the code that was read.
+    ensures written { IfSome (F.held files.old)
+        (λ held. result ≡ Answer.Wrote
+        → HoldsMigration (map string_bytes words.now) held (F.held files.new)) }
+
+    // Where the files tell their content, it is said what became of them, whatever the input tells.
+    ensures leaves { IfSome (F.held files.old)
+        (λ held. LeavesFiles (map string_bytes words.now) held result (F.held files.old) (F.held files.new)) }
+
+    // The first fault ends the call: its object's count rose once, and no other count did but of the output as it is settled at
+    // want of memory, and at the put of the fault's own line. An absence is answered only where that count rose.
     ensures causes { EndsAtFirst result (IsAbsence result)
         (outside (F.faults files.old) (F.absences files.old)
         (call_streams (I.left input.old) (I.faults input.old) (O.state out.old) (E.state err.old)))
         (outside (F.faults files.new) (F.absences files.new)
         (call_streams (I.left input.new) (I.faults input.new) (O.state out.new) (E.state err.new))) }
+
+    // Where nothing was pending on the outputs before, and no fault is answered, nothing is pending behind.
+    ensures settled { LeavesSettled result (pending_bytes (O.pending out.old) (E.pending err.old))
+        (pending_bytes (O.pending out.new) (E.pending err.new)) }
 {
     match read_command(words) {
-        Ok(asked) => image_answer(alloc, asked, files, input, out, err),
+        Ok(CommandAsked::Run(asked)) => image_answer(alloc, asked, files, input, out, err),
+        Ok(CommandAsked::Migration(asked)) => migration_answer(alloc, asked, files, err),
         Err(kind) => refuse(alloc, USAGE, "", Answer::Command(kind), err),
     }
 }
@@ -126,10 +149,90 @@ fn image_answer<F: Files, I: Source, O: Sink, E: Sink>(
         (call_streams (I.left input.old) (I.faults input.old) (O.state out.old) (E.state err.old)))
         (outside (F.faults files.new) (F.absences files.new)
         (call_streams (I.left input.new) (I.faults input.new) (O.state out.new) (E.state err.new))) }
+    ensures settled { LeavesSettled result (pending_bytes (O.pending out.old) (E.pending err.old))
+        (pending_bytes (O.pending out.new) (E.pending err.new)) }
 {
     match load(alloc, run.image, files) {
         Ok(verified) => run_answer(alloc, &verified, run, input, out, err),
         Err(answer) => refuse(alloc, USAGE, run.image, answer, err),
+    }
+}
+
+// Writes the second version of an image under a new name.
+fn migration_answer<F: Files, E: Sink>(
+    alloc: Global,
+    asked: MigrationAsked,
+    files: &mut F,
+    err: &mut E,
+) -> Answer
+    ensures outcome { (words : List (List ℕ)) (left : List ℕ) (input : ℕ) (out : SinkState)
+        → read words ≡ migration_reading asked.entry
+        → IfSome (F.held files.old) (λ held. AnswersCommand words held left result
+        (call_objects (F.held files.old) (call_streams (Some left) input out (E.state err.old)))
+        (call_objects (F.held files.new) (call_streams (Some left) input out (E.state err.new)))) }
+    ensures leaves { (words : List (List ℕ)) → read words ≡ migration_reading asked.entry
+        → IfSome (F.held files.old)
+        (λ held. LeavesFiles words held result (F.held files.old) (F.held files.new)) }
+    ensures reported { (left : Option (List ℕ))
+        → Reports usage asked.entry.image.now left (E.state err.old) (E.state err.new) result }
+    ensures answered { (words : List (List ℕ)) → read words ≡ migration_reading asked.entry
+        → IfSome (F.held files.old) (λ held. IsAnswered words held result) }
+    ensures command { IsCommand result → ⊥ }
+    ensures unwritten { IsRefusal result → F.held files.new ≡ F.held files.old }
+    ensures causes { (left : Option (List ℕ)) (input : ℕ) (out : SinkState)
+        → EndsAtFirst result (IsAbsence result)
+        (outside (F.faults files.old) (F.absences files.old) (call_streams left input out (E.state err.old)))
+        (outside (F.faults files.new) (F.absences files.new)
+        (call_streams left input out (E.state err.new))) }
+    ensures settled { (out : ℕ) → LeavesSettled result (pending_bytes out (E.pending err.old))
+        (pending_bytes out (E.pending err.new)) }
+{
+    match load(alloc, asked.image, files) {
+        Ok(verified) => new_image_answer(alloc, &verified, asked, files, err),
+        Err(answer) => refuse(alloc, USAGE, asked.image, answer, err),
+    }
+}
+
+// Writes the second version of a code under a new name.
+fn new_image_answer<F: Files, E: Sink>(
+    alloc: Global,
+    code: &Verified,
+    asked: MigrationAsked,
+    files: &mut F,
+    err: &mut E,
+) -> Answer
+    ensures outcome { (words : List (List ℕ)) (held : FileMap) (left : List ℕ) (input : ℕ) (out : SinkState)
+        → (is : IsMigration words held asked.entry.new_name.now (tables_of code.now.code))
+        → is.name ≡ asked.entry.image.now → F.held files.old ≡ Some held
+        → AnswersCommand words held left result
+        (call_objects (F.held files.old) (call_streams (Some left) input out (E.state err.old)))
+        (call_objects (F.held files.new) (call_streams (Some left) input out (E.state err.new))) }
+    ensures leaves { (words : List (List ℕ)) (held : FileMap)
+        → IsMigration words held asked.entry.new_name.now (tables_of code.now.code)
+        → F.held files.old ≡ Some held
+        → LeavesFiles words held result (F.held files.old) (F.held files.new) }
+    ensures reported { (left : Option (List ℕ))
+        → Reports usage asked.entry.image.now left (E.state err.old) (E.state err.new) result }
+    ensures answered { (words : List (List ℕ)) (held : FileMap)
+        → IsMigration words held asked.entry.new_name.now (tables_of code.now.code)
+        → F.held files.old ≡ Some held → IsAnswered words held result }
+    ensures command { IsCommand result → ⊥ }
+    ensures unwritten { IsRefusal result → F.held files.new ≡ F.held files.old }
+    ensures causes { (left : Option (List ℕ)) (input : ℕ) (out : SinkState)
+        → EndsAtFirst result (IsAbsence result)
+        (outside (F.faults files.old) (F.absences files.old) (call_streams left input out (E.state err.old)))
+        (outside (F.faults files.new) (F.absences files.new)
+        (call_streams left input out (E.state err.new))) }
+    ensures absences { F.absences files.new ≡ F.absences files.old }
+    ensures settled { (out : ℕ) → LeavesSettled result (pending_bytes out (E.pending err.old))
+        (pending_bytes out (E.pending err.new)) }
+{
+    match second_image(alloc, code) {
+        Ok(image) => match files.write(asked.new_name, &image) {
+            Ok(()) => Answer::Wrote,
+            Err(fault) => torn_answer(fault, err),
+        },
+        Err(answer) => refuse(alloc, USAGE, asked.image, answer, err),
     }
 }
 
@@ -157,6 +260,8 @@ fn run_answer<I: Source, O: Sink, E: Sink>(
     ensures causes { RunEndsAtFirst result
         (call_streams (I.left input.old) (I.faults input.old) (O.state out.old) (E.state err.old))
         (call_streams (I.left input.new) (I.faults input.new) (O.state out.new) (E.state err.new)) }
+    ensures settled { LeavesSettled result (pending_bytes (O.pending out.old) (E.pending err.old))
+        (pending_bytes (O.pending out.new) (E.pending err.new)) }
 {
     runs_leave();
     broken_off();
@@ -170,10 +275,6 @@ fn run_answer<I: Source, O: Sink, E: Sink>(
         err,
     ) {
         Ok(ending) => Answer::Ran(ending),
-        Err(fault) => {
-            let answer = answer_of(fault);
-            own_line(&answer, err);
-            answer
-        }
+        Err(fault) => broken_answer(fault, out, err),
     }
 }

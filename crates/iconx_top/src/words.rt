@@ -2,8 +2,8 @@
 ghost use Rattle.std.specs.Prelude.{◌≡◌, map, string_bytes};
 ghost use Rattle.std.specs.Option.{option_map};
 ghost use Rattle.icn_value.specs.Limited.{default_limits, limits_of};
-ghost use Rattle.iconx_top.specs.Words.{words_reading, image_asked, is_dashed, with_limit, option_of, options};
-ghost use Rattle.iconx_top.specs.Asking.{reading_of};
+ghost use Rattle.iconx_top.specs.Words.{words_reading, words_behind, image_asked, is_dashed, migration, with_limit, option_of, options};
+ghost use Rattle.iconx_top.specs.Asking.{migration_or_kind, reading_of, run_or_kind};
 
 use icn_profile::{MOST_CELLS, MOST_LEVELS, MOST_STRINGS};
 use icn_text::number_within;
@@ -17,6 +17,20 @@ pub struct RunAsked<'a> {
     pub limits: Limits,
 }
 
+/// What the words ask for: under a new name the second version of an image.
+#[derive(Clone, Copy)]
+pub struct MigrationAsked<'a> {
+    pub new_name: &'a str,
+    pub image: &'a str,
+}
+
+/// What the words ask for.
+#[derive(Clone, Copy)]
+pub enum CommandAsked<'a> {
+    Run(RunAsked<'a>),
+    Migration(MigrationAsked<'a>),
+}
+
 // An option that sets a limit.
 #[derive(Clone, Copy, Debug, PartialEq, Eq)]
 pub enum Limit {
@@ -26,24 +40,53 @@ pub enum Limit {
     Levels,
 }
 
-/// The run that the words ask for.
+/// What the words ask for.
 ///
 /// # Errors
 ///
-/// The way in which the first wrong word is wrong: 2 where no image is named, 3 for an option without its value, 4 for a value
-/// that is no number in its range, 5 for another word that begins with `-`.
-pub fn read_command(words: &[String]) -> Result<RunAsked<'_>, u8>
+/// The way in which the first wrong word is wrong: 2 where no image is named, 3 for an option without its value, or for `-m`
+/// without a name, 4 for a value that is no number in its range, 5 for another word that begins with `-`, 7 for a word behind
+/// the image of `-m`.
+pub fn read_command(words: &[String]) -> Result<CommandAsked<'_>, u8>
     ensures { reading_of result ≡ words_reading (map string_bytes words.now) }
 {
     match words.split_first() {
-        Some((_, behind)) => options(behind),
+        Some((_, behind)) => read_behind(behind),
         None => Err(2),
+    }
+}
+
+// What the words behind the program's name ask for.
+fn read_behind(words: &[String]) -> Result<CommandAsked<'_>, u8>
+    ensures { reading_of result ≡ words_behind (map string_bytes words.now) }
+{
+    let Some((word, others)) = words.split_first() else {
+        return Err(2);
+    };
+    if word.as_str() == "-m" {
+        return Ok(CommandAsked::Migration(read_migration(others)?));
+    }
+    Ok(CommandAsked::Run(options(words)?))
+}
+
+// The new name and the image, which stand behind `-m`.
+fn read_migration(words: &[String]) -> Result<MigrationAsked<'_>, u8>
+    ensures { migration_or_kind result ≡ migration (map string_bytes words.now) }
+{
+    match words {
+        [] => Err(3),
+        [_] => Err(2),
+        [new_name, image] => Ok(MigrationAsked {
+            new_name: new_name.as_str(),
+            image: image.as_str(),
+        }),
+        _ => Err(7),
     }
 }
 
 // The run that the words behind the program's name ask for.
 fn options(words: &[String]) -> Result<RunAsked<'_>, u8>
-    ensures { reading_of result ≡ options default_limits (map string_bytes words.now) }
+    ensures { run_or_kind result ≡ options default_limits (map string_bytes words.now) }
 {
     let mut limits = Limits::standard();
     let mut rest = words;
@@ -68,7 +111,7 @@ fn read_image_name<'a>(
     word: &'a str,
     arguments: &'a [String],
 ) -> Result<RunAsked<'a>, u8>
-    ensures { reading_of result ≡ image_asked (limits_of limits) word.now (map string_bytes arguments.now) }
+    ensures { run_or_kind result ≡ image_asked (limits_of limits) word.now (map string_bytes arguments.now) }
 {
     if is_dashed(word) {
         return Err(5);

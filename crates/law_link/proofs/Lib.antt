@@ -14,4 +14,5 @@ pub mod CodeForms
 pub mod CodeLabels
 pub mod CodeLaw
 pub mod JoinedCode
+pub mod ElementCounts
 pub mod JoinableFiles

@@ -113,7 +113,7 @@ module _ {d e : Draft} {ms : List TableMention} {ns : List (List ℕ)} where
 
 -- Steps that leave instructions and names
 
-label_instrs : (d : Draft) → (with_label d).instrs ≡ d.instrs
+pub label_instrs : (d : Draft) → (with_label d).instrs ≡ d.instrs
 unfolding with_label
 label_instrs d = refl
 
@@ -121,7 +121,7 @@ label_names : (d : Draft) → (with_label d).names ≡ d.names
 unfolding with_label
 label_names d = refl
 
-in_instrs : (w : LoopLabels) (d : Draft) → (in_loop w d).instrs ≡ d.instrs
+pub in_instrs : (w : LoopLabels) (d : Draft) → (in_loop w d).instrs ≡ d.instrs
 unfolding in_loop
 in_instrs w d = refl
 
@@ -129,7 +129,7 @@ in_names : (w : LoopLabels) (d : Draft) → (in_loop w d).names ≡ d.names
 unfolding in_loop
 in_names w d = refl
 
-out_instrs : (d : Draft) → (outside_loop d).instrs ≡ d.instrs
+pub out_instrs : (d : Draft) → (outside_loop d).instrs ≡ d.instrs
 unfolding outside_loop
 out_instrs d = refl
 
@@ -137,7 +137,7 @@ out_names : (d : Draft) → (outside_loop d).names ≡ d.names
 unfolding outside_loop
 out_names d = refl
 
-in_case_instrs : (end : Option ℕ) (d : Draft) → (in_case end d).instrs ≡ d.instrs
+pub in_case_instrs : (end : Option ℕ) (d : Draft) → (in_case end d).instrs ≡ d.instrs
 unfolding in_case
 in_case_instrs end d = refl
 
@@ -145,7 +145,7 @@ in_case_names : (end : Option ℕ) (d : Draft) → (in_case end d).names ≡ d.n
 unfolding in_case
 in_case_names end d = refl
 
-out_case_instrs : (d : Draft) → (outside_case d).instrs ≡ d.instrs
+pub out_case_instrs : (d : Draft) → (outside_case d).instrs ≡ d.instrs
 unfolding outside_case
 out_case_instrs d = refl
 

@@ -12,6 +12,7 @@ ghost use Rattle.law_simulation.specs.JoinedFiles.{IsJoined};
 ghost use Rattle.law_simulation.specs.FirstLaw.{FilesMean, RunsLinked, RunsFlat};
 ghost use Rattle.law_link.specs.TranslatedUnits.{translated_units};
 
+use icn_units::codes_have_room;
 use law_simulation::same_ends;
 
 /// The linked code of files that break no rule, from their translated units in the same order, is the code of which the first law
@@ -52,4 +53,6 @@ pub fn translations_are_joinable()
     ensures { (name : List ℕ) (file : List Declaration) → IsFaultless file
         → file_fits is_byte_text file ≡ true
         → is_joinable (translated_unit name file) ≡ true }
-{}
+{
+    codes_have_room();
+}

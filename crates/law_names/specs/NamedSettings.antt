@@ -27,6 +27,7 @@ abbrev pub OptionNamed : Names → Option Value → Type 0
 OptionNamed names None = Unit {0}
 OptionNamed names (Some value) = ValueNamed names value
 
+-- the key of a table names what has a name; other roots hold no value
 abbrev pub RootNamed : Names → Root → Type 0
 RootNamed names (Global place) = Unit {0}
 RootNamed names (Static place) = Unit {0}
@@ -36,10 +37,12 @@ RootNamed names (Field structure place) = Unit {0}
 RootNamed names (Key table key) = ValueNamed names key
 RootNamed names (Keyword word) = Unit {0}
 
+-- what a variable is rooted in names what has a name
 abbrev pub VariableNamed : Names → Variable → Type 0
 VariableNamed names (Whole root) = RootNamed names root
 VariableNamed names (Part root place size) = RootNamed names root
 
+-- a value, or what a variable is rooted in, names what has a name
 abbrev pub ItemBy : Names → Item → Type 0
 ItemBy names (Val value) = ValueNamed names value
 ItemBy names (Var variable) = VariableNamed names variable
@@ -52,15 +55,19 @@ pub record ItemNamed (names : Names) (item : Item) : Type 0 where
 abbrev pub PairNamed : Names → Value × Value → Type 0
 PairNamed names pair = ValueNamed names pair.0 × ValueNamed names pair.1
 
+-- each item of a list names what has a name
 abbrev pub ListNamed : Names → NumberedList Value → Type 0
 ListNamed names list = All (ValueNamed names) list.items
 
+-- each member of a set names what has a name
 abbrev pub SetNamed : Names → List Value → Type 0
 SetNamed names members = All (ValueNamed names) members
 
+-- the default and each pair of a table name what has a name
 abbrev pub TableNamed : Names → Table → Type 0
 TableNamed names table = ValueNamed names table.default × All (PairNamed names) table.pairs
 
+-- the kind of a record has a name, and each of its fields names what has one
 abbrev pub RecordNamed : Names → Record → Type 0
 RecordNamed names structure =
     (structure.kind < length names.records) × All (ValueNamed names) structure.fields
@@ -93,6 +100,7 @@ pub record SettingNamed (names : Names) (setting : Setting) : Type 0 where
   pub world : WorldNamed names setting.world
   pub locals : All (ValueNamed names) setting.locals
 
+-- the variables and the old values of a residual name what has a name
 abbrev pub ResidualBy : Names → Residual → Type 0
 ResidualBy names (TextBytes text place) = Unit {0}
 ResidualBy names (VariableBytes variable place) = VariableNamed names variable

@@ -7,6 +7,7 @@ use Rattle.icn_run.specs.Stacks.{Frames, flat, unmark}
 use Rattle.icn_run.specs.Step.{State, failing, hopping, instruction_at, over, running, stuck}
 use Rattle.icn_run.specs.AnyOutside.{run_over}
 
+-- where the instruction that runs is `ccase`, a mark is open
 abbrev pub CaseStands : Tables → State Frames Frames → Type 0
 CaseStands tables (running m st) = instruction_at flat tables m ≡ Some Ccase → IsSome (unmark m)
 CaseStands tables (failing m st) = Unit {0}

@@ -22,9 +22,11 @@ pub record Knowledge : Type 0 where
   pub flags : List (ℕ × PlainShape)
   pub coexps : ℕ
 
+-- the activation of this number is one of the procedure
 abbrev pub IsOf : Knowledge → ℕ → ℕ → Type 0
 IsOf w activation proc = slice_get w.activations activation ≡ Some proc
 
+-- the mark of this flag is one of the procedure, with the shape before it
 abbrev pub IsBefore : Knowledge → ℕ → ℕ → PlainShape → Type 0
 IsBefore w flag proc shape = slice_get w.flags flag ≡ Some (proc, shape)
 
@@ -32,6 +34,7 @@ IsBefore w flag proc shape = slice_get w.flags flag ≡ Some (proc, shape)
 abbrev pub locals_in : Procedure → ℕ
 locals_in entry = entry.parameters + entry.locals
 
+-- how many locals an activation of the procedure of this number has
 abbrev pub local_count : Tables → ℕ → ℕ
 local_count tables proc = option_map_or locals_in (slice_get tables.procs proc) 0
 

@@ -26,6 +26,7 @@ mark_count (call proc activation level address caller) = 0
 mark_count (mark label (chain operands suspensions scans outer)) = suc (mark_count outer)
 mark_count (limit count (chain operands suspensions scans outer)) = suc (mark_count outer)
 
+-- the machine on linked marks
 abbrev pub marks : Calls WaitingChain LinkedStack
 marks = linked_calls repeats_anywhere
 

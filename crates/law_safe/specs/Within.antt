@@ -13,10 +13,12 @@ abbrev pub Each : {A : Type 0} → (A → Type 0) → List A → Type 0
 Each Q [] = Unit {0}
 Each Q (x ∷ xs) = Q x × Each Q xs
 
+-- a co-expression is one of the first so many; other values ask for nothing
 abbrev pub ValueWithin : ℕ → Value → Type 0
 ValueWithin n (ACoexp k) = k < n
 ValueWithin n value = Unit {0}
 
+-- the value, if there is one, names no other co-expression
 abbrev pub OptionWithin : ℕ → Option Value → Type 0
 OptionWithin n None = Unit {0}
 OptionWithin n (Some value) = ValueWithin n value
@@ -26,30 +28,38 @@ abbrev pub KeptWithin : ℕ → Option KeptError → Type 0
 KeptWithin n None = Unit {0}
 KeptWithin n (Some error) = OptionWithin n error.value
 
+-- the key of a table names no other co-expression; other roots hold no value
 abbrev pub RootWithin : ℕ → Root → Type 0
 RootWithin n (Key table key) = ValueWithin n key
 RootWithin n root = Unit {0}
 
+-- what a variable is rooted in names no other co-expression
 abbrev pub VariableWithin : ℕ → Variable → Type 0
 VariableWithin n (Whole root) = RootWithin n root
 VariableWithin n (Part root place size) = RootWithin n root
 
+-- a value, or what a variable is rooted in, names no other co-expression
 abbrev pub ItemWithin : ℕ → Item → Type 0
 ItemWithin n (Val value) = ValueWithin n value
 ItemWithin n (Var variable) = VariableWithin n variable
 
+-- the key and the value of a pair name no other co-expression
 abbrev pub PairWithin : ℕ → Value × Value → Type 0
 PairWithin n pair = ValueWithin n pair.0 × ValueWithin n pair.1
 
+-- each item of a list names no other co-expression
 abbrev pub ListWithin : ℕ → NumberedList Value → Type 0
 ListWithin n list = Each (ValueWithin n) list.items
 
+-- each member of a set names no other co-expression
 abbrev pub SetWithin : ℕ → List Value → Type 0
 SetWithin n members = Each (ValueWithin n) members
 
+-- the default and each pair of a table name no other co-expression
 abbrev pub TableWithin : ℕ → Table → Type 0
 TableWithin n table = ValueWithin n table.default × Each (PairWithin n) table.pairs
 
+-- each field of a record names no other co-expression
 abbrev pub RecordWithin : ℕ → Record → Type 0
 RecordWithin n structure = Each (ValueWithin n) structure.fields
 
@@ -61,16 +71,19 @@ pub record HeapWithin (n : ℕ) (heap : Heap) : Type 0 where
   pub records : Each (RecordWithin n) heap.records
   pub count : length heap.coexps ≡ n
 
+-- what the values of a world name is no other co-expression
 pub record WorldWithin (n : ℕ) (world : World) : Type 0 where
   pub heap : HeapWithin n world.heap
   pub globals : Each (ValueWithin n) world.globals
   pub statics : Each (ValueWithin n) world.statics
   pub kept : KeptWithin n world.kept
 
+-- what the values of a setting name is no other co-expression
 pub record SettingWithin (n : ℕ) (setting : Setting) : Type 0 where
   pub world : WorldWithin n setting.world
   pub locals : Each (ValueWithin n) setting.locals
 
+-- the variables and the old values of a residual name no other co-expression
 abbrev pub ResidualWithin : ℕ → Residual → Type 0
 ResidualWithin n (VariableBytes variable place) = VariableWithin n variable
 ResidualWithin n (UndoAssign variable old) = VariableWithin n variable × ValueWithin n old
@@ -78,6 +91,7 @@ ResidualWithin n (UndoExchange mover x y old_x old_y) =
     VariableWithin n x × VariableWithin n y × ValueWithin n old_x × ValueWithin n old_y
 ResidualWithin n residual = Unit {0}
 
+-- what a row comes to names no other co-expression, nor does the setting that it leaves
 abbrev pub OutcomeWithin : ℕ → Outcome → Type 0
 OutcomeWithin n (Fails seen) = SettingWithin n seen
 OutcomeWithin n (Gives item seen) = ItemWithin n item × SettingWithin n seen

@@ -42,9 +42,11 @@ pub record BrokenOff (Sees : Launch → Observation → Type 0) (launch : Launch
 abbrev pub with_turns : ℕ → Launch → Launch
 with_turns n launch = record launch { bounds = record launch.bounds { turns = n } }
 
+-- the same launch with another limit of string bytes
 abbrev pub with_strings : ℕ → Launch → Launch
 with_strings n launch = record launch { bounds = record launch.bounds { strings = n } }
 
+-- the same launch with another limit of cells
 abbrev pub with_cells : ℕ → Launch → Launch
 with_cells n launch = record launch { bounds = record launch.bounds { cells = n } }
 

@@ -9,6 +9,7 @@ use Rattle.icn_run.specs.Calls.{Calls}
 use Rattle.law_simulation.specs.Linkage.{Linkage}
 use Rattle.law_simulation.specs.StandingCode.{StandsRoutine}
 
+-- The same callee: a procedure whose code stands, a record of as many fields, the same function, or nothing
 pub data OfCallee (L : Linkage) (n : ℕ) : M.Callee → S.Callee → Type 0 where
   o_routine : {routine : M.Routine} {entry : Procedure} → routine.parameters ≡ entry.parameters
       → routine.collects ≡ entry.collects → length routine.locals - routine.parameters ≡ entry.locals
@@ -18,6 +19,7 @@ pub data OfCallee (L : Linkage) (n : ℕ) : M.Callee → S.Callee → Type 0 whe
   o_function : {f : Func} → OfCallee L n (M.IsFunction f) (S.IsFunc f)
   o_nothing : OfCallee L n M.IsNothing S.IsNothing
 
+-- a program with its tables, in which the callees of each number correspond
 pub record Ground : Type 0 where
   pub L : Linkage
   pub callees : (n : ℕ) → OfCallee L n (M.callee_of L.program n) (S.callee_of L.tables n)
@@ -26,5 +28,6 @@ pub record Ground : Type 0 where
 abbrev pub code_of : Ground → S.Program
 code_of G = G.L.tables
 
+-- the machine on linked marks that runs it
 abbrev pub machine : Ground → Calls WaitingChain LinkedStack
 machine G = linked_calls G.L.repeats

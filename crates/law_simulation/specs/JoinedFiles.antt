@@ -25,6 +25,7 @@ use Rattle.law_simulation.specs.Mentions.{TableMention, all_mentions, initial_me
 
 -- What the declarations mention
 
+-- the procedures of all files, each with the places of its names
 abbrev pub routines : List Declaration → List Routine
 routines declarations = routines_of (globals_of declarations) 0 (procedures_of declarations)
 
@@ -32,9 +33,11 @@ routines declarations = routines_of (globals_of declarations) 0 (procedures_of d
 abbrev pub routine_mentions : Routine → List TableMention
 routine_mentions routine = initial_mentions routine.initial ++ all_mentions routine.body
 
+-- what the code of all procedures takes from the tables, in the order of the instructions
 abbrev pub code_mentions : List Declaration → List TableMention
 code_mentions declarations = flat_map routine_mentions (routines declarations)
 
+-- the names of the fields of all constructors
 abbrev pub record_fields : List Constructor → List (List ℕ)
 record_fields kinds = flat_map (λ (kind : Constructor). kind.fields) kinds
 
@@ -50,9 +53,11 @@ string_mentions declarations =
     ++ (globals_of declarations ++ (routine_names (routines declarations)
     ++ texts_among (code_mentions declarations))))
 
+-- the table of strings: each once, in the order in which they first come
 abbrev pub strings_of : List Declaration → List (List ℕ)
 strings_of declarations = firsts bytes_eq (string_mentions declarations)
 
+-- the table of integers: each once, in the order in which they first come
 abbrev pub integers_of : List Declaration → List ℤ
 integers_of declarations = firsts int_eq (integers_among (code_mentions declarations))
 
@@ -62,9 +67,11 @@ sets_of declarations = firsts bytes_eq (sets_among (code_mentions declarations))
 
 -- Places in the tables
 
+-- the index of a text in its table
 abbrev pub text_index : List (List ℕ) → List ℕ → ℕ
 text_index texts text = position_or_len (bytes_eq text) texts
 
+-- the index of an integer in its table
 abbrev pub integer_index : List ℤ → ℤ → ℕ
 integer_index integers n = position_or_len (int_eq n) integers
 
@@ -89,6 +96,7 @@ names_in declarations routine = record {
 
 -- The entries of the tables
 
+-- the entry of a constructor: the indices of its name and of the names of its fields
 abbrev pub record_entry : List Declaration → Constructor → RecordType
 record_entry declarations kind =
     record {
@@ -106,15 +114,18 @@ start_by None None true function = Starts.Null
 start_by None None false (Some function) = Starts.Function function
 start_by None None false None = Starts.Null
 
+-- what the global of this name begins with
 abbrev pub start : List Declaration → List ℕ → Start
 start declarations name = start_by (index_of name (routine_names (routines declarations)))
     (index_of name (kind_names (kinds_of declarations)))
     (has_name name (global_names declarations)) (function_named name)
 
+-- the entry of a global: the index of its name, and what it begins with
 abbrev pub global_entry : List Declaration → List ℕ → Global
 global_entry declarations name =
     record { name = text_index (strings_of declarations) name; start = start declarations name }
 
+-- the entry of a procedure: its name, the counts of its variables, and its translation
 abbrev pub procedure_entry : List Declaration → Routine → Proc
 procedure_entry declarations routine = record {
   name = text_index (strings_of declarations) routine.name;

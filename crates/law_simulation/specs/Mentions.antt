@@ -13,6 +13,7 @@ pub data TableMention : Type 0 where
   ASet : List ℕ → TableMention
   AField : List ℕ → TableMention
 
+-- the constant that a literal is
 abbrev pub literal_mention : Literal → TableMention
 literal_mention (Literals.Integer n) = AnInteger n
 literal_mention (Literals.Text bytes) = AText bytes
@@ -73,6 +74,7 @@ abbrev mutual
   default_mentions (MoreClauses (Default place value) cases) = mentions value
   default_mentions (MoreClauses (Guarded place guard value) cases) = default_mentions cases
 
+-- what the code of an `initial` clause takes from the tables
 abbrev pub initial_mentions : Initial → List TableMention
 initial_mentions NoInitial = []
 initial_mentions (Initially place value) = mentions value
@@ -83,16 +85,19 @@ integers_among [] = []
 integers_among (AnInteger n ∷ others) = n ∷ integers_among others
 integers_among (_ ∷ others) = integers_among others
 
+-- the texts among them
 abbrev pub texts_among : List TableMention → List (List ℕ)
 texts_among [] = []
 texts_among (AText bytes ∷ others) = bytes ∷ texts_among others
 texts_among (_ ∷ others) = texts_among others
 
+-- the csets among them
 abbrev pub sets_among : List TableMention → List (List ℕ)
 sets_among [] = []
 sets_among (ASet members ∷ others) = members ∷ sets_among others
 sets_among (_ ∷ others) = sets_among others
 
+-- the names of fields among them
 abbrev pub fields_among : List TableMention → List (List ℕ)
 fields_among [] = []
 fields_among (AField name ∷ others) = name ∷ fields_among others

@@ -21,9 +21,11 @@ use Rattle.law_simulation.specs.StandingCode.{Nest, top, in_create, in_mark, in_
 abbrev pub proc_in : Outer → ℕ
 proc_in o = proc_of (frame_of o)
 
+-- the activation that runs in a chain
 abbrev pub activation_in : Outer → ℕ
 activation_in o = activation_of (frame_of o)
 
+-- an activation of a procedure at a level, by their numbers
 abbrev pub a_frame : (activation procedure level : ℕ) → M.Invocation
 a_frame activation procedure level = record { activation = activation; procedure = procedure; level = level }
 
@@ -224,6 +226,7 @@ mutual
         → OfChoices L first r s z o → OfChoices L first (M.Back b v or_else r)
         (suspension (because Proc) p (chain (x ∷ xs) s z o)) z' o'
 
+-- a chain that waits to go on at an address
 abbrev pub waiting_chain : Chain → ℕ → WaitingChain
 waiting_chain m p = record { chain = m; address = p }
 
@@ -249,6 +252,7 @@ pub record OfCoexp (L : Linkage) (first : Bool) (co : M.Coexpression)
   pub values : co.values ≡ l.values
   pub status : OfStatus L first l.proc co.body l.address co.status l.status
 
+-- The co-expressions beside `&main` correspond one by one, and the code of each stands in its procedure
 pub data OfOthers (L : Linkage) : List M.Coexpression → List (S.Coexp WaitingChain) → Type 0 where
   c_none : OfOthers L [] []
   c_more : {co : M.Coexpression} {l : S.Coexp WaitingChain} {cos : List M.Coexpression}
@@ -277,6 +281,7 @@ linked_of m p st = record {
   saved = st.saved;
 }
 
+-- the store of the meaning as the machine has it, with these co-expressions
 abbrev pub store_of : M.Store → List (S.Coexp WaitingChain) → S.Store WaitingChain
 store_of st ls = record {
   world = st.world;
@@ -288,6 +293,8 @@ store_of st ls = record {
   names = st.names;
 }
 
+-- An evaluation corresponds to a state of the machine: what is evaluated stands at the address, and works and
+-- choices are what the chain goes on with
 pub data Rel (L : Linkage) : M.Evaluation → S.State WaitingChain LinkedStack → Type 0 where
   at_eval : {first : Bool} {n : Nest} {e : Tree} {v : Surroundings} {k : Works} {r : Choices} {p q : ℕ}
       {xs : List Item} {s : Suspensions} {z : List ℕ} {o : Outer} {st : M.Store}

@@ -69,6 +69,7 @@ is_prefix Signs.Bar = false
 is_prefix Signs.At = false
 is_prefix o = true
 
+-- the operators that are an operation between two operands
 abbrev pub is_infix : Operator → Bool
 is_infix Signs.Ampersand = false
 is_infix Signs.Question = false
@@ -78,12 +79,14 @@ is_infix Signs.At = false
 is_infix Signs.Bang = false
 is_infix o = true
 
+-- the operators that are an operation in an assignment
 abbrev pub is_update : Operator → Bool
 is_update Signs.Ampersand = false
 is_update Signs.Question = false
 is_update Signs.At = false
 is_update o = true
 
+-- the empty expression
 abbrev pub is_empty : Tree → Bool
 is_empty T.Empty = true
 is_empty e = false
@@ -124,6 +127,7 @@ pub data Updating : Operator → Application → Type 0 where
   d_activate : Updating Signs.At Activating
   d_operate : {o : Operator} → is_update o ≡ true → Updating o (Operating (infix_op o))
 
+-- how many trees there are
 abbrev pub tree_count : Trees → ℕ
 tree_count NoTrees = 0
 tree_count (More e es) = suc (tree_count es)

@@ -35,6 +35,7 @@ depths (in_loop l g n) = loop_of 0 0 ∷ depths n
 depths (in_control l g n) = loop_of 0 1 ∷ depths n
 depths (in_each l g n) = loop_of 1 1 ∷ depths n
 
+-- the places that `break` and `next` go to in each open loop, the innermost first
 abbrev pub ways_of : Nest → List LoopExits
 ways_of top = []
 ways_of in_create = []
@@ -54,6 +55,7 @@ outside (in_loop l g n) = n
 outside (in_control l g n) = n
 outside (in_each l g n) = n
 
+-- A loop is open that `break` may leave
 pub data HasLoop : Nest → Type 0 where
   h_mark : {n : Nest} → HasLoop n → HasLoop (in_mark n)
   h_scan : {n : Nest} → HasLoop n → HasLoop (in_scan n)
@@ -61,6 +63,7 @@ pub data HasLoop : Nest → Type 0 where
   h_control : {n : Nest} {l g : ℕ} → HasLoop (in_control l g n)
   h_each : {n : Nest} {l g : ℕ} → HasLoop (in_each l g n)
 
+-- A loop is open in which `next` may stand here
 pub data HasNext : Nest → Type 0 where
   x_mark : {n : Nest} → HasNext n → HasNext (in_mark n)
   x_scan : {n : Nest} → HasNext n → HasNext (in_scan n)
@@ -82,6 +85,7 @@ is_prefix_sign Signs.Equal = true
 is_prefix_sign Signs.Caret = true
 is_prefix_sign o = false
 
+-- the operators that are an operation between two operands or before `:=`
 abbrev pub is_infix_sign : Operator → Bool
 is_infix_sign Signs.Plus = true
 is_infix_sign Signs.Minus = true

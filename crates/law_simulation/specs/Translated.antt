@@ -28,6 +28,7 @@ pub data Routines (L : Linkage) : ℕ → List M.Routine → List Procedure → 
       {entries : List Procedure} → TranslatedRoutine L n routine entry → Routines L (suc n) routines entries
       → Routines L n (routine ∷ routines) (entry ∷ entries)
 
+-- the constructors one beside the other, each with as many fields as its entry
 pub data Kinds : List M.Constructor → List RecordType → Type 0 where
   d_none : Kinds [] []
   d_more : {kind : M.Constructor} {entry : RecordType} {kinds : List M.Constructor}
@@ -35,6 +36,7 @@ pub data Kinds : List M.Constructor → List RecordType → Type 0 where
       → length kind.fields ≡ length entry.fields → Kinds kinds entries
       → Kinds (kind ∷ kinds) (entry ∷ entries)
 
+-- the code of each procedure is its translation, and each constructor has its entry
 pub record IsTranslated (program : M.Program) (tables : Tables) : Type 0 where
   pub routines : Routines (linkage program tables) 0 program.routines tables.procs
   pub kinds : Kinds program.kinds tables.records

@@ -36,6 +36,7 @@ pub record LoopExits : Type 0 where
   pub last : ℕ
   pub next : ℕ
 
+-- an open loop with so many marks opened in it, of which so many stay open at its next pass
 abbrev pub loop_of : (opened staying : ℕ) → Depth
 loop_of opened staying = record { opened = opened; staying = staying }
 
@@ -44,34 +45,42 @@ abbrev pub deeper : List Depth → List Depth
 deeper [] = []
 deeper (d ∷ D) = loop_of (suc d.opened) d.staying ∷ D
 
+-- how many marks `break` drops
 abbrev pub opened_in : List Depth → ℕ
 opened_in [] = 0
 opened_in (d ∷ D) = d.opened
 
+-- how many marks `next` drops
 abbrev pub dropped_by_next : List Depth → ℕ
 dropped_by_next [] = 0
 dropped_by_next (d ∷ D) = d.opened - d.staying
 
+-- all but the innermost
 abbrev pub around : {A : Type 0} → List A → List A
 around [] = []
 around (x ∷ xs) = xs
 
+-- the place that `break` goes to
 abbrev pub last_way : List LoopExits → ℕ
 last_way [] = 0
 last_way (w ∷ W) = w.last
 
+-- the place that `next` goes to
 abbrev pub next_way : List LoopExits → ℕ
 next_way [] = 0
 next_way (w ∷ W) = w.next
 
+-- the empty expression
 abbrev pub is_empty : Tree → Bool
 is_empty Empty = true
 is_empty tree = false
 
+-- no tree at all
 abbrev pub is_nothing : Trees → Bool
 is_nothing NoTrees = true
 is_nothing trees = false
 
+-- how many trees there are
 abbrev pub count_of : Trees → ℕ
 count_of NoTrees = 0
 count_of (More e es) = suc (count_of es)
@@ -81,6 +90,7 @@ abbrev pub is_no_element : Trees → Bool
 is_no_element (More Empty NoTrees) = true
 is_no_element trees = false
 
+-- how many elements a list has: none, where it is one empty expression
 abbrev pub elements : Trees → ℕ
 elements trees = if is_no_element trees then 0 else count_of trees
 
@@ -92,6 +102,7 @@ pub data BinaryForm : Type 0 where
   Limiting : BinaryForm
   Applying : Instr → BinaryForm
 
+-- the form of a binary operator
 abbrev pub form_of : Operator → BinaryForm
 form_of Operators.Ampersand = Both
 form_of Operators.Question = Scanning
@@ -138,6 +149,7 @@ pub data PrefixForm : Type 0 where
   Repeating : PrefixForm
   Operating : Op → PrefixForm
 
+-- the form of a prefix operator
 abbrev pub prefix_of : Operator → PrefixForm
 prefix_of Operators.At = Activating
 prefix_of Operators.Bar = Repeating
@@ -178,6 +190,7 @@ prefix_of Operators.Swap = Operating Ops.TabMatch
 prefix_of Operators.ReversibleAssign = Operating Ops.TabMatch
 prefix_of Operators.ReversibleSwap = Operating Ops.TabMatch
 
+-- the operation of a section, by what stands between its bounds
 abbrev pub section_op : SectionKind → Op
 section_op Between = Ops.Section
 section_op Forward = Ops.SectionPlus
@@ -185,6 +198,7 @@ section_op Backward = Ops.SectionMinus
 
 -- Sizes
 
+-- how many instructions the code of a tree has, in loops with these depths
 abbrev mutual
   pub size : List Depth → Tree → ℕ
   size D Empty = 1
@@ -303,14 +317,17 @@ abbrev mutual
 
 -- Code
 
+-- the places that `break` and `next` go to in a loop
 abbrev pub ways : (last next : ℕ) → LoopExits
 ways last next = record { last = last; next = next }
 
+-- the instruction of a literal, by its place in the tables
 abbrev pub literal_code : SymbolTable → Literal → Instr
 literal_code N (Literals.Integer n) = I.Int (N.integer n)
 literal_code N (Literals.Text bytes) = I.Str (N.string bytes)
 literal_code N (Literals.Cset bytes) = I.Cset (N.set bytes)
 
+-- the instruction of a keyword; `&fail` fails at once
 abbrev pub keyword_code : SymbolTable → List ℕ → Instr
 keyword_code N text = if bytes_eq text (codes "fail") then I.Efail else I.Keywd (N.keyword text)
 
@@ -318,6 +335,7 @@ keyword_code N text = if bytes_eq text (codes "fail") then I.Efail else I.Keywd 
 abbrev pub create_code : ℕ → ℕ → List Instr → List Instr
 create_code p n body = I.Create (p + n + 5) ∷ I.Mark (p + n + 4) ∷ body ++ (I.Coret ∷ I.Efail ∷ I.Cofail ∷ [])
 
+-- The code of trees, with that of their parts
 abbrev mutual
   -- the code of a tree that begins at a place, in loops with these depths and ways
   pub code : SymbolTable → List Depth → List LoopExits → ℕ → Tree → List Instr
@@ -481,9 +499,11 @@ bounded_code N p e =
     if is_empty e then [] else I.Mark (p + size [] e + 2) ∷ code N [] [] (p + 1) e ++ I.Unmark
     ∷ []
 
+-- how many instructions a bounded expression of a body has
 abbrev pub bounded_size : Tree → ℕ
 bounded_size e = if is_empty e then 0 else size [] e + 2
 
+-- the body of a procedure from a place on, whose end fails
 abbrev pub body : SymbolTable → ℕ → Trees → List Instr
 body N p NoTrees = I.Pfail ∷ []
 body N p (More e es) = bounded_code N p e ++ body N (p + bounded_size e) es

@@ -17,6 +17,7 @@ kind_is_of_bytes (OperatorKind operator) = true
 kind_is_of_bytes (Augmented operator) = true
 kind_is_of_bytes (PunctuationKind mark) = true
 
+-- the name or the literal that a token is, is of bytes
 abbrev pub token_is_of_bytes : Token → Bool
 token_is_of_bytes token = kind_is_of_bytes token.kind
 

@@ -15,6 +15,7 @@ abbrev pub Then : {W M' M : Type 0} → (ℕ → W → W → Type 0) → (W → 
     → Type 0
 Then Next Now w s m' m = (w' : _) × Next s w w' × Now w' s m' m
 
+-- the same beside the stacks, and stacks that are related in a world that stack s may have changed
 abbrev pub With : {W A M' M : Type 0} → (ℕ → W → W → Type 0) → (W → ℕ → M' → M → Type 0) → W → ℕ → A × M'
     → A × M → Type 0
 With Next Now w s x y = (x.0 ≡ y.0) × Then Next Now w s x.1 y.1
@@ -25,6 +26,7 @@ abbrev pub OpensAgain : {K W M' M : Type 0} → Calls K M → (ℕ → ℕ → O
 OpensAgain C Opens Next Now w s m' m = (label : Option ℕ) × Opens (C.proc m) (C.address m) label
     × Then Next Now w s m' (C.mark label (C.go (suc (C.address m)) m))
 
+-- the same is left where the innermost mark is dropped; a label that was changed may instead be opened again
 abbrev pub SameDropped : {K W M' M : Type 0} → Calls K M → (ℕ → ℕ → Option ℕ → Type 0) → (ℕ → W → W → Type 0)
     → (W → ℕ → M' → M → Type 0) → W → ℕ → MarkDrop M' → MarkDrop M → Type 0
 SameDropped C Opens Next Now w s NoMark NoMark = Unit {0}

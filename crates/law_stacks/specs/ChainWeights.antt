@@ -4,6 +4,7 @@ use Rattle.icn_run.specs.Calls.{Alt, Op, Scan, Escan, Proc}
 use Rattle.icn_run.specs.Chains.{Label, fixed, flagged, Reason, because, scanning, Chain, chain, Suspensions, none, suspension, Outer, base, call, mark, limit}
 use Rattle.law_stacks.specs.Measure.{worth, worth_of}
 
+-- what the label of a mark weighs, whatever its flag
 abbrev pub label_weight : ℕ → Label → ℕ
 label_weight N (fixed label) = worth_of N label
 label_weight N (flagged label flag address) = worth_of N label
@@ -17,6 +18,7 @@ reason_weight (because Escan) inside own = suc own
 reason_weight (because Proc) inside own = 0
 reason_weight (scanning n) inside own = suc own
 
+-- what a chain weighs: its suspensions, and what is outside its innermost mark
 abbrev mutual
   pub weight_of : ℕ → Chain → ℕ
   weight_of N (chain items s scans o) = susp_weight N s + outer_weight N o

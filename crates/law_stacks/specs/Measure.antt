@@ -16,6 +16,7 @@ cost (suc n) = cost n + cost n + cost n + cost n
 abbrev pub worth : ℕ → ℕ → ℕ
 worth N address = cost (N - address)
 
+-- what a label is worth; nothing, where there is none
 abbrev pub worth_of : ℕ → Option ℕ → ℕ
 worth_of N None = 0
 worth_of N (Some label) = worth N label
@@ -43,6 +44,7 @@ pub record Lightens {M : Type 0} (Fits : M → ℕ → Type 0) (v : ℕ) (after 
   pub fits : (x : ℕ) × Fits after x
   pub weighs : fits.0 < v
 
+-- what is left where the innermost mark is dropped weighs less, or has a changed label, which ends a turn
 abbrev pub DropsWell : {M : Type 0} → (M → ℕ → Type 0) → (M → ℕ) → ℕ → ℕ → MarkDrop M → Type 0
 DropsWell Fits address N v NoMark = Unit {0}
 DropsWell Fits address N v (Goes after) = Pays Fits address N v after
@@ -132,6 +134,7 @@ FitsStatus Fits Active = Unit {0}
 FitsStatus Fits (Waiting k) = Fits k
 FitsStatus Fits Exhausted = Unit {0}
 
+-- the stacks of all co-expressions that wait are well formed
 abbrev pub FitAll : {K : Type 0} → (K → Type 0) → List (Coexp K) → Type 0
 FitAll Fits [] = Unit {0}
 FitAll Fits (coexp ∷ coexps) = FitsStatus Fits coexp.status × FitAll Fits coexps

@@ -58,6 +58,7 @@ is_no_mark (Goes m) = false
 is_no_mark (Repeats m) = false
 is_no_mark (Outside m) = false
 
+-- a create body is over: nothing comes back, no mark is open, and what runs is a create body
 pub record EndsBody {K M : Type 0} (C : Calls K M) (m : M) (st : Store K) : Type 0 where
   pub nothing_comes_back : C.resume m ≡ None
   pub no_mark : is_no_mark (C.drop_mark m) ≡ true

@@ -33,6 +33,7 @@ pub data Content : Type 0 where
   Saved : Pair → Content
   Locals : List Value → Content
 
+-- the locals of an activation that is kept, and none of anything else
 abbrev pub values_of : Option Content → List Value
 values_of (Some (Locals values)) = values
 values_of cell = []
@@ -45,6 +46,7 @@ pub record Memory : Type 0 where
   pub limits : List ℕ
   pub saved : List Pair
 
+-- what a machine on linked marks holds beside its chain
 abbrev pub memory_of : LinkedStack → Memory
 memory_of m = record {
   activations = m.activations;
@@ -72,12 +74,15 @@ flag_kept label true = Flag true
 flag_kept None false = Flag false
 flag_kept (Some label) false = Changed label
 
+-- the locals of an activation, as they are kept
 abbrev pub activation_kept : List Value → Content
 activation_kept values = Locals values
 
+-- the results that a limit leaves, as they are kept
 abbrev pub limit_kept : ℕ → Content
 limit_kept count = Count count
 
+-- a saved pair, as it is kept
 abbrev pub saved_kept : Pair → Content
 saved_kept pair = Saved pair
 
@@ -95,6 +100,7 @@ pub record Owners : Type 0 where
   pub limits : List (ℕ × ℕ)
   pub saved : List (ℕ × ℕ)
 
+-- the stack and the height at which a number is shown
 abbrev pub owner_of : Owners → CellName → Option (ℕ × ℕ)
 owner_of O (activation_name n) = slice_get O.activations n
 owner_of O (flag_name n) = slice_get O.flags n
@@ -118,19 +124,23 @@ pub record IsOwned (w : RenderedWorld) (n : CellName) (s h : ℕ) (k : Content) 
 
 -- How a numbered cell looks
 
+-- a mark whose flag is up has the address as its label; one that got another label has that one
 abbrev pub shown_label : Option Content → Option ℕ → ℕ → Registers → Cell
 shown_label (Some (Flag true)) label address r = c_mark (Some address) true r
 shown_label (Some (Changed other)) label address r = c_mark (Some other) true r
 shown_label kept label address r = c_mark label false r
 
+-- the results that a limit leaves, and 0 of anything else
 abbrev pub count_of : Option Content → ℕ
 count_of (Some (Count n)) = n
 count_of kept = 0
 
+-- a saved pair, and an empty one of anything else
 abbrev pub saved_in : Option Content → Pair
 saved_in (Some (Saved pair)) = pair
 saved_in kept = record { subject = []; position = 0 }
 
+-- the cell of the flat stack that a numbered cell looks like
 abbrev pub shown_cell : Memory → NCell → Cell
 shown_cell F (n_base p a n) = c_base p n
 shown_cell F (n_call p a n level r q) = c_call p n level r q
@@ -143,9 +153,11 @@ shown_cell F (n_suspension (scanning n) r q) =
     c_suspension (Scan (saved_in (content_of F (saved_name n)))) r q
 shown_cell F (n_operand item) = c_operand item
 
+-- the flat stack that numbered cells look like
 abbrev pub render : Memory → List NCell → List Cell
 render F cells = map (shown_cell F) cells
 
+-- what is kept of a flag, and nothing else
 abbrev pub IsFlag : Content → Type 0
 IsFlag (Flag up) = Unit {0}
 IsFlag (Changed label) = Unit {0}
@@ -165,6 +177,7 @@ Ok w s h (n_suspension (because why) r q) = Unit {0}
 Ok w s h (n_suspension (scanning n) r q) = (pair : Pair) × IsOwned w (saved_name n) s h (Saved pair)
 Ok w s h (n_operand item) = Unit {0}
 
+-- each cell of a stack names what is kept and shown there
 abbrev pub AllOk : RenderedWorld → ℕ → List NCell → Type 0
 AllOk w s [] = Unit {0}
 AllOk w s (cell ∷ cells) = Ok w s (suc (length cells)) cell × AllOk w s cells

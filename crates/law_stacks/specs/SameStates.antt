@@ -16,6 +16,7 @@ abbrev pub mark_of : Option ℕ → Instr
 mark_of (Some label) = Instrs.Mark label
 mark_of None = Instrs.Mark0
 
+-- the instruction at this address of a procedure opens a mark with this label, or with none
 abbrev pub Opens : Program → ℕ → ℕ → Option ℕ → Type 0
 Opens P proc address label = slice_get (instrs_of P proc) address ≡ Some (mark_of label)
 
@@ -44,6 +45,7 @@ pub record RowsKeep : Type 0 where
   pub words_made : (words : List (List ℕ)) (at : Setting) → IsMade (words_row words at)
   pub worded : (words : List (List ℕ)) (at : Setting) → KeepsIn at (words_row words at)
 
+-- two co-expressions stand alike; where both wait, their stacks are related
 abbrev pub SameStatus : {K' K : Type 0} → (K' → K → Type 0) → Status K' → Status K → Type 0
 SameStatus A Fresh Fresh = Unit {0}
 SameStatus A Active Active = Unit {0}
@@ -51,6 +53,7 @@ SameStatus A (Waiting k') (Waiting k) = A k' k
 SameStatus A Exhausted Exhausted = Unit {0}
 SameStatus A s' s = ⊥
 
+-- Two co-expressions are the same, but for what their stacks are made of
 pub data SameCoexp {K' K : Type 0} (A : K' → K → Type 0) : Coexp K' → Coexp K → Type 0 where
   alike : (s' : Status K') (s : Status K) (a : ℕ) (vs : List Value) (p q : ℕ) → SameStatus A s' s
       → SameCoexp A (record { status = s'; activator = a; values = vs; proc = p; address = q })

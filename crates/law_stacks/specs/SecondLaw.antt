@@ -13,6 +13,7 @@ pub record FlatStuck (tables : Tables) (launch : Launch) : Type 0 where
   pub count : ℕ
   pub is : Flat.steps tables count (Flat.start tables launch) ≡ stuck
 
+-- a run on linked marks lacks something
 pub record LinkedStuck (repeats : ℕ → ℕ → Bool) (tables : Tables) (launch : Launch) : Type 0 where
   pub count : ℕ
   pub is : Linked.steps repeats tables count (Linked.start repeats tables launch) ≡ stuck

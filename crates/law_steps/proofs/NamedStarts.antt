@@ -1,6 +1,6 @@
--- The start of the run of a code: what it names has a name, and its heap has no record.
+-- The start of the run of a code: what it names has a name.
 use Rattle.std.proofs.Common.{◌≡◌, ◌<◌, ℕ, Bool, true, false, List, [], ◌∷◌, ◌++◌, length, Option, Some, None, refl, arith}
-use Rattle.std.specs.Prelude.{◌&&◌, map, nat_le, nat_lt, pred, replicate, slice_get}
+use Rattle.std.specs.Prelude.{◌&&◌, map, nat_le, nat_lt, replicate, slice_get}
 use Rattle.std.specs.List.{list_all}
 use Rattle.std.proofs.lemmas.Bool.{ltb-true}
 use Rattle.std.proofs.lemmas.List.{length-map}
@@ -13,23 +13,18 @@ use Rattle.icn_code.specs.Codes.{Tables, Proc as Procedure}
 use Rattle.icn_code.specs.Rules.{keeps_rules, is_global, is_proc, is_start}
 use Rattle.icn_defs.specs.Running.{Launch, words_row}
 use Rattle.law_names.specs.RowsNamed.{RowsKeepNames}
-use Rattle.law_names.specs.RowSizes.{RowsKeepSizes}
 use Rattle.icn_run.specs.Stacks as flats
 use Rattle.icn_run.specs.Stacks.{Frames, flat, empty}
 use Rattle.icn_run.specs.Step as S
-use Rattle.icn_run.specs.Step.{Store, Active, Coexp, running}
-use Rattle.law_steps.specs.KeepingSizes.{field_count}
-use Rattle.law_steps.specs.Starts.{StartsFit, StartsNamed}
+use Rattle.icn_run.specs.Step.{Store, running}
+use Rattle.law_steps.specs.Starts.{StartsNamed}
 use Rattle.law_steps.proofs.CallsNamed as C
-use Rattle.law_steps.proofs.CallsNamed.{Each, all_of, each_append, each_replicate}
+use Rattle.law_steps.proofs.CallsNamed.{Each, all_of, each_append}
 use Rattle.law_steps.proofs.StepsNamed as N
-use Rattle.law_steps.proofs.StepsSized as Z
 
 both : (a b : Bool) → (a && b) ≡ true → (a ≡ true) × (b ≡ true)
 both true b is = (refl, is)
 both false b is = let none : ⊥ = cc in absurd none
-
--- Names
 
 module _ (rows : RowsKeepNames) (P : Tables) where
   abbrev NamedValue : Value → Type 0
@@ -105,29 +100,3 @@ pub starts_named : RowsKeepNames → StartsNamed
 starts_named rows = λ P launch is.
     N.state_out rows P _ (started rows P launch.words empty (S.first_store P launch) (S.main_of P) tt
     (store_named rows P launch (globals_named rows P P.globals (globals_kept P is))))
-
--- Sizes
-
-module _ (rows : RowsKeepSizes) (P : Tables) where
-  begins : (t : Bool) (n : ℕ) (entry : Procedure) (vs : List Value) (m : Frames) (st : Store Frames) → Z.K rows P st
-      → Z.G rows P (S.begun_if flat t n entry vs m st)
-  begins false n entry vs m st k = Z.erred rows P 301 None m st k
-  begins true n entry vs m st k =
-      Z.collected rows P entry.collects entry.parameters vs m st
-      (λ parameters m st. running (flats.begin n (parameters ++ replicate entry.locals Null) 0 m) st) k (λ vs m st k. k)
-
-  starts : (words : List (List ℕ)) (m : Frames) (st : Store Frames) (o : Option ℕ) → Z.K rows P st → Z.G rows P (S.start_of flat P words m st o)
-  starts words m st None k = Z.erred rows P 117 None m st k
-  starts words m st (Some main) k =
-      Z.found rows P (slice_get P.procs main) (λ entry. S.with_made flat (words_row words (S.here flat m st)) m st
-      (λ list m st. S.begun_if flat (nat_le 1 st.world.heap.bounds.levels) main entry (list ∷ []) m st))
-      (λ entry.
-      Z.made rows P (words_row words (S.here flat m st)) m st (λ list m st. S.begun_if flat (nat_le 1 st.world.heap.bounds.levels) main entry (list ∷ []) m st)
-      ((rows.words (field_count P) words (S.here flat m st)).fit k) k (λ v m s k. begins (nat_le 1 s.world.heap.bounds.levels) main entry (v ∷ []) m s k))
-
-no_record : {A B : Type 0} (x : A) → None ≡ Some x → B
-no_record x is = let none : ⊥ = cc in absurd none
-
-pub starts_sized : RowsKeepSizes → StartsFit
-starts_sized rows =
-    λ P launch. starts rows P launch.words empty (S.first_store P launch) (S.main_of P) (record { fit = λ id structure is. no_record structure is })

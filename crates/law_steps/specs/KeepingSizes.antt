@@ -21,6 +21,7 @@ field_count tables kind =
 abbrev pub StoreFits : Tables → Store Frames → Type 0
 StoreFits tables st = FitSizes (field_count tables) st.world.heap
 
+-- each record of a state that goes on has as many fields as its kind
 abbrev pub StateFits : Tables → State Frames Frames → Type 0
 StateFits tables (running m st) = StoreFits tables st
 StateFits tables (failing m st) = StoreFits tables st
@@ -28,6 +29,7 @@ StateFits tables (hopping m st) = StoreFits tables st
 StateFits tables (over ending outside) = Unit {0}
 StateFits tables stuck = Unit {0}
 
+-- each record that a row leaves has as many fields as its kind
 abbrev pub OutcomeFits : Tables → Outcome → Type 0
 OutcomeFits tables answer = FitSizes (field_count tables) (heap_after answer)
 

@@ -20,6 +20,7 @@ use Rattle.icn_run.specs.InstructionNeeds.{HasVariables}
 
 -- Rows
 
+-- the world that a row leaves
 abbrev pub world_after : Outcome → World
 world_after (Fails seen) = seen.world
 world_after (Gives item seen) = seen.world
@@ -50,6 +51,7 @@ pub record RowsKeepVariables : Type 0 where
 
 -- States
 
+-- a state that goes on has the variables of the tables
 abbrev pub StateHasVariables : Tables → State Frames Frames → Type 0
 StateHasVariables tables (running m st) = HasVariables tables st
 StateHasVariables tables (failing m st) = HasVariables tables st

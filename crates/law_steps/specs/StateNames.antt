@@ -14,6 +14,7 @@ WhyNamed names (Scan pair) = Unit {0}
 WhyNamed names Escan = Unit {0}
 WhyNamed names Proc = Unit {0}
 
+-- the value, the residual or the item in a cell names what has a name
 abbrev pub CellNamed : Names → Cell → Type 0
 CellNamed names (base proc locals) = Unit {0}
 CellNamed names (call proc locals level registers address) = Unit {0}
@@ -27,6 +28,7 @@ CellNamed names (operand item) = ItemNamed names item
 pub record StackNamed (names : Names) (m : Frames) : Type 0 where
   pub cells : All (CellNamed names) m.cells
 
+-- a co-expression that waits has a stack whose cells name what has a name
 abbrev pub StatusNamed : Names → Status Frames → Type 0
 StatusNamed names Fresh = Unit {0}
 StatusNamed names Active = Unit {0}

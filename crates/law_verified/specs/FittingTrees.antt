@@ -32,6 +32,7 @@ pub data Infixes : Operator → BinaryForm → Type 0 where
   x_op : {o : Operator} → is_infix o ≡ true → arity (infix_op o) ≡ 2
       → Infixes o (Applying (I.Op (infix_op o)))
 
+-- what an operator is before `:=`, if it is one of the language's in that position
 pub data Augments : Operator → BinaryForm → Type 0 where
   u_both : Augments Signs.Ampersand Both
   u_scan : Augments Signs.Question Scanning
@@ -39,6 +40,7 @@ pub data Augments : Operator → BinaryForm → Type 0 where
   u_op : {o : Operator} → is_update o ≡ true → arity (infix_op o) ≡ 2
       → Augments o (Applying (I.Op (infix_op o)))
 
+-- what an operator is before an operand, if it is one of the language's in that position
 pub data Prefixes : Operator → PrefixForm → Type 0 where
   p_at : Prefixes Signs.At Activating
   p_bar : Prefixes Signs.Bar Repeating
@@ -51,6 +53,7 @@ pub data KeywordFits (N : SymbolTable) (text : List ℕ) : Type 0 where
   k_word : bytes_eq text (codes "fail") ≡ false → keyword_among text keywords ≡ Some (N.keyword text)
       → KeywordFits N text
 
+-- there is a tree at least
 abbrev pub Some_trees : Trees → Type 0
 Some_trees NoTrees = ⊥
 Some_trees (More e es) = Unit {0}

@@ -10,11 +10,13 @@ use Rattle.law_simulation.specs.Translation.{SymbolTable, Depth, LoopExits, loop
 
 -- Shapes
 
+-- what a level is opened by: the procedure or create body itself, a mark, or a limit
 pub data NotedKind : Type 0 where
   Base : NotedKind
   Marked : NotedKind
   Limited : NotedKind
 
+-- a level: its kind, and how many operands and open scans it has
 pub record NotedLevel : Type 0 where
   pub kind : NotedKind
   pub operands : ℕ
@@ -26,9 +28,11 @@ pub record NotedShape : Type 0 where
   pub inner : NotedLevel
   pub outer : List NotedLevel
 
+-- a level of this kind with nothing in it
 abbrev pub level_of : NotedKind → NotedLevel
 level_of kind = record { kind = kind; operands = 0; scans = 0 }
 
+-- the shape at the start of a procedure, or of a create body
 abbrev pub start : Bool → NotedShape
 start in_create = record { in_create = in_create; inner = level_of Base; outer = [] }
 
@@ -36,6 +40,7 @@ start in_create = record { in_create = in_create; inner = level_of Base; outer =
 abbrev pub more : NotedShape → NotedShape
 more s = record s { inner = record s.inner { operands = suc s.inner.operands } }
 
+-- with so many operands more
 abbrev pub many : ℕ → NotedShape → NotedShape
 many zero s = s
 many (suc n) s = more (many n s)
@@ -48,9 +53,11 @@ with_scan s = record s { inner = record s.inner { scans = suc s.inner.scans } }
 abbrev pub within : NotedKind → NotedShape → NotedShape
 within kind s = record { in_create = s.in_create; inner = level_of kind; outer = s.inner ∷ s.outer }
 
+-- inside a mark that is no limit
 abbrev pub in_mark : NotedShape → NotedShape
 in_mark s = within Marked s
 
+-- the next level is the innermost; where there is none, the shape stays
 abbrev pub outside_of : Bool → NotedShape → List NotedLevel → NotedShape
 outside_of c s [] = s
 outside_of c s (level ∷ levels) = record { in_create = c; inner = level; outer = levels }
@@ -59,10 +66,12 @@ outside_of c s (level ∷ levels) = record { in_create = c; inner = level; outer
 abbrev pub without_mark : NotedShape → NotedShape
 without_mark s = outside_of s.in_create s s.outer
 
+-- without so many innermost marks
 abbrev pub drops : ℕ → NotedShape → NotedShape
 drops zero s = s
 drops (suc n) s = drops n (without_mark s)
 
+-- an instruction, whether it opens a repeated alternation, and the shape with which it is reached
 pub record Note : Type 0 where
   pub instr : Instr
   pub flag : Bool
@@ -72,9 +81,11 @@ pub record Note : Type 0 where
 abbrev pub o : NotedShape → Instr → Note
 o s i = record { instr = i; flag = false; shape = s }
 
+-- an instruction that opens a repeated alternation, with its shape
 abbrev pub flagged_note : NotedShape → Instr → Note
 flagged_note s i = record { instr = i; flag = true; shape = s }
 
+-- so many `unmark`, each with its shape
 abbrev pub unmarks : ℕ → NotedShape → List Note
 unmarks zero s = []
 unmarks (suc n) s = o s I.Unmark ∷ unmarks n (without_mark s)
@@ -89,6 +100,7 @@ create_notes p n s body = o s (I.Create (p + n + 5)) ∷ o (start true) (I.Mark 
 abbrev pub Part : Type 0
 Part = List Depth → ℕ → NotedShape → List Note
 
+-- the code of a prefix operator, by the code of its operand
 abbrev pub prefix_code : List Depth → ℕ → NotedShape → Part → PrefixForm → List Note
 prefix_code D p s c Activating = o s I.Pnull ∷ c D (p + 1) (more s) ++ o (more (more s)) I.Coact ∷ []
 prefix_code D p s c Repeating = flagged_note s I.Mark0 ∷ c (deeper D) (p + 1) (in_mark s)
@@ -106,6 +118,7 @@ plain_code D p s m n k a b Limiting = b D p s ++ (o (more s) I.Limit
     ∷ a (deeper D) (p + n + 1) (within Limited s) ++ o (more (within Limited s)) I.Lsusp ∷ [])
 plain_code D p s m n k a b (Applying i) = a D p s ++ (b D (p + m) (more s) ++ o (more (more s)) i ∷ [])
 
+-- the code of an augmented assignment, by the size of its first part
 abbrev pub augmented_code : List Depth → ℕ → NotedShape → ℕ → (a b : Part) → BinaryForm → List Note
 augmented_code D p s m a b Both =
     a D p s ++ (b D (p + m) (more s) ++ o (more (more s)) (I.Op Ops.Assign) ∷ [])
@@ -117,6 +130,7 @@ augmented_code D p s m a b Limiting = []
 augmented_code D p s m a b (Applying i) = a D p s ++ (o (more s) I.Dup ∷ b D (p + m + 1) (more (more s))
     ++ (o (more (more (more s))) i ∷ o (more (more s)) (I.Op Ops.Assign) ∷ []))
 
+-- The code of trees with its shapes, with that of their parts
 abbrev mutual
   pub code : SymbolTable → List Depth → List LoopExits → ℕ → NotedShape → Tree → List Note
   code N D W p s Empty = o s I.Pnull ∷ []
@@ -274,6 +288,7 @@ abbrev pub bounded_notes : SymbolTable → ℕ → Tree → List Note
 bounded_notes N p e = if is_empty e then [] else o (start false) (I.Mark (p + size [] e + 2))
     ∷ code N [] [] (p + 1) (in_mark (start false)) e ++ o (more (in_mark (start false))) I.Unmark ∷ []
 
+-- the body of a procedure from a place on, whose end fails
 abbrev pub body : SymbolTable → ℕ → Trees → List Note
 body N p NoTrees = o (start false) I.Pfail ∷ []
 body N p (More e es) = bounded_notes N p e ++ body N (p + bounded_size e) es

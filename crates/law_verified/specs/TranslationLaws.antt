@@ -19,6 +19,7 @@ FitInitial L j N (Initially place e) = Fit L j N [] true e
 abbrev pub shape_at : List Note → ℕ → Option NotedShape
 shape_at xs p = option_map (λ (x : Note). x.shape) (slice_get xs p)
 
+-- the place is reached with this shape
 abbrev pub At : List Note → ℕ → NotedShape → Type 0
 At xs p s = shape_at xs p ≡ Some s
 

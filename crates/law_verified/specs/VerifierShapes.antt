@@ -17,17 +17,21 @@ use Rattle.law_verified.specs.FittingTrees.{FitAll}
 use Rattle.law_verified.specs.Noted.{NotedKind, Base, Marked, Limited, NotedLevel, NotedShape, Note, procedure}
 use Rattle.law_verified.specs.TranslationLaws.{FitInitial, shape_at}
 
+-- the kind of a level as the verifier has it
 abbrev pub kind_of : NotedKind → LevelKind
 kind_of Base = K.Base
 kind_of Marked = K.Plain
 kind_of Limited = K.Limit
 
+-- a level as the verifier has it
 abbrev pub plain_level : NotedLevel → PlainLevel
 plain_level l = record { kind = kind_of l.kind; operands = l.operands; scans = l.scans }
 
+-- a shape as the verifier has it
 abbrev pub plain : NotedShape → PlainShape
 plain s = record { in_create = s.in_create; inner = plain_level s.inner; outer = map plain_level s.outer }
 
+-- the shape of a place, as the verifier has it
 abbrev pub plain_at : List Note → ℕ → Option PlainShape
 plain_at xs p = option_map plain (shape_at xs p)
 

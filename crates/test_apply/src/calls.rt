@@ -23,7 +23,7 @@ use icn_vars::{Halt, Outcome, World};
 use std::alloc::AllocError;
 use test_values::Slots;
 
-// What a word names that may be applied to so many items: a function by its name, an operation by its number.
+/// What a word names that may be applied to so many items: a function by its name, an operation by its number.
 pub fn applied_named(word: &str, count: usize) -> Option<Applied>
     ensures { IfSome result (λ what. IsApplicable what count) }
 {
@@ -48,7 +48,8 @@ fn operation(word: &str, count: usize) -> Option<Op>
     }
 }
 
-// Applies it, and appends what it gives and what it gives as it is resumed. Whether the case goes on.
+/// Applies it, and appends what it gives and what it gives as it is resumed. Whether the case goes on. `AllocError` is want
+/// of memory.
 pub fn push_applied<N: Names>(
     out: &mut String,
     w: &mut World,

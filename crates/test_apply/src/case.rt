@@ -13,7 +13,8 @@ use icn_vars::World;
 use std::alloc::{AllocError, Global};
 use test_values::Slots;
 
-// What the calls of a line come to, what is left of the input, and what was put on both outputs.
+/// What the calls of a line come to, what is left of the input, and what was put on both outputs. `AllocError` is want of
+/// memory.
 pub fn outcome<N: Names>(alloc: Global, names: &N, line: &str) -> Result<String, AllocError>
     requires { 0 < length (N.known names.now).records }
 {

@@ -6,6 +6,7 @@ use icn_code::{Code, LinkedRecord};
 use icn_tree::Bytes;
 use std::alloc::{AllocError, Global};
 
+/// The code of this program. `AllocError` is want of memory.
 #[tactic(auto, unfolding(icn_code::specs::Rules::keeps_rules))]
 pub fn one_record(alloc: Global) -> Result<Code, AllocError>
     ensures { IfOk result (λ code. length (tables_of code).records ≡ 1) }

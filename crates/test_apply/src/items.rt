@@ -16,7 +16,7 @@ use icn_vars::World;
 use std::alloc::{AllocError, Global};
 use test_values::Slots;
 
-// The items of a call's words, whose values are the statics.
+/// The items of a call's words, whose values are the statics. `AllocError` is want of memory.
 pub fn items_of<N: Names>(
     alloc: Global,
     w: &World,

@@ -12,7 +12,7 @@ use icn_vars::{Halt, Stop, World, deref};
 use std::alloc::AllocError;
 use test_values::{Slots, push_printable};
 
-// A value; or a variable, with a mark, and what it holds.
+/// A value; or a variable, with a mark, and what it holds. `AllocError` is want of memory.
 pub fn push_item(out: &mut String, w: &World, l: &Slots, item: Item) -> Result<(), AllocError>
     requires item { IsLiveItem (reach_of w.now l.now.vals.items) item }
     requires locals { All (IsLive (extent_of w.now.heap)) l.now.vals.items }
@@ -27,7 +27,7 @@ pub fn push_item(out: &mut String, w: &World, l: &Slots, item: Item) -> Result<(
     }
 }
 
-// Why a call gave nothing.
+/// Why a call gave nothing. `AllocError` is want of memory.
 pub fn push_halt(out: &mut String, w: &World, l: &Slots, halt: Halt) -> Result<(), AllocError>
     requires { IsLiveHalt (reach_of w.now l.now.vals.items) halt }
 {
@@ -97,7 +97,7 @@ fn push_file(out: &mut String, file: File) -> Result<(), AllocError> {
     }
 }
 
-// Bytes between quotes, with a stroke for the end of a line.
+/// Bytes between quotes, with a stroke for the end of a line. `AllocError` is want of memory.
 pub fn push_quoted(out: &mut String, bytes: &[u8]) -> Result<(), AllocError> {
     out.push('"')?;
     for byte in bytes {

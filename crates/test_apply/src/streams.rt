@@ -12,8 +12,8 @@ pub struct TestStreams {
     pub errors: MemSink,
 }
 
-// An input of two lines and outputs on which nothing was put. A word says which of them fails, and at which call: the input behind <,
-// the output behind >, the error output behind !.
+/// An input of two lines and outputs on which nothing was put. A word says which of them fails, and at which call: the input
+/// behind <, the output behind >, the error output behind !. `AllocError` is want of memory.
 pub fn new_streams(alloc: Global, word: &str) -> Result<TestStreams, AllocError> {
     let bytes = Vec::from_slice(alloc, b"one\ntwo")?;
     Ok(TestStreams {

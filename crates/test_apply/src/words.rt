@@ -14,7 +14,7 @@ use icn_vars::World;
 use std::alloc::AllocError;
 use test_values::{Slots, number, plain};
 
-// Makes the values of a call's words the statics.
+/// Makes the values of a call's words the statics. `AllocError` is want of memory.
 pub fn take_words<N: Names>(
     w: &mut World,
     l: &Slots,

@@ -14,7 +14,7 @@ use icn_vars::{Stop, World};
 use std::alloc::{AllocError, Global};
 use test_values::Slots;
 
-// A local that is null.
+/// A local that is null. `AllocError` is want of memory.
 pub fn one_local(alloc: Global) -> Result<Slots, AllocError>
     ensures { IfOk result (λ slots. slots.vals.items ≡ Null ∷ []) }
 {
@@ -23,7 +23,7 @@ pub fn one_local(alloc: Global) -> Result<Slots, AllocError>
     Ok(Slots { vals })
 }
 
-// A world that has a record, of 7 and 8, as its one global.
+/// A world that has a record, of 7 and 8, as its one global. The error is that of a limit, or want of memory.
 pub fn start<N: Names>(alloc: Global, names: &N, l: &Slots) -> Result<World, Stop>
     requires records { 0 < length (N.known names.now).records }
     requires locals { l.now.vals.items ≡ Null ∷ [] }
@@ -51,7 +51,7 @@ fn empty<N: Names>(alloc: Global, _names: &N, l: &Slots) -> Result<World, AllocE
     Ok(World::new(heap, Vec::new(alloc), Vec::new(alloc)))
 }
 
-// Keeps a value by the next number.
+/// Keeps a value by the next number. `AllocError` is want of memory.
 #[tactic(auto, using(test_values::proofs::AddedVariables::global_added, crate::proofs::Named::global_ready))]
 pub fn keep<N: Names>(w: &mut World, l: &Slots, _names: &N, val: Val) -> Result<(), AllocError>
     requires live { IsLive (extent_of w.old.heap) val }
@@ -63,7 +63,7 @@ pub fn keep<N: Names>(w: &mut World, l: &Slots, _names: &N, val: Val) -> Result<
     Ok(())
 }
 
-// Takes the values of all words away.
+/// Takes the values of all words away.
 #[tactic(auto, using(test_values::proofs::AddedVariables::statics_cleared, crate::proofs::Named::cleared_ready))]
 pub fn no_words<N: Names>(w: &mut World, l: &Slots, _names: &N)
     requires { IsReadySetting (N.known _names.now) w.old l.now.vals.items }
@@ -72,7 +72,7 @@ pub fn no_words<N: Names>(w: &mut World, l: &Slots, _names: &N)
     w.statics.clear();
 }
 
-// Adds the value of a word.
+/// Adds the value of a word. `AllocError` is want of memory.
 #[tactic(auto, using(test_values::proofs::AddedVariables::static_added, crate::proofs::Named::static_ready))]
 pub fn add_value<N: Names>(w: &mut World, l: &Slots, _names: &N, val: Val) -> Result<(), AllocError>
     requires live { IsLive (extent_of w.old.heap) val }
@@ -84,7 +84,7 @@ pub fn add_value<N: Names>(w: &mut World, l: &Slots, _names: &N, val: Val) -> Re
     Ok(())
 }
 
-// One of some values by its place, or null.
+/// One of some values by its place, or null.
 pub fn value_at(vals: &[Val], place: usize) -> Val
     ensures { result ≡ slice_index_or vals.now place Null }
 {

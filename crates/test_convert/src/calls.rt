@@ -15,7 +15,7 @@ use icn_value::Val;
 use std::alloc::{AllocError, Global};
 use std::cmp::Ordering;
 
-// What a case comes to: the image of its last value, or the order of its last two.
+/// What a case comes to: the image of its last value, or the order of its last two. `AllocError` is want of memory.
 pub fn outcome(alloc: Global, line: &str) -> Result<String, AllocError> {
     let mut out = String::new(alloc);
     let (name, words) = line.split_once(" ").unwrap_or((line, ""));

@@ -10,7 +10,7 @@ use icn_heap::{Full, Heap};
 use icn_value::{Limits, Val};
 use std::alloc::{AllocError, Global};
 
-// A heap of nothing.
+/// A heap of nothing. `AllocError` is want of memory.
 pub fn heap(alloc: Global) -> Result<Heap, AllocError>
     ensures { IfOk result (λ heap. AreRecordsNamed some_names (heap_of heap)) }
 {
@@ -23,7 +23,7 @@ pub fn heap(alloc: Global) -> Result<Heap, AllocError>
     Ok(Heap::new(alloc, limits)?)
 }
 
-// A text.
+/// A text. `AllocError` is want of memory.
 pub fn text(heap: &mut Heap, bytes: &[u8]) -> Result<Val, AllocError>
     requires { AreRecordsNamed some_names (heap_of heap.old) }
     ensures live { IfOk result (IsLive (extent_of heap.new)) }
@@ -33,7 +33,7 @@ pub fn text(heap: &mut Heap, bytes: &[u8]) -> Result<Val, AllocError>
     Ok(Val::Text(heap.hold(bytes)?))
 }
 
-// A list of so many nulls.
+/// A list of so many nulls. The error is the limit that refuses the charge, or want of memory.
 pub fn list(heap: &mut Heap, len: u64) -> Result<Val, Full>
     requires { AreRecordsNamed some_names (heap_of heap.old) }
     ensures live { IfOk result (IsLive (extent_of heap.new)) }
@@ -43,7 +43,7 @@ pub fn list(heap: &mut Heap, len: u64) -> Result<Val, Full>
     Ok(heap.make_list(len, Val::Null)?)
 }
 
-// An empty set.
+/// An empty set. The error is the limit that refuses the charge, or want of memory.
 pub fn set(heap: &mut Heap) -> Result<Val, Full>
     requires { AreRecordsNamed some_names (heap_of heap.old) }
     ensures live { IfOk result (IsLive (extent_of heap.new)) }
@@ -53,7 +53,7 @@ pub fn set(heap: &mut Heap) -> Result<Val, Full>
     Ok(heap.make_set()?)
 }
 
-// An empty table.
+/// An empty table. The error is the limit that refuses the charge, or want of memory.
 pub fn table(heap: &mut Heap) -> Result<Val, Full>
     requires { AreRecordsNamed some_names (heap_of heap.old) }
     ensures live { IfOk result (IsLive (extent_of heap.new)) }
@@ -63,7 +63,8 @@ pub fn table(heap: &mut Heap) -> Result<Val, Full>
     Ok(heap.make_table(Val::Null)?)
 }
 
-// A record of this constructor with these fields, at most 2^16.
+/// A record of this constructor with these fields, at most 2^16. The error is the limit that refuses the charge, or want of
+/// memory.
 pub fn rec(heap: &mut Heap, kind: u16, fields: &[Val]) -> Result<Val, Full>
     requires fields { All (IsLive (extent_of heap.old)) fields.now }
     requires few { length fields.now ≤ 2 ^ 16 }

@@ -12,7 +12,7 @@ use icn_text::read_integer;
 use icn_value::{Cset, File, Val};
 use std::alloc::{AllocError, Global};
 
-// The values of some words.
+/// The values of some words. The error is the limit that refuses the charge, or want of memory.
 pub fn values(alloc: Global, heap: &mut Heap, words: &str) -> Result<Vec<Val>, Full>
     requires { AreRecordsNamed some_names (heap_of heap.old) }
     ensures live { IfOk result (λ vals. All (IsLive (extent_of heap.new)) vals.items) }

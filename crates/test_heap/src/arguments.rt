@@ -10,7 +10,7 @@ use icn_vars::World;
 use std::alloc::{AllocError, Global};
 use test_values::{add, number, plain, text_value};
 
-// The values of some words.
+/// The values of some words. `AllocError` is want of memory.
 pub fn arguments(alloc: Global, w: &mut World, words: &str) -> Result<Vec<Val>, AllocError>
     ensures { IfOk result (λ vals. All (IsLive (extent_of w.new.heap)) vals.items) }
 {
@@ -41,7 +41,7 @@ fn made_value(w: &World, word: &[u8]) -> Val
     arg(&w.globals, number(word) as usize)
 }
 
-// The integer that a value is, or else 0.
+/// The integer that a value is, or else 0.
 pub fn integer_of(val: Val) -> i64 {
     match val {
         Val::Integer(n) => n,
@@ -49,7 +49,7 @@ pub fn integer_of(val: Val) -> i64 {
     }
 }
 
-// The place that a value is.
+/// The place that a value is.
 pub fn place_of(val: Val) -> u64 {
     integer_of(val).unsigned_abs()
 }

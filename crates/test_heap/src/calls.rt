@@ -18,7 +18,7 @@ use std::alloc::AllocError;
 // A record has at most so many fields.
 const MOST_FIELDS: usize = 1 << 16;
 
-// What a call comes to. One of a structure or a text has it as its first argument.
+/// What a call comes to. One of a structure or a text has it as its first argument. `AllocError` is want of memory.
 pub fn push_call_result(
     out: &mut String,
     w: &mut World,

@@ -9,7 +9,7 @@ use icn_vars::World;
 use std::alloc::AllocError;
 use test_values::{add_global, push_bytes, push_printable};
 
-// A value that was made, which later calls have by its place, or why it was refused.
+/// A value that was made, which later calls have by its place, or why it was refused.
 pub fn push_made(out: &mut String, w: &mut World, made: Result<Val, Full>) -> Result<(), AllocError>
     requires { IfOk made (IsLive (extent_of w.old.heap)) }
 {
@@ -24,7 +24,7 @@ pub fn push_made(out: &mut String, w: &mut World, made: Result<Val, Full>) -> Re
     }
 }
 
-// That it is done, or why it was refused.
+/// That it is done, or why it was refused.
 pub fn push_done(out: &mut String, done: Result<(), Full>) -> Result<(), AllocError> {
     match done {
         Ok(()) => out.push_str("done"),
@@ -32,6 +32,7 @@ pub fn push_done(out: &mut String, done: Result<(), Full>) -> Result<(), AllocEr
     }
 }
 
+/// Which limit refused it and how much was charged, or that memory was wanting. `AllocError` is want of memory for the text.
 pub fn push_full(out: &mut String, full: Full) -> Result<(), AllocError> {
     match full {
         Full::Strings { sum, limit } => write!(out, "{sum} of {limit} bytes are used"),
@@ -40,10 +41,12 @@ pub fn push_full(out: &mut String, full: Full) -> Result<(), AllocError> {
     }
 }
 
+/// A truth value. `AllocError` is want of memory.
 pub fn push_flag(out: &mut String, flag: bool) -> Result<(), AllocError> {
     out.push_str(if flag { "true" } else { "false" })
 }
 
+/// A count, or that there is none. `AllocError` is want of memory.
 pub fn push_count(out: &mut String, count: Option<u64>) -> Result<(), AllocError> {
     match count {
         Some(count) => write!(out, "{count}"),
@@ -51,7 +54,7 @@ pub fn push_count(out: &mut String, count: Option<u64>) -> Result<(), AllocError
     }
 }
 
-// A value that was looked for.
+/// A value that was looked for. `AllocError` is want of memory.
 pub fn push_found(out: &mut String, heap: &Heap, found: Option<Val>) -> Result<(), AllocError>
     requires { IfSome found (IsLive (extent_of heap.now)) }
 {
@@ -61,6 +64,7 @@ pub fn push_found(out: &mut String, heap: &Heap, found: Option<Val>) -> Result<(
     }
 }
 
+/// A value, and of a text its bytes behind a quote. `AllocError` is want of memory.
 pub fn push_val(out: &mut String, heap: &Heap, val: Val) -> Result<(), AllocError>
     requires { IsLive (extent_of heap.now) val }
 {
@@ -73,7 +77,7 @@ pub fn push_val(out: &mut String, heap: &Heap, val: Val) -> Result<(), AllocErro
     }
 }
 
-// A value, and of a text no bytes.
+/// A value, and of a text no bytes. `AllocError` is want of memory.
 pub fn push_plain(out: &mut String, val: Val) -> Result<(), AllocError> {
     match val {
         Val::Null => out.push_str("&null"),
@@ -90,7 +94,7 @@ pub fn push_plain(out: &mut String, val: Val) -> Result<(), AllocError> {
     }
 }
 
-// Values in a row, and of texts no bytes.
+/// Values in a row, and of texts no bytes. `AllocError` is want of memory.
 pub fn push_all(out: &mut String, vals: &[Val]) -> Result<(), AllocError> {
     for (place, val) in vals.iter().enumerate() {
         if place > 0 {

@@ -12,7 +12,7 @@ use icn_value::Val;
 use icn_vars::World;
 use std::alloc::AllocError;
 
-// Calls on a list: it gets a value, loses one, or is looked into.
+/// Calls on a list: it gets a value, loses one, or is looked into. `AllocError` is want of memory.
 pub fn on_list(
     out: &mut String,
     w: &mut World,
@@ -59,7 +59,7 @@ fn section(out: &mut String, w: &World, list: u32, from: u64, to: u64) -> Result
     }
 }
 
-// Calls on a record: its kind and its fields.
+/// Calls on a record: its kind and its fields. `AllocError` is want of memory.
 pub fn on_record(
     out: &mut String,
     w: &mut World,

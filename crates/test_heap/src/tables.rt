@@ -11,7 +11,7 @@ use icn_value::Val;
 use icn_vars::World;
 use std::alloc::AllocError;
 
-// Calls on a set: it gets a member, is looked into, or others are made of it.
+/// Calls on a set: it gets a member, is looked into, or others are made of it. `AllocError` is want of memory.
 pub fn on_set(
     out: &mut String,
     w: &mut World,
@@ -71,7 +71,7 @@ fn set_of(w: &mut World, word: &str, first: u32, second: u32) -> Result<Val, Ful
     }
 }
 
-// Calls on a table: a value is stored at a key, or looked for.
+/// Calls on a table: a value is stored at a key, or looked for. `AllocError` is want of memory.
 pub fn on_table(
     out: &mut String,
     w: &mut World,

@@ -101,13 +101,58 @@ mod tests {
         0x00, 0x00, 0x00, 0x21,
     ];
 
+    // The image of a program that has, with the others, every instruction, by hand. It calls `p`, which has a static, suspends its parameter and
+    // returns 1, and has alternation, a record, lists, `!`, `dup` of `v +:= 1`, `case`, limits, a scan, a cset, `|1`, and a co-expression of 3.
+    const EVERY: [u8; 590] = [
+        0x49, 0x63, 0x6e, 0x39, 0x69, 0x6d, 0x67, 0x01, 0x07, 0x00, 0x04, 0x00, 0x6d, 0x61, 0x69,
+        0x6e, 0x01, 0x00, 0x70, 0x05, 0x00, 0x77, 0x72, 0x69, 0x74, 0x65, 0x01, 0x00, 0x72, 0x01,
+        0x00, 0x78, 0x02, 0x00, 0x68, 0x69, 0x02, 0x00, 0x61, 0x62, 0x01, 0x00, 0x00, 0x00, 0x00,
+        0x00, 0x00, 0x00, 0x00, 0x00, 0x00, 0x00, 0x00, 0x00, 0x00, 0x02, 0x00, 0x00, 0x00, 0x00,
+        0x00, 0x00, 0x00, 0x00, 0x00, 0x00, 0x00, 0x00, 0x00, 0x00, 0x00, 0x00, 0x00, 0x00, 0x03,
+        0x00, 0x01, 0x00, 0x00, 0x00, 0x00, 0x00, 0x00, 0x00, 0x02, 0x00, 0x00, 0x00, 0x00, 0x00,
+        0x00, 0x00, 0x03, 0x00, 0x00, 0x00, 0x00, 0x00, 0x00, 0x00, 0x01, 0x00, 0x04, 0x00, 0x01,
+        0x00, 0x03, 0x00, 0x01, 0x00, 0x00, 0x00, 0x04, 0x00, 0x00, 0x00, 0x01, 0x00, 0x00, 0x01,
+        0x00, 0x01, 0x01, 0x00, 0x02, 0x00, 0x03, 0x32, 0x00, 0x03, 0x00, 0x02, 0x00, 0x00, 0x02,
+        0x00, 0x00, 0x00, 0x00, 0x00, 0x00, 0x02, 0x00, 0x00, 0x00, 0x92, 0x00, 0x00, 0x00, 0x01,
+        0x00, 0x01, 0x00, 0x00, 0x00, 0x00, 0x01, 0x00, 0x14, 0x00, 0x00, 0x00, 0x10, 0x07, 0x00,
+        0x00, 0x00, 0x07, 0x02, 0x00, 0x07, 0x01, 0x00, 0x02, 0x00, 0x00, 0x0e, 0x01, 0x00, 0x0e,
+        0x01, 0x00, 0x12, 0x10, 0x13, 0x00, 0x00, 0x00, 0x11, 0x07, 0x02, 0x00, 0x10, 0x0e, 0x00,
+        0x00, 0x00, 0x02, 0x00, 0x00, 0x14, 0x19, 0x0f, 0x00, 0x00, 0x00, 0x02, 0x01, 0x00, 0x0e,
+        0x01, 0x00, 0x09, 0x17, 0x12, 0x10, 0x1b, 0x00, 0x00, 0x00, 0x07, 0x02, 0x00, 0x07, 0x03,
+        0x00, 0x02, 0x02, 0x00, 0x0e, 0x01, 0x00, 0x0d, 0x00, 0x00, 0x0e, 0x01, 0x00, 0x12, 0x10,
+        0x23, 0x00, 0x00, 0x00, 0x07, 0x02, 0x00, 0x02, 0x00, 0x00, 0x02, 0x01, 0x00, 0x0c, 0x02,
+        0x00, 0x0b, 0x06, 0x00, 0x0e, 0x01, 0x00, 0x12, 0x10, 0x29, 0x00, 0x00, 0x00, 0x07, 0x02,
+        0x00, 0x03, 0x05, 0x00, 0x0c, 0x01, 0x00, 0x0f, 0x12, 0x10, 0x2e, 0x00, 0x00, 0x00, 0x05,
+        0x00, 0x00, 0x02, 0x01, 0x00, 0x0b, 0x25, 0x00, 0x12, 0x10, 0x35, 0x00, 0x00, 0x00, 0x05,
+        0x00, 0x00, 0x0a, 0x02, 0x00, 0x00, 0x0b, 0x0c, 0x00, 0x0b, 0x25, 0x00, 0x12, 0x10, 0x46,
+        0x00, 0x00, 0x00, 0x11, 0x05, 0x00, 0x00, 0x13, 0x10, 0x43, 0x00, 0x00, 0x00, 0x1d, 0x02,
+        0x02, 0x00, 0x0b, 0x1e, 0x00, 0x12, 0x09, 0x07, 0x02, 0x00, 0x03, 0x06, 0x00, 0x0e, 0x01,
+        0x00, 0x19, 0x45, 0x00, 0x00, 0x00, 0x09, 0x17, 0x12, 0x10, 0x55, 0x00, 0x00, 0x00, 0x11,
+        0x07, 0x02, 0x00, 0x02, 0x00, 0x00, 0x15, 0x10, 0x4f, 0x00, 0x00, 0x00, 0x02, 0x00, 0x00,
+        0x14, 0x19, 0x50, 0x00, 0x00, 0x00, 0x02, 0x01, 0x00, 0x16, 0x0e, 0x01, 0x00, 0x09, 0x17,
+        0x12, 0x10, 0x5b, 0x00, 0x00, 0x00, 0x03, 0x05, 0x00, 0x1b, 0x02, 0x00, 0x00, 0x1c, 0x12,
+        0x10, 0x61, 0x00, 0x00, 0x00, 0x07, 0x02, 0x00, 0x04, 0x00, 0x00, 0x0b, 0x06, 0x00, 0x0e,
+        0x01, 0x00, 0x12, 0x10, 0x6f, 0x00, 0x00, 0x00, 0x11, 0x07, 0x02, 0x00, 0x02, 0x01, 0x00,
+        0x15, 0x11, 0x02, 0x00, 0x00, 0x18, 0x66, 0x00, 0x00, 0x00, 0x14, 0x16, 0x0e, 0x01, 0x00,
+        0x09, 0x17, 0x12, 0x10, 0x79, 0x00, 0x00, 0x00, 0x05, 0x01, 0x00, 0x22, 0x77, 0x00, 0x00,
+        0x00, 0x10, 0x76, 0x00, 0x00, 0x00, 0x02, 0x02, 0x00, 0x24, 0x17, 0x25, 0x0b, 0x25, 0x00,
+        0x12, 0x10, 0x80, 0x00, 0x00, 0x00, 0x07, 0x02, 0x00, 0x01, 0x05, 0x01, 0x00, 0x23, 0x0e,
+        0x01, 0x00, 0x12, 0x10, 0x87, 0x00, 0x00, 0x00, 0x07, 0x02, 0x00, 0x01, 0x05, 0x01, 0x00,
+        0x23, 0x0e, 0x01, 0x00, 0x12, 0x10, 0x91, 0x00, 0x00, 0x00, 0x11, 0x07, 0x02, 0x00, 0x07,
+        0x01, 0x00, 0x02, 0x01, 0x00, 0x0e, 0x01, 0x00, 0x0e, 0x01, 0x00, 0x09, 0x17, 0x12, 0x21,
+        0x1e, 0x06, 0x00, 0x00, 0x00, 0x10, 0x06, 0x00, 0x00, 0x00, 0x06, 0x00, 0x00, 0x02, 0x00,
+        0x00, 0x0b, 0x25, 0x00, 0x12, 0x10, 0x0d, 0x00, 0x00, 0x00, 0x11, 0x05, 0x00, 0x00, 0x1f,
+        0x09, 0x17, 0x12, 0x10, 0x13, 0x00, 0x00, 0x00, 0x10, 0x11, 0x00, 0x00, 0x00, 0x06, 0x00,
+        0x00, 0x20, 0x21, 0x12, 0x21,
+    ];
+
     // The image of no tables.
     const EMPTY: [u8; 22] = [
         0x49, 0x63, 0x6e, 0x39, 0x69, 0x6d, 0x67, 0x01, 0, 0, 0, 0, 0, 0, 0, 0, 0, 0, 0, 0, 0, 0,
     ];
 
     const USAGE: &str =
-        "usage: iconx [-n turns] [-s bytes] [-b cells] [-l levels] image [argument ...]\n";
+        "usage: iconx [-n turns] [-s bytes] [-b cells] [-l levels] image [argument ...] | iconx -m new image\n";
 
     // What a call answers, by name and number, and what it puts.
     struct CommandCase {
@@ -124,7 +169,7 @@ mod tests {
 
     // `hi` is the first image, `calls` the second, `cut` lacks the last byte of `hi`, `more` has a byte behind its end, `two` calls with two arguments,
     // `none` has no global `main`, `fails` fails at its end.
-    const ROWS: [CommandCase; 51] = [
+    const ROWS: [CommandCase; 61] = [
         CommandCase {
             words: &["hi"],
             answer: "Done",
@@ -337,6 +382,77 @@ mod tests {
             output: "",
             errors: USAGE,
         },
+        CommandCase {
+            words: &["every"],
+            answer: "Done",
+            status: 0,
+            output: "1\n1\n2\n3\n2\nhi\nab\n1\n1\n1\n1\n3\n2\n1\n",
+            errors: "",
+        },
+        // words behind `-m`, and images that are not there or no images
+        CommandCase {
+            words: &["-m"],
+            answer: "Command(3)",
+            status: 2,
+            output: "",
+            errors: USAGE,
+        },
+        CommandCase {
+            words: &["-m", "a"],
+            answer: "Command(2)",
+            status: 2,
+            output: "",
+            errors: USAGE,
+        },
+        CommandCase {
+            words: &["-m", "a", "b", "c"],
+            answer: "Command(7)",
+            status: 2,
+            output: "",
+            errors: USAGE,
+        },
+        CommandCase {
+            words: &["-m", "a", "hi", "c"],
+            answer: "Command(7)",
+            status: 2,
+            output: "",
+            errors: USAGE,
+        },
+        CommandCase {
+            words: &["-n", "5", "-m", "hi"],
+            answer: "Command(5)",
+            status: 2,
+            output: "",
+            errors: USAGE,
+        },
+        CommandCase {
+            words: &["-m", "-n", "gone"],
+            answer: "Missing",
+            status: 2,
+            output: "",
+            errors: "gone: not there\n",
+        },
+        CommandCase {
+            words: &["-m", "new", "cut"],
+            answer: "BadImage(I2)",
+            status: 2,
+            output: "",
+            errors: "cut: bad image, I2\n",
+        },
+        CommandCase {
+            words: &["-m", "hi", "open"],
+            answer: "BadImage(V5)",
+            status: 2,
+            output: "",
+            errors: "open: bad image, V5\n",
+        },
+        CommandCase {
+            words: &["-m", "new", "head"],
+            answer: "BadImage(I1)",
+            status: 2,
+            output: "",
+            errors: "head: bad image, I1\n",
+        },
         // images
         CommandCase {
             words: &["gone"],
@@ -507,9 +623,9 @@ mod tests {
         held.insert(String::from_str(alloc, "none")?, none.to_vec(alloc)?)?;
         held.insert(String::from_str(alloc, "calls")?, CALLS.to_vec(alloc)?)?;
         held.insert(String::from_str(alloc, "empty")?, EMPTY.to_vec(alloc)?)?;
-        // version 2
+        // a version that there is none of
         let mut head = HI;
-        head[7] = 2;
+        head[7] = 3;
         held.insert(String::from_str(alloc, "head")?, head.to_vec(alloc)?)?;
         // a global of a kind that there is none of
         let mut kind = HI;
@@ -533,6 +649,7 @@ mod tests {
         held.insert(String::from_str(alloc, "leave")?, LEAVE.to_vec(alloc)?)?;
         held.insert(String::from_str(alloc, "wrong")?, WRONG.to_vec(alloc)?)?;
         held.insert(String::from_str(alloc, "echo")?, ECHO.to_vec(alloc)?)?;
+        held.insert(String::from_str(alloc, "every")?, EVERY.to_vec(alloc)?)?;
         Ok(held)
     }
 
@@ -550,6 +667,8 @@ mod tests {
             Answer::Command(3) => "Command(3)",
             Answer::Command(4) => "Command(4)",
             Answer::Command(5) => "Command(5)",
+            Answer::Command(7) => "Command(7)",
+            Answer::Wrote => "Wrote",
             Answer::Missing(_) => "Missing",
             Answer::BadImage(Rule::I1) => "BadImage(I1)",
             Answer::BadImage(Rule::I3) => "BadImage(I3)",
@@ -590,7 +709,7 @@ mod tests {
             assert_eq!(rt; out.content(), row.output.as_bytes());
             assert_eq!(rt; err.content(), row.errors.as_bytes());
             assert_eq!(rt; input.content(), b"input\n".as_slice());
-            assert_eq!(rt; files.content().len(), 18);
+            assert_eq!(rt; files.content().len(), 19);
         }
         Ok(())
     }
@@ -656,7 +775,7 @@ mod tests {
         said: &'static str,
     }
 
-    const FAULTS: [FailureCase; 11] = [
+    const FAULTS: [FailureCase; 14] = [
         // the second reading fails, behind the line of the first
         FailureCase {
             words: &["echo"],
@@ -771,6 +890,37 @@ mod tests {
             put: "",
             said: "",
         },
+        // the image is not read, and then the new one not written
+        FailureCase {
+            words: &["-m", "new", "hi"],
+            files: &[0],
+            input: &[],
+            output: &[],
+            errors: &[],
+            answer: "FileFault",
+            put: "",
+            said: "file fault\n",
+        },
+        FailureCase {
+            words: &["-m", "new", "hi"],
+            files: &[1],
+            input: &[],
+            output: &[],
+            errors: &[],
+            answer: "FileFault",
+            put: "",
+            said: "file fault\n",
+        },
+        FailureCase {
+            words: &["-m", "new", "cut"],
+            files: &[],
+            input: &[],
+            output: &[],
+            errors: &[0],
+            answer: "WriteFault",
+            put: "",
+            said: "",
+        },
     ];
 
     #[test]
@@ -791,5 +941,95 @@ mod tests {
             assert_eq!(rt; err.content(), fault.said.as_bytes());
         }
         Ok(())
+    }
+
+    // An image, and how many bytes its second version has.
+    struct NewImage {
+        name: &'static str,
+        length: usize,
+    }
+
+    const NEW_IMAGES: [NewImage; 9] = [
+        NewImage {
+            name: "every",
+            length: 800,
+        },
+        NewImage {
+            name: "hi",
+            length: 114,
+        },
+        NewImage {
+            name: "calls",
+            length: 172,
+        },
+        NewImage {
+            name: "plain",
+            length: 261,
+        },
+        NewImage {
+            name: "forever",
+            length: 93,
+        },
+        NewImage {
+            name: "over",
+            length: 140,
+        },
+        NewImage {
+            name: "leave",
+            length: 121,
+        },
+        NewImage {
+            name: "wrong",
+            length: 168,
+        },
+        NewImage {
+            name: "echo",
+            length: 142,
+        },
+    ];
+
+    // What a call over these files answers and puts, and what it leaves of the input, as one text of bytes.
+    fn observe(alloc: Global, given: &[&str], files: &mut MemFiles) -> Result<Vec<u8>, Fail> {
+        let words = words_of(alloc, given)?;
+        let mut input = MemSource::new(b"one\ntwo\n".to_vec(alloc)?, Vec::new(alloc));
+        let mut out = MemSink::new(Vec::new(alloc), Vec::new(alloc));
+        let mut err = MemSink::new(Vec::new(alloc), Vec::new(alloc));
+        let answer = iconx_main(alloc, &words, files, &mut input, &mut out, &mut err);
+        let mut seen = name_of(&answer).as_bytes().to_vec(alloc)?;
+        for part in [out.content(), err.content(), input.content()] {
+            seen.push(b'|')?;
+            seen.extend_from_slice(part)?;
+        }
+        Ok(seen)
+    }
+
+    // A new image runs as the one that it was made of, also where it takes its place, or is made of a new image.
+    #[test]
+    fn new_images_run_alike(rt: HostRuntime) -> Result<(), Fail> {
+        let alloc = rt.alloc();
+        for case in &NEW_IMAGES {
+            let mut files = MemFiles::new(alloc, images(alloc)?, Vec::new(alloc));
+            let first = observe(alloc, &["-n", "200", case.name], &mut files)?;
+            let wrote = observe(alloc, &["-m", "new", case.name], &mut files)?;
+            assert_eq!(rt; wrote.as_slice(), b"Wrote|||one\ntwo\n".as_slice());
+            assert_eq!(rt; length_of(&files, "new"), case.length);
+            let second = observe(alloc, &["-n", "200", "new"], &mut files)?;
+            assert_eq!(rt; second.as_slice(), first.as_slice());
+            let itself = observe(alloc, &["-m", case.name, case.name], &mut files)?;
+            assert_eq!(rt; itself.as_slice(), wrote.as_slice());
+            let again = observe(alloc, &["-m", case.name, case.name], &mut files)?;
+            assert_eq!(rt; again.as_slice(), wrote.as_slice());
+            assert_eq!(rt; length_of(&files, case.name), case.length);
+            let third = observe(alloc, &["-n", "200", case.name], &mut files)?;
+            assert_eq!(rt; third.as_slice(), first.as_slice());
+        }
+        Ok(())
+    }
+
+    fn length_of(files: &MemFiles, name: &str) -> usize {
+        match files.content().get(name) {
+            Some(bytes) => bytes.len(),
+            None => 0,
+        }
     }
 }

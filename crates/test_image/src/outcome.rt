@@ -29,7 +29,11 @@ impl Cases {
             return Ok(String::new(alloc));
         }
         let mut bytes = Vec::from_slice(alloc, &self.front)?;
-        put_hex(&mut bytes, hex)?;
+        if word == "times" {
+            put_times(&mut bytes, hex)?;
+        } else {
+            put_hex(&mut bytes, hex)?;
+        }
         match by_word(alloc, word, bytes)? {
             Some(found) => format!(in alloc; " => {found}"),
             None => Ok(String::new(alloc)),
@@ -37,9 +41,21 @@ impl Cases {
     }
 }
 
+// Adds bytes so many times, and others behind them: a number, and both in base 16.
+fn put_times(out: &mut Vec<u8>, case: &str) -> Result<(), AllocError> {
+    let Some((count, hex)) = case.split_once(" ") else {
+        return Ok(());
+    };
+    let (repeated, behind) = hex.split_once(" ").unwrap_or((hex, ""));
+    for _ in 0..count.parse::<u32>().unwrap_or(0) {
+        put_hex(out, repeated)?;
+    }
+    put_hex(out, behind)
+}
+
 fn by_word(alloc: Global, word: &str, bytes: Vec<u8>) -> Result<Option<String>, AllocError> {
     Ok(match word {
-        "image" => Some(read_again(alloc, &bytes)?),
+        "image" | "times" => Some(read_again(alloc, &bytes)?),
         "code" => Some(show_image(alloc, &bytes)?),
         "cuts" => Some(cuts(alloc, &bytes)?),
         "spoiled" => Some(spoil_bytes(alloc, bytes)?),
@@ -47,16 +63,26 @@ fn by_word(alloc: Global, word: &str, bytes: Vec<u8>) -> Result<Option<String>, 
     })
 }
 
-// That bytes are an image, which is written again as it was, or why they are none.
+// That bytes are an image, which is written again as it was in the second version, or why they are none.
 fn read_again(alloc: Global, bytes: &[u8]) -> Result<String, AllocError> {
     match read_image(alloc, bytes) {
-        Ok(code) => {
-            let again = write_image(alloc, &code)?;
-            let is_same = again.as_slice() == bytes;
-            String::from_str(alloc, if is_same { "an image" } else { "other bytes" })
-        }
+        Ok(code) => compare(alloc, bytes, &write_image(alloc, &code)?),
         Err(ImageFault::NoMemory) => Err(AllocError),
         Err(fault) => format!(in alloc; "{fault}"),
+    }
+}
+
+// What the second version of an image is beside it: the same bytes, or so many others that are written again as they are.
+fn compare(alloc: Global, bytes: &[u8], written: &[u8]) -> Result<String, AllocError> {
+    if written == bytes {
+        return String::from_str(alloc, "an image");
+    }
+    match read_image(alloc, written) {
+        Ok(code) if write_image(alloc, &code)?.as_slice() == written => {
+            let length = written.len();
+            format!(in alloc; "an image, of {length} bytes in the second version")
+        }
+        _ => String::from_str(alloc, "other bytes"),
     }
 }
 

@@ -14,7 +14,8 @@ use test_values::{add, members, plain, text_value};
 // A record has at most so many fields.
 const MOST_FIELDS: usize = 1 << 16;
 
-// The values that the fields of a line behind the first are or hold, made in a world.
+/// The values that the fields of a line behind the first are or hold, made in a world. The error is the limit that refuses
+/// the charge, or want of memory.
 pub fn operands(alloc: Global, w: &mut World, line: &str) -> Result<Vec<Val>, Full>
     ensures { IfOk result (λ vals. All (IsLive (extent_of w.new.heap)) vals.items) }
 {
@@ -107,7 +108,7 @@ fn integers(alloc: Global, text: &[u8]) -> Result<Vec<Val>, AllocError>
     Ok(vals)
 }
 
-// The operands of a line: values, or the locals that hold them.
+/// The operands of a line: values, or the locals that hold them. `AllocError` is want of memory.
 pub fn items_of(alloc: Global, w: &World, line: &str, vals: &[Val]) -> Result<Vec<Item>, AllocError>
     requires { All (IsLive (extent_of w.now.heap)) vals.now }
     ensures { IfOk result (λ items. All (IsLiveItem (reach_of w.now vals.now)) items.items) }

@@ -11,7 +11,7 @@ ghost use Rattle.icn_vars.specs.Worlds.{Reach, reach_of};
 use crate::operands::{items_of, operands};
 use crate::showing::{show, show_locals};
 use icn_defs::{arity, op_numbered};
-use icn_host::MemSource;
+use icn_host::{MemSource, SureSink};
 use icn_ops::{again, first, is_of_operations};
 use icn_text::Op;
 use icn_value::Residual;
@@ -19,7 +19,14 @@ use icn_vars::{Halt, Outcome, World};
 use std::alloc::{AllocError, Global};
 use test_values::{Slots, new_world};
 
-// What comes of a case. Each has a world of its own, of 20 string bytes and 10 cells.
+// Both outputs.
+#[derive(Drop)]
+struct Sinks {
+    output: SureSink,
+    errors: SureSink,
+}
+
+/// What comes of a case. Each has a world of its own, of 20 string bytes and 10 cells. `AllocError` is want of memory.
 pub fn outcome(alloc: Global, line: &str) -> Result<String, AllocError> {
     let mut w = new_world(alloc, 20, 10)?;
     match operands(alloc, &mut w, line) {
@@ -49,8 +56,29 @@ fn apply_line(
     let mut buffer = Vec::new(alloc);
     let lines = Vec::from_slice(alloc, b"one\ntwo".as_slice())?;
     let mut input = MemSource::new(lines, Vec::new(alloc));
-    let answer = first(op, &items, w, slots, &mut buffer, &mut input);
-    show_all(&mut out, w, slots, answer, &mut buffer, &mut input)?;
+    let mut sinks = Sinks {
+        output: SureSink::new(Vec::new(alloc)),
+        errors: SureSink::new(Vec::new(alloc)),
+    };
+    let answer = first(
+        op,
+        &items,
+        w,
+        slots,
+        &mut buffer,
+        &mut input,
+        &mut sinks.output,
+        &mut sinks.errors,
+    );
+    show_all(
+        &mut out,
+        w,
+        slots,
+        answer,
+        &mut buffer,
+        &mut input,
+        &mut sinks,
+    )?;
     show_locals(&mut out, w, slots, line)?;
     Ok(out)
 }
@@ -63,6 +91,7 @@ fn show_all(
     answer: Result<Outcome, Halt>,
     buffer: &mut Vec<u8>,
     input: &mut MemSource,
+    sinks: &mut Sinks,
 ) -> Result<(), AllocError>
     requires answer { IsLiveAnswer (reach_of w.old slots.old.vals.items) answer }
     requires locals { All (IsLive (extent_of w.old.heap)) slots.old.vals.items }
@@ -74,7 +103,15 @@ fn show_all(
         match rest_of(answer) {
             Some(rest) => {
                 out.push_str(", ")?;
-                answer = again(rest, w, slots, buffer, input);
+                answer = again(
+                    rest,
+                    w,
+                    slots,
+                    buffer,
+                    input,
+                    &mut sinks.output,
+                    &mut sinks.errors,
+                );
             }
             None => return Ok(()),
         }

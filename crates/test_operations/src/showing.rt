@@ -12,7 +12,7 @@ use icn_vars::{Halt, Outcome, Stop, World, deref};
 use std::alloc::AllocError;
 use test_values::{Slots, push_bytes};
 
-// What an operation gives, or the error that it is.
+/// What an operation gives, or the error that it is.
 pub fn show(
     out: &mut String,
     w: &World,
@@ -67,7 +67,7 @@ fn push_item(out: &mut String, w: &World, slots: &Slots, item: Item) -> Result<(
     }
 }
 
-// What the locals hold afterwards, where an operand is one of them.
+/// What the locals hold afterwards, where an operand is one of them. `AllocError` is want of memory.
 pub fn show_locals(out: &mut String, w: &World, slots: &Slots, line: &str) -> Result<(), AllocError>
     requires { All (IsLive (extent_of w.now.heap)) slots.now.vals.items }
 {

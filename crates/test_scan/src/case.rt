@@ -13,7 +13,7 @@ use icn_vars::World;
 use std::alloc::{AllocError, Global};
 use test_values::{Slots, add_argument, new_world, no_locals, number, split_word};
 
-// What the case of a line comes to, behind an arrow. An empty line and a remark have none.
+/// What the case of a line comes to, behind an arrow. An empty line and a remark have none. `AllocError` is want of memory.
 pub fn outcome(alloc: Global, line: &[u8]) -> Result<String, AllocError> {
     let mut out = String::new(alloc);
     if line.is_empty() || line[0] == b'#' {

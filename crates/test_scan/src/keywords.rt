@@ -9,7 +9,7 @@ use icn_vars::{World, assign};
 use std::alloc::{AllocError, Global};
 use test_values::{Slots, spaced_value};
 
-// Gives the subject or the position the value of a word.
+/// Gives the subject or the position the value of a word. `AllocError` is want of memory.
 pub fn set_keyword(
     alloc: Global,
     w: &mut World,
@@ -24,7 +24,7 @@ pub fn set_keyword(
     Ok(assign_keyword(w, slots, keyword, val))
 }
 
-// Whether a value could be assigned to a keyword.
+/// Whether a value could be assigned to a keyword.
 pub fn assign_keyword(w: &mut World, slots: &mut Slots, keyword: KeywordVariable, val: Val) -> bool
     requires value { IsLive (extent_of w.old.heap) val }
     requires locals { All (IsLive (extent_of w.old.heap)) slots.old.vals.items }

@@ -5,6 +5,7 @@ ghost use Rattle.icn_scanfn.specs.Functions.{is_of_scanning, is_scanning_functio
 use icn_text::Func;
 use icn_value::Residual;
 
+/// Whether a function is one of scanning.
 pub fn is_scanning_function(func: Func) -> bool
     ensures { result ≡ is_scanning_function func }
 {
@@ -22,6 +23,7 @@ pub fn is_scanning_function(func: Func) -> bool
     }
 }
 
+/// Whether what is left of a row is of a function of scanning.
 pub fn is_of_scanning(rest: Residual) -> bool
     ensures { result ≡ is_of_scanning rest }
 {
@@ -34,7 +36,7 @@ pub fn is_of_scanning(rest: Residual) -> bool
     }
 }
 
-// Whether a move is taken back.
+/// Whether a move is taken back.
 pub fn is_move(rest: Residual) -> bool {
     matches!(rest, Residual::UndoPosition { .. })
 }

@@ -16,7 +16,7 @@ use icn_vars::{Halt, Outcome, World};
 use std::alloc::AllocError;
 use test_values::{Slots, push_error, push_integer, push_item};
 
-// Appends a result and those that come after it, up to a number.
+/// Appends a result and those that come after it, up to a number. `AllocError` is want of memory.
 pub fn push_results(
     out: &mut String,
     w: &mut World,

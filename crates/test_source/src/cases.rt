@@ -19,6 +19,7 @@ pub struct CaseSettings {
 }
 
 impl CaseSettings {
+    /// No operator is set yet.
     pub fn new(alloc: Global) -> CaseSettings {
         CaseSettings {
             operators: Operators::new(alloc),
@@ -70,7 +71,8 @@ impl CaseSettings {
     }
 }
 
-/// What comes of a case, behind an arrow. A line of another kind, as a comment, has no outcome.
+/// What comes of a case, behind an arrow. A line of another kind, as a comment, has no outcome. `AllocError` is want of
+/// memory.
 pub fn outcome(alloc: Global, tables: &mut CaseSettings, line: &str) -> Result<String, AllocError> {
     let Some((word, case)) = line.split_once(" ") else {
         return Ok(String::new(alloc));

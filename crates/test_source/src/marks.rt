@@ -51,18 +51,18 @@ fn shown_kinds(alloc: Global, tokens: &[Token]) -> Result<String, AllocError> {
     Ok(shown)
 }
 
-/// The tokens of a text with blanks between them.
+/// The tokens of a text with blanks between them. The error is the first rule that the text breaks, or want of memory.
 pub fn kinds(alloc: Global, text: &[u8]) -> Result<String, SourceStop> {
     Ok(shown_kinds(alloc, &scan(alloc, text)?)?)
 }
 
-/// How many tokens a text has.
+/// How many tokens a text has. The error is the first rule that the text breaks, or want of memory.
 pub fn count(alloc: Global, text: &[u8]) -> Result<String, SourceStop> {
     let count = scan(alloc, text)?.len();
     Ok(format!(in alloc; "{count} tokens")?)
 }
 
-/// The tokens, each with its line behind it.
+/// The tokens, each with its line behind it. `AllocError` is want of memory.
 pub fn show_with_lines(alloc: Global, tokens: &[Token]) -> Result<String, AllocError> {
     let mut shown = String::new(alloc);
     for token in tokens {
@@ -77,7 +77,8 @@ pub fn show_with_lines(alloc: Global, tokens: &[Token]) -> Result<String, AllocE
 }
 
 /// Each of these marks with a further byte behind it, where that makes no other mark, has the tokens of the two apart. Answers
-/// how many such texts there are, or the first that has other tokens. The further bytes stand before the marks.
+/// how many such texts there are, or the first that has other tokens. The further bytes stand before the marks. The error is
+/// the first rule that the text breaks, or want of memory.
 pub fn longest(alloc: Global, case: &str) -> Result<String, SourceStop> {
     let (further, marks) = case.split_once(" ").unwrap_or(("", ""));
     let mut count = 0u32;
@@ -102,7 +103,7 @@ pub fn longest(alloc: Global, case: &str) -> Result<String, SourceStop> {
     Ok(format!(in alloc; "{count} texts")?)
 }
 
-/// The bytes that begin no token.
+/// The bytes that begin no token. `AllocError` is want of memory.
 pub fn bad_bytes(alloc: Global) -> Result<String, AllocError> {
     let mut shown = String::new(alloc);
     for byte in 0..=u8::MAX {
@@ -125,7 +126,8 @@ pub struct Edge {
 }
 
 /// Each two tokens on lines of their own have a semicolon between them where the first ends an expression and the second begins
-/// one. Answers how many pairs there are, or the first that is otherwise.
+/// one. Answers how many pairs there are, or the first that is otherwise. The error is the first rule that the text breaks,
+/// or want of memory.
 pub fn semicolons(alloc: Global, edges: &[Edge]) -> Result<String, SourceStop> {
     let mut count = 0u32;
     for first in edges {

@@ -6,7 +6,8 @@ use std::fmt::Write;
 pub const BETWEEN: u8 = 0x1c;
 
 /// The bytes that a case stands for. `§` stands between files, `¶` is the end of a line, `¬` with two digits of base 16 is a byte, and in `«COUNT PART»` a
-/// part stands so many times in a row, where `#` is its number, from 0, and `##` the next number.
+/// part stands so many times in a row, where `#` is its number, from 0, and `##` the next number. `AllocError` is want of
+/// memory.
 pub fn full_text(alloc: Global, case: &str) -> Result<Vec<u8>, AllocError> {
     let mut text = Vec::new(alloc);
     for (i, piece) in case.split("«").enumerate() {
@@ -115,7 +116,7 @@ fn digit(byte: u8) -> u8 {
     }
 }
 
-/// Bytes in the notation of a case's text.
+/// Bytes in the notation of a case's text. `AllocError` is want of memory.
 pub fn push_shown(shown: &mut String, bytes: &[u8]) -> Result<(), AllocError> {
     for byte in bytes {
         if *byte == b'\n' {

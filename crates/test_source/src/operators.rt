@@ -20,6 +20,7 @@ pub struct Operators {
 }
 
 impl Operators {
+    /// No operator is set yet.
     pub fn new(alloc: Global) -> Operators {
         Operators {
             infixes: Vec::new(alloc),
@@ -27,7 +28,7 @@ impl Operators {
         }
     }
 
-    /// Sets the operators before an operand.
+    /// Sets the operators before an operand. The error is the first rule that the text breaks, or want of memory.
     pub fn set_prefixes(
         &mut self,
         alloc: Global,
@@ -40,7 +41,8 @@ impl Operators {
     }
 
     /// Sets the operators between two operands, level by level with `;` between them, where `right` begins a level that
-    /// groups to the right. Each two of them stand as their levels say.
+    /// groups to the right. Each two of them stand as their levels say. The error is the first rule that the text breaks, or
+    /// want of memory.
     pub fn set_levels(
         &mut self,
         alloc: Global,
@@ -79,7 +81,8 @@ impl Operators {
     }
 
     /// A text and its tree with `->` between them, in which `P` and `Q` stand for each operator before an operand, and `I`
-    /// for each between two. Answers how many texts there are, or the first that has another tree.
+    /// for each between two. Answers how many texts there are, or the first that has another tree. The error is the first
+    /// rule that the text breaks, or want of memory.
     pub fn each(&self, alloc: Global, case: &str) -> Result<Option<String>, SourceStop> {
         let mut infixes = Vec::new(alloc);
         for infix in &self.infixes {

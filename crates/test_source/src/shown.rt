@@ -37,6 +37,7 @@ pub struct Writer<'a> {
 }
 
 impl<'a> Writer<'a> {
+    /// Nothing is written yet.
     pub fn new(alloc: Global) -> Writer<'a> {
         Writer {
             shown: TreeText {
@@ -47,6 +48,7 @@ impl<'a> Writer<'a> {
         }
     }
 
+    /// Writes a place as its line. `AllocError` is want of memory.
     pub fn place(&mut self, place: Place) -> Result<(), AllocError> {
         if !self.shown.places.is_empty() {
             self.shown.places.push_str(" ")?;
@@ -55,6 +57,7 @@ impl<'a> Writer<'a> {
         write!(&mut self.shown.places, "{line}")
     }
 
+    /// Writes a word as it is. `AllocError` is want of memory.
     pub fn word(&mut self, text: &str) -> Result<(), AllocError> {
         if !self.shown.text.is_empty() {
             self.shown.text.push_str(" ")?;
@@ -62,6 +65,7 @@ impl<'a> Writer<'a> {
         self.shown.text.push_str(text)
     }
 
+    /// Writes bytes behind a quote. `AllocError` is want of memory.
     pub fn bytes(&mut self, quote: &str, bytes: &[u8]) -> Result<(), AllocError> {
         self.word(quote)?;
         for byte in bytes {
@@ -70,7 +74,7 @@ impl<'a> Writer<'a> {
         self.shown.text.push_str(quote)
     }
 
-    /// Opens a form, whose parts follow, the last one first.
+    /// Opens a form, whose parts follow, the last one first. `AllocError` is want of memory.
     pub fn open(&mut self, head: &str) -> Result<(), AllocError> {
         self.word("(")?;
         self.shown.text.push_str(head)?;
@@ -78,11 +82,13 @@ impl<'a> Writer<'a> {
         Ok(())
     }
 
+    /// Opens a form at a place. `AllocError` is want of memory.
     pub fn form(&mut self, head: &str, place: Place) -> Result<(), AllocError> {
         self.place(place)?;
         self.open(head)
     }
 
+    /// Has an expression follow as a part. `AllocError` is want of memory.
     pub fn part(&mut self, expr: &'a Expr) -> Result<(), AllocError> {
         self.work.push(Work::Tree(expr))?;
         Ok(())
@@ -95,6 +101,7 @@ impl<'a> Writer<'a> {
         }
     }
 
+    /// Has expressions follow as parts. `AllocError` is want of memory.
     pub fn all(&mut self, exprs: &'a [Expr]) -> Result<(), AllocError> {
         for expr in exprs.iter().rev() {
             self.part(expr)?;
@@ -138,6 +145,7 @@ impl<'a> Writer<'a> {
         }
     }
 
+    /// Writes a name behind a quote. `AllocError` is want of memory.
     pub fn name(&mut self, quote: &str, name: &Name) -> Result<(), AllocError> {
         self.place(name.place)?;
         self.bytes(quote, name.text.as_slice())
@@ -314,6 +322,7 @@ impl<'a> Writer<'a> {
         }
     }
 
+    /// Writes an expression. `AllocError` is want of memory.
     pub fn tree(&mut self, expr: &'a Expr) -> Result<(), AllocError> {
         match expr {
             Expr::If {
@@ -346,6 +355,7 @@ impl<'a> Writer<'a> {
         }
     }
 
+    /// Writes a clause of a `case`. `AllocError` is want of memory.
     pub fn clause(&mut self, clause: &'a Clause) -> Result<(), AllocError> {
         match clause {
             Clause::Default { place, value } => {

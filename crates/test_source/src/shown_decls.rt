@@ -108,14 +108,14 @@ impl<'a> Writer<'a> {
     }
 }
 
-/// Expressions as text, with blanks between them.
+/// Expressions as text, with blanks between them. `AllocError` is want of memory.
 pub fn show_exprs(alloc: Global, exprs: &[Expr]) -> Result<TreeText, AllocError> {
     let mut writer = Writer::new(alloc);
     writer.all(exprs)?;
     writer.write()
 }
 
-/// The declarations of a file as text, with blanks between them.
+/// The declarations of a file as text, with blanks between them. `AllocError` is want of memory.
 pub fn show_file(alloc: Global, file: &SourceFile) -> Result<TreeText, AllocError> {
     let mut writer = Writer::new(alloc);
     for decl in file.decls.iter().rev() {

@@ -34,7 +34,8 @@ fn put(
     Ok(())
 }
 
-/// Each line of the file `f` as `NAME:NUMBER:BYTES`, or the rule that is broken as `NAME:NUMBER RULE`.
+/// Each line of the file `f` as `NAME:NUMBER:BYTES`, or the rule that is broken as `NAME:NUMBER RULE`. `AllocError` is want
+/// of memory.
 pub fn lines(alloc: Global, texts: &[u8]) -> Result<String, AllocError> {
     listed_of(alloc, &mut SureFiles::new(alloc, files_of(alloc, texts)?))
 }
@@ -53,12 +54,12 @@ pub fn failing(alloc: Global, case: &[u8]) -> Result<String, AllocError> {
     )
 }
 
-/// The same of a store without files.
+/// The same of a store without files. `AllocError` is want of memory.
 pub fn absent(alloc: Global) -> Result<String, AllocError> {
     listed_of(alloc, &mut SureFiles::new(alloc, BTreeMap::new(alloc)))
 }
 
-/// How many lines the file `f` gives, or the rule that is broken.
+/// How many lines the file `f` gives, or the rule that is broken. `AllocError` is want of memory.
 pub fn count(alloc: Global, texts: &[u8]) -> Result<String, AllocError> {
     let mut files = SureFiles::new(alloc, files_of(alloc, texts)?);
     match preprocess(alloc, "f", &mut files) {

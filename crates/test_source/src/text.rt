@@ -57,7 +57,7 @@ impl TextLines {
     }
 }
 
-/// The lines of a text, numbered from 1.
+/// The lines of a text, numbered from 1. `AllocError` is want of memory.
 pub fn lines_of(alloc: Global, text: &[u8]) -> Result<Lines, AllocError> {
     let mut lines = TextLines::new(alloc)?;
     let mut number = 0u32;
@@ -68,7 +68,7 @@ pub fn lines_of(alloc: Global, text: &[u8]) -> Result<Lines, AllocError> {
     Ok(lines.whole())
 }
 
-/// The lines of a text, of which each begins with its number and a blank.
+/// The lines of a text, of which each begins with its number and a blank. `AllocError` is want of memory.
 pub fn numbered_lines(alloc: Global, text: &[u8]) -> Result<Lines, AllocError> {
     let mut lines = TextLines::new(alloc)?;
     for line in text.split(|byte| *byte == b'\n') {
@@ -80,12 +80,13 @@ pub fn numbered_lines(alloc: Global, text: &[u8]) -> Result<Lines, AllocError> {
     Ok(lines.whole())
 }
 
-/// The tokens of a text.
+/// The tokens of a text. The error is the first rule that the text breaks, or want of memory.
 pub fn scan(alloc: Global, text: &[u8]) -> Result<Vec<Token>, SourceStop> {
     Ok(tokens(alloc, &lines_of(alloc, text)?)?)
 }
 
-/// The tokens of texts of one file each, one behind another.
+/// The tokens of texts of one file each, one behind another. The error is the first rule that the text breaks, or want of
+/// memory.
 pub fn scan_all(alloc: Global, texts: &[u8]) -> Result<Vec<Token>, SourceStop> {
     let mut all = Vec::new(alloc);
     let mut file = 0u32;

@@ -14,7 +14,7 @@ use icn_vars::World;
 use std::alloc::{AllocError, Global};
 use test_values::{Slots, plain};
 
-// A world in which nothing is made, where so many cells may be charged.
+/// A world in which nothing is made, where so many cells may be charged. `AllocError` is want of memory.
 #[tactic(auto, using(crate::proofs::Worlds::new_named))]
 pub fn world(alloc: Global, cells: u64) -> Result<World, AllocError>
     ensures { IfOk result (λ w. AllNamed w []) }
@@ -29,7 +29,7 @@ pub fn world(alloc: Global, cells: u64) -> Result<World, AllocError>
     Ok(World::new(heap, Vec::new(alloc), Vec::new(alloc)))
 }
 
-// Takes the arguments away.
+/// Takes the arguments away.
 #[tactic(auto, using(test_values::proofs::AddedVariables::statics_cleared, crate::proofs::Worlds::cleared_named))]
 pub fn no_arguments(w: &mut World, l: &Slots)
     requires { AllNamed w.old l.now.vals.items }
@@ -38,7 +38,7 @@ pub fn no_arguments(w: &mut World, l: &Slots)
     w.statics.clear();
 }
 
-// Adds the argument of a word.
+/// Adds the argument of a word. `AllocError` is want of memory.
 pub fn add_word(w: &mut World, l: &Slots, word: &[u8]) -> Result<(), AllocError>
     requires locals { l.now.vals.items ≡ [] }
     requires named { AllNamed w.old l.now.vals.items }
@@ -92,7 +92,7 @@ fn add_text(w: &mut World, l: &Slots, bytes: &[u8]) -> Result<(), AllocError>
     add_value(w, l, Val::Text(span))
 }
 
-// Adds an argument.
+/// Adds an argument. `AllocError` is want of memory.
 #[tactic(auto, using(test_values::proofs::AddedVariables::static_added, crate::proofs::Worlds::static_named))]
 pub fn add_value(w: &mut World, l: &Slots, val: Val) -> Result<(), AllocError>
     requires live { IsLive (extent_of w.old.heap) val }

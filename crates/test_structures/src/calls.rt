@@ -17,7 +17,8 @@ use icn_vars::{Halt, Outcome, World};
 use std::alloc::AllocError;
 use test_values::{OneRecord, Slots};
 
-// Calls what a name says with the arguments: a function over structures, or else `next`.
+/// Calls what a name says with the arguments: a function over structures, or else `next`. The error is that of the row, or
+/// want of memory.
 pub fn call_by_name(w: &mut World, l: &Slots, name: &[u8]) -> Result<Outcome, Halt>
     requires locals { l.now.vals.items ≡ [] }
     requires named { AllNamed w.old l.now.vals.items }
@@ -87,7 +88,7 @@ fn next(w: &World, l: &Slots) -> Result<Outcome, Halt>
     }
 }
 
-// An argument by its place, or null.
+/// An argument by its place, or null.
 pub fn argument(w: &World, place: usize) -> Val
     ensures { IsLive (extent_of w.now.heap) result }
 {

@@ -16,7 +16,7 @@ use icn_vars::{Halt, Outcome, World};
 use std::alloc::{AllocError, Global};
 use test_values::{Slots, no_locals, number, split};
 
-// What the calls of a line come to, behind an arrow. An empty line and a remark have none, and an error is the last.
+/// What the calls of a line come to, behind an arrow. An empty line and a remark have none, and an error is the last.
 #[tactic(auto, using(crate::proofs::Worlds::without_locals))]
 pub fn outcome(alloc: Global, line: &[u8]) -> Result<String, AllocError> {
     let mut out = String::new(alloc);

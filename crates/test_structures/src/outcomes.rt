@@ -8,7 +8,8 @@ use icn_value::Val;
 use std::alloc::AllocError;
 use test_values::{push_escaped, push_escaped_cset, push_integer};
 
-// Appends a value: an integer, a text or a cset as a case writes it, and a structure by its type and its number.
+/// Appends a value: an integer, a text or a cset as a case writes it, and a structure by its type and its number.
+/// `AllocError` is want of memory.
 pub fn push_value(out: &mut String, heap: &Heap, val: Val) -> Result<(), AllocError>
     requires { IsLive (extent_of heap.now) val }
 {
@@ -25,7 +26,7 @@ pub fn push_value(out: &mut String, heap: &Heap, val: Val) -> Result<(), AllocEr
     }
 }
 
-// Appends the elements of a structure, and those of lists among them.
+/// Appends the elements of a structure, and those of lists among them. `AllocError` is want of memory.
 pub fn push_shown(out: &mut String, heap: &Heap, val: Val) -> Result<(), AllocError>
     requires { IsLive (extent_of heap.now) val }
 {

@@ -3,7 +3,7 @@ use icn_unit::{NameKind, ProcCode, UnitInstr, UnitName};
 use std::alloc::{AllocError, Global};
 use std::fmt::Write;
 
-/// The text of a procedure's code.
+/// The text of a procedure's code. `AllocError` is want of memory.
 pub fn show_code(alloc: Global, code: &ProcCode) -> Result<String, AllocError> {
     let mut out = String::new(alloc);
     for name in &code.names {

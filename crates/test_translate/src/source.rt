@@ -41,7 +41,7 @@ fn lines(alloc: Global, case: &[u8]) -> Result<Option<Lines>, AllocError> {
     Ok(preprocess(alloc, "f.icn", &mut SureFiles::new(alloc, files)).ok())
 }
 
-/// The code of the first procedure of a case, or why there is none.
+/// The code of the first procedure of a case, or why there is none. `AllocError` is want of memory.
 pub fn code(alloc: Global, case: &[u8]) -> Result<String, AllocError> {
     match lines(alloc, case)? {
         Some(lines) => code_of_lines(alloc, &lines),

@@ -6,7 +6,7 @@ ghost use Rattle.icn_tree.specs.TreeOf.{tree_of, all_of};
 use icn_tree::{Expr, Infix, Place};
 use std::alloc::{AllocError, Global};
 
-/// An operator between two operands.
+/// An operator between two operands. `AllocError` is want of memory.
 pub fn binary(
     alloc: Global,
     place: Place,
@@ -31,7 +31,7 @@ pub fn listing(place: Place, elements: Vec<Expr>) -> Expr
     Expr::List { place, elements }
 }
 
-/// A list with one more element.
+/// A list with one more element. `AllocError` is want of memory.
 pub fn with_one_more(
     place: Place,
     mut elements: Vec<Expr>,
@@ -43,7 +43,7 @@ pub fn with_one_more(
     Ok(Expr::List { place, elements })
 }
 
-/// `a to b by c`.
+/// `a to b by c`. `AllocError` is want of memory.
 pub fn to_by(
     alloc: Global,
     place: Place,

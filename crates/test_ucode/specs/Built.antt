@@ -6,11 +6,14 @@ use Rattle.icn_unit.specs.declared.unit.UnitInstr.TheVariants.{Invoke, Lab, Mark
 use Rattle.icn_unit.specs.declared.unit.UnitName.{UnitName}
 use Rattle.icn_unit.specs.PlainUnits.{PlainProc}
 
+-- the names of the procedure
 abbrev pub names : List UnitName
 names = record { kind = Undeclared; name = codes "write" } ∷ []
 
+-- its instructions
 abbrev pub instrs : List UnitInstr
 instrs = Mark 1 ∷ Var 0 ∷ Str (codes "hi") ∷ Invoke 1 ∷ Unmark ∷ Lab 1 ∷ Pfail ∷ []
 
+-- the procedure
 abbrev pub main : PlainProc
 main = record { name = codes "main"; collects = false; names = names; instrs = instrs }

@@ -11,7 +11,7 @@ use icn_value::{Cset, Item, Val};
 use icn_vars::World;
 use std::alloc::AllocError;
 
-/// Appends a value: an integer, a text or a cset as a case writes it, and others by a word.
+/// Appends a value: an integer, a text or a cset as a case writes it, and others by a word. `AllocError` is want of memory.
 pub fn push_value(out: &mut String, heap: &Heap, val: Val) -> Result<(), AllocError>
     requires { IsLive (extent_of heap.now) val }
 {
@@ -24,7 +24,7 @@ pub fn push_value(out: &mut String, heap: &Heap, val: Val) -> Result<(), AllocEr
     }
 }
 
-/// Appends a value, or that it is a variable.
+/// Appends a value, or that it is a variable. `AllocError` is want of memory.
 pub fn push_item(out: &mut String, w: &World, _slots: &Slots, item: Item) -> Result<(), AllocError>
     requires { IsLiveItem (reach_of w.now _slots.now.vals.items) item }
 {
@@ -54,12 +54,12 @@ pub fn push_error(
     }
 }
 
-/// Appends an integer.
+/// Appends an integer. `AllocError` is want of memory.
 pub fn push_integer(out: &mut String, n: i64) -> Result<(), AllocError> {
     push_bytes(out, decimal(n).as_bytes())
 }
 
-/// Appends bytes as they are.
+/// Appends bytes as they are. `AllocError` is want of memory.
 pub fn push_bytes(out: &mut String, bytes: &[u8]) -> Result<(), AllocError> {
     for byte in bytes {
         out.push(char::from(*byte))?;
@@ -67,7 +67,7 @@ pub fn push_bytes(out: &mut String, bytes: &[u8]) -> Result<(), AllocError> {
     Ok(())
 }
 
-/// Appends a cset: a quote, and those of its members that are printable and no blank.
+/// Appends a cset: a quote, and those of its members that are printable and no blank. `AllocError` is want of memory.
 pub fn push_printable(out: &mut String, cset: &Cset) -> Result<(), AllocError> {
     out.push('\'')?;
     for byte in b'!'..=b'~' {
@@ -78,7 +78,7 @@ pub fn push_printable(out: &mut String, cset: &Cset) -> Result<(), AllocError> {
     Ok(())
 }
 
-/// Appends a text: a quote, and its bytes as cases write them.
+/// Appends a text: a quote, and its bytes as cases write them. `AllocError` is want of memory.
 pub fn push_escaped(out: &mut String, bytes: &[u8]) -> Result<(), AllocError> {
     out.push('"')?;
     for byte in bytes {
@@ -87,7 +87,7 @@ pub fn push_escaped(out: &mut String, bytes: &[u8]) -> Result<(), AllocError> {
     Ok(())
 }
 
-/// Appends a cset: a quote, and its members as cases write them.
+/// Appends a cset: a quote, and its members as cases write them. `AllocError` is want of memory.
 pub fn push_escaped_cset(out: &mut String, cset: &Cset) -> Result<(), AllocError> {
     out.push('\'')?;
     for byte in 0..=u8::MAX {

@@ -28,7 +28,7 @@ pub fn number(word: &[u8]) -> u64 {
     read_integer(word).unwrap_or(0).unsigned_abs()
 }
 
-/// Adds a value to some.
+/// Adds a value to some. `AllocError` is want of memory.
 pub fn add(vals: &mut Vec<Val>, val: Val) -> Result<(), AllocError>
     ensures { IfOk result (λ done. vals.new.items ≡ vals.old.items ++ val ∷ []) }
 {
@@ -36,7 +36,7 @@ pub fn add(vals: &mut Vec<Val>, val: Val) -> Result<(), AllocError>
     Ok(())
 }
 
-/// The text of these bytes, which is not charged.
+/// The text of these bytes, which is not charged. `AllocError` is want of memory.
 #[tactic(auto, using(icn_vars::proofs::GrowingWorlds::grows))]
 pub fn text_value(w: &mut World, bytes: &[u8]) -> Result<Val, AllocError>
     ensures live { IfOk result (IsLive (extent_of w.new.heap)) }

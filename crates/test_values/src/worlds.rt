@@ -9,7 +9,8 @@ use icn_value::{Limits, Val};
 use icn_vars::World;
 use std::alloc::{AllocError, Global};
 
-/// A world in which nothing is made, and of whose heap so many bytes and cells may be charged.
+/// A world in which nothing is made, and of whose heap so many bytes and cells may be charged. `AllocError` is want of
+/// memory.
 #[tactic(auto, using(crate::proofs::AddedVariables::no_records))]
 pub fn new_world(alloc: Global, strings: u64, cells: u64) -> Result<World, AllocError>
     ensures { IfOk result (λ w. (heap_of w.heap).records ≡ []) }
@@ -24,7 +25,7 @@ pub fn new_world(alloc: Global, strings: u64, cells: u64) -> Result<World, Alloc
     Ok(World::new(heap, Vec::new(alloc), Vec::new(alloc)))
 }
 
-/// Adds a global.
+/// Adds a global. `AllocError` is want of memory.
 #[tactic(auto, using(crate::proofs::AddedVariables::global_added))]
 pub fn add_global(w: &mut World, val: Val) -> Result<(), AllocError>
     requires { IsLive (extent_of w.old.heap) val }
@@ -34,7 +35,7 @@ pub fn add_global(w: &mut World, val: Val) -> Result<(), AllocError>
     Ok(())
 }
 
-/// Adds a static.
+/// Adds a static. `AllocError` is want of memory.
 #[tactic(auto, using(crate::proofs::AddedVariables::static_added))]
 pub fn add_static(w: &mut World, val: Val) -> Result<(), AllocError>
     requires { IsLive (extent_of w.old.heap) val }
@@ -43,7 +44,7 @@ pub fn add_static(w: &mut World, val: Val) -> Result<(), AllocError>
     Ok(())
 }
 
-/// Makes the value of a word the next global. An underline in a text stands for a blank.
+/// Makes the value of a word the next global. An underline in a text stands for a blank. `AllocError` is want of memory.
 pub fn add_argument(alloc: Global, w: &mut World, word: &[u8]) -> Result<(), AllocError>
     ensures { heap_of w.new.heap ≡ heap_of w.old.heap }
 {
@@ -51,7 +52,7 @@ pub fn add_argument(alloc: Global, w: &mut World, word: &[u8]) -> Result<(), All
     add_global(w, val)
 }
 
-/// The value of a word, where an underline in a text stands for a blank.
+/// The value of a word, where an underline in a text stands for a blank. `AllocError` is want of memory.
 pub fn spaced_value(alloc: Global, w: &mut World, word: &[u8]) -> Result<Val, AllocError>
     ensures live { IfOk result (IsLive (extent_of w.new.heap)) }
     ensures unchanged { heap_of w.new.heap ≡ heap_of w.old.heap }

@@ -12,7 +12,7 @@ use icn_vars::{Assignment, Exchange, Stop, World, assign, deref, exchange, mover
 use std::alloc::AllocError;
 use test_values::Slots;
 
-// Reads a variable.
+/// Reads a variable. `AllocError` is want of memory.
 pub fn push_read(out: &mut String, w: &World, l: &Slots, variable: VarRef) -> Result<(), AllocError>
     requires locals { All (IsLive (extent_of w.now.heap)) l.now.vals.items }
     requires variable { IsLiveVariable (reach_of w.now l.now.vals.items) variable }
@@ -23,7 +23,7 @@ pub fn push_read(out: &mut String, w: &World, l: &Slots, variable: VarRef) -> Re
     }
 }
 
-// Assigns to a variable, and appends what the variable is then.
+/// Assigns to a variable, and appends what the variable is then. `AllocError` is want of memory.
 pub fn push_assigned(
     out: &mut String,
     w: &mut World,
@@ -43,7 +43,7 @@ pub fn push_assigned(
     }
 }
 
-// Exchanges two variables, and appends what both are then.
+/// Exchanges two variables, and appends what both are then. `AllocError` is want of memory.
 pub fn push_exchanged(
     out: &mut String,
     w: &mut World,
@@ -85,7 +85,7 @@ fn exchange_values(
     exchange(w, l, left, right, of_left, of_right)
 }
 
-// Which side moves the other.
+/// Which side moves the other. `AllocError` is want of memory.
 pub fn push_moved(
     out: &mut String,
     w: &World,

@@ -15,7 +15,7 @@ use icn_vars::World;
 use std::alloc::{AllocError, Global};
 use test_values::Slots;
 
-// Makes a call, and appends what it comes to.
+/// Makes a call, and appends what it comes to. `AllocError` is want of memory.
 pub fn push_call(
     alloc: Global,
     out: &mut String,

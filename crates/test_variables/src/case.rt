@@ -6,7 +6,7 @@ use icn_vars::World;
 use std::alloc::{AllocError, Global};
 use test_values::number;
 
-// What the calls of a line come to.
+/// What the calls of a line come to. `AllocError` is want of memory.
 pub fn outcome(alloc: Global, line: &str) -> Result<String, AllocError> {
     let mut out = String::new(alloc);
     let (limits, calls) = line.split_once(";").unwrap_or((line, ""));

@@ -7,7 +7,7 @@ ghost use Rattle.icn_vars.specs.Worlds.{root_in, variable_in};
 
 use icn_value::{KeywordVariable, Root, Val, VarRef};
 
-// Whether a variable can hold a value: a part and &subject a text, &pos, &random and &error an integer, all others any.
+/// Whether a variable can hold a value: a part and &subject a text, &pos, &random and &error an integer, all others any.
 pub fn can_hold(variable: VarRef, val: Val) -> bool
     ensures { (all : Extent) → can_hold (variable_in all variable) (value_in all val) ≡ result }
 {

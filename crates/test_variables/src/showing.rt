@@ -10,7 +10,7 @@ use icn_vars::{Stop, World};
 use std::alloc::AllocError;
 use test_values::{push_bytes, push_printable};
 
-// Why a variable was not read or assigned.
+/// Why a variable was not read or assigned. `AllocError` is want of memory.
 pub fn push_stop(out: &mut String, w: &World, stop: Stop) -> Result<(), AllocError>
     requires { IsLiveStop (extent_of w.now.heap) stop }
 {
@@ -38,6 +38,7 @@ fn push_error(
     }
 }
 
+/// Appends a value: a text and a cset between quotes, and others by a word. `AllocError` is want of memory.
 pub fn push_value(out: &mut String, heap: &Heap, val: Val) -> Result<(), AllocError>
     requires { IsLive (extent_of heap.now) val }
 {
@@ -67,7 +68,7 @@ fn push_plain(out: &mut String, val: Val) -> Result<(), AllocError> {
     }
 }
 
-// A variable as a case writes it, but for the key of a table.
+/// A variable as a case writes it, but for the key of a table. `AllocError` is want of memory.
 pub fn push_variable(out: &mut String, variable: VarRef) -> Result<(), AllocError> {
     match variable {
         VarRef::Whole(root) => push_root(out, root),
@@ -99,6 +100,7 @@ fn push_keyword(out: &mut String, word: KeywordVariable) -> Result<(), AllocErro
     }
 }
 
+/// Appends which side moves the other. `AllocError` is want of memory.
 pub fn push_mover(out: &mut String, mover: Mover) -> Result<(), AllocError> {
     match mover {
         Mover::Neither => out.push_str("neither"),

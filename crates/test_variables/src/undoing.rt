@@ -13,7 +13,7 @@ use icn_vars::{Stop, World, undo, undo_exchange};
 use std::alloc::AllocError;
 use test_values::Slots;
 
-// Gives a variable an old value back.
+/// Gives a variable an old value back. `AllocError` is want of memory.
 pub fn push_undone(
     out: &mut String,
     w: &mut World,
@@ -53,7 +53,7 @@ pub struct Exchanged {
     pub old_right: Val,
 }
 
-// Gives both sides of an exchange their old values back.
+/// Gives both sides of an exchange their old values back. `AllocError` is want of memory.
 pub fn push_exchange_undone(
     out: &mut String,
     w: &mut World,

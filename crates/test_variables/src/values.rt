@@ -10,7 +10,7 @@ use icn_vars::World;
 use std::alloc::{AllocError, Global};
 use test_values::{Slots, add, number, plain, split, text_value};
 
-// The values of some words.
+/// The values of some words. `AllocError` is want of memory.
 pub fn values(alloc: Global, w: &mut World, l: &Slots, words: &str) -> Result<Vec<Val>, AllocError>
     requires { All (IsLive (extent_of w.old.heap)) l.now.vals.items }
     ensures values { IfOk result (λ vals. All (IsLive (extent_of w.new.heap)) vals.items) }
@@ -43,7 +43,7 @@ fn value_of(w: &mut World, word: &[u8]) -> Result<Val, AllocError>
     }
 }
 
-// One of some values by its place, or null.
+/// One of some values by its place, or null.
 pub fn value_at(w: &World, vals: &[Val], place: usize) -> Val
     requires { All (IsLive (extent_of w.now.heap)) vals.now }
     ensures { IsLive (extent_of w.now.heap) result }

@@ -13,8 +13,8 @@ use icn_value::{KeywordVariable, Root, Val, VarRef};
 use icn_vars::World;
 use test_values::{Slots, number, split};
 
-// The variable that a word names, if it does: what it is rooted in, and where it is a part its place and its length. A value of the table
-// has this key.
+/// The variable that a word names, if it does: what it is rooted in, and where it is a part its place and its length. A
+/// value of the table has this key.
 pub fn variable(w: &World, l: &Slots, word: &str, key: Val) -> Option<VarRef>
     requires { IsLive (extent_of w.now.heap) key }
     ensures { IfSome result (IsLiveVariable (reach_of w.now l.now.vals.items)) }

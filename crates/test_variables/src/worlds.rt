@@ -10,7 +10,8 @@ use icn_vars::World;
 use std::alloc::{AllocError, Global};
 use test_values::{Slots, add_global, add_static, new_world};
 
-// A world of which so many bytes of texts that are made, and so many cells beside those of its structures, may be charged.
+/// A world of which so many bytes of texts that are made, and so many cells beside those of its structures, may be charged.
+/// The error is the limit that refuses the charge, or want of memory.
 pub fn world(alloc: Global, strings: u64, cells: u64) -> Result<World, Full> {
     let mut w = new_world(alloc, strings.min(1000), cells.min(1000) + 8)?;
     for _ in 0..3 {
@@ -26,7 +27,7 @@ pub fn world(alloc: Global, strings: u64, cells: u64) -> Result<World, Full> {
     Ok(w)
 }
 
-// A static by its place, or null.
+/// A static by its place, or null.
 pub fn static_at(w: &World, place: usize) -> Val
     ensures { IsLive (extent_of w.now.heap) result }
 {
@@ -37,7 +38,7 @@ pub fn static_at(w: &World, place: usize) -> Val
     }
 }
 
-// Two locals that are null.
+/// Two locals that are null. `AllocError` is want of memory.
 pub fn two_locals(alloc: Global) -> Result<Slots, AllocError>
     ensures { (all : Extent) → IfOk result (λ slots. All (IsLive all) slots.vals.items) }
 {

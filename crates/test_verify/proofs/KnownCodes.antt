@@ -1,7 +1,8 @@
 -- The codes of the tests keep the rules of tables.
-use Rattle.std.proofs.Common.{◌≡◌, ℕ, pos, zero, suc, ◌<◌, ◌≤◌, ◌^◌, Bool, true, false, ◌&&◌, nat_le, nat_lt, List, [], ◌∷◌, ◌++◌, length, slice_get, Option, None, Some, refl, sym, ap, subst, ◌∙◌, true≢false, arith, length-append}
+use Rattle.std.proofs.Common.{◌≡◌, ℕ, pos, zero, suc, ◌<◌, ◌≤◌, ◌^◌, Bool, true, false, ◌&&◌, nat_le, nat_lt, List, [], ◌∷◌, ◌++◌, length, slice_get, Option, None, Some, refl, sym, ap, subst, ◌∙◌, true≢false, arith, leb-true, ◌*◌, sum_by, length-append}
 use Rattle.std.specs.List.{list_all}
 use Rattle.std.proofs.lemmas.List.{length-map, map-append}
+use Rattle.std.proofs.lemmas.List.Sums.{sum_by-cons}
 use Rattle.std.proofs.lemmas.Bool.Decides.{nat_tests}
 use Rattle.icn_text.specs.declared.func.Func.TheVariants.{Write}
 use Rattle.icn_code.specs.declared.instr.Instr.{Instr}
@@ -31,6 +32,12 @@ right : (a b : Bool) → (a && b) ≡ true → b ≡ true
 right true b h = h
 right false b h = absurd (true≢false (sym h))
 
+is_below : (m n : ℕ) → m < n → nat_lt m n ≡ true
+is_below m n h = grind (arith, nat_tests)
+
+small_number : (n : ℕ) → nat_le n 65535 ≡ true → nat_lt n (2 ^ 32) ≡ true
+small_number n h = is_below n (2 ^ 32) (omega (arith, leb-true n 65535 h))
+
 known_instr : (tables : Tables) (proc : Proc) (count : ℕ) → AreSized tables → length proc.instrs ≡ count → (instr : Instr) → is_known count instr ≡ true
     → is_instr tables proc instr ≡ true
 known_instr tables proc count sized long (Int place) h = ap (nat_lt place) sized.integers ∙ h
@@ -39,9 +46,9 @@ known_instr tables proc count sized long (Cset place) h = absurd (true≢false (
 known_instr tables proc count sized long (Local place) h = absurd (true≢false (sym h))
 known_instr tables proc count sized long (Static place) h = absurd (true≢false (sym h))
 known_instr tables proc count sized long (Global place) h = ap (nat_lt place) sized.globals ∙ h
-known_instr tables proc count sized long (Llist operands) h = h
+known_instr tables proc count sized long (Llist operands) h = small_number operands h
 known_instr tables proc count sized long (Field place) h = ap (nat_lt place) sized.fields ∙ h
-known_instr tables proc count sized long (Invoke operands) h = h
+known_instr tables proc count sized long (Invoke operands) h = small_number operands h
 known_instr tables proc count sized long (Mark label) h = ap (nat_le label) long ∙ h
 known_instr tables proc count sized long (Chfail label) h = ap (nat_le label) long ∙ h
 known_instr tables proc count sized long (Goto label) h = ap (nat_le label) long ∙ h
@@ -57,9 +64,6 @@ known_instrs tables proc count sized long (instr ∷ instrs) h =
     both (is_instr tables proc instr) (list_all (is_instr tables proc) instrs)
     (known_instr tables proc count sized long instr (left (is_known count instr) (list_all (is_known count) instrs) h))
     (known_instrs tables proc count sized long instrs (right (is_known count instr) (list_all (is_known count) instrs) h))
-
-is_below : (m n : ℕ) → m < n → nat_lt m n ≡ true
-is_below m n h = grind (arith, nat_tests)
 
 is_at_most : (m n : ℕ) → m ≤ n → nat_le m n ≡ true
 is_at_most m n h = grind (arith, nat_tests)
@@ -116,9 +120,24 @@ test_tables start procs = record {
 four : (a b c d : Bool) → a ≡ true → b ≡ true → c ≡ true → d ≡ true → (a && b && c && d) ≡ true
 four a b c d h k l m = both (a && b && c) d (both (a && b) c (both a b h k) l) m
 
+few_of : (tables : Tables) (entry : Proc) → is_proc tables entry ≡ true → entry.statics ≤ 65535
+few_of tables entry e = leb-true _ _ (right _ _ (left _ _ (left _ _ e)))
+
+few_sum : (tables : Tables) (procs : List Proc) → list_all (is_proc tables) procs ≡ true → sum_by (λ (p : Proc). p.statics) procs ≤ 65535 * length procs
+few_sum tables [] h = omega arith
+few_sum tables (p ∷ procs) h =
+    let one = few_of tables p (left (is_proc tables p) (list_all (is_proc tables) procs) h) in
+    let rest = few_sum tables procs (right (is_proc tables p) (list_all (is_proc tables) procs) h) in
+    omega (arith, one, rest, sum_by-cons (λ (q : Proc). q.statics) p procs)
+
 pub test_rules : (start : Start) (procs : List Proc) → is_start 0 (length procs) start ≡ true → AreKnown procs → keeps_rules (test_tables start procs) ≡ true
 unfolding keeps_rules
 test_rules start procs starts known =
-    both _ _ (both _ _ (both _ _ (both _ _ (both _ _ (both _ _ (both _ _ (both _ _ (is_at_most (length procs) 65535 known.few) refl) refl) refl) refl) refl)
+    let fit = all_known (test_tables start procs) (record { strings = refl; integers = refl; fields = refl; globals = refl }) procs known.each in
+    let few = known.few in
+    let sum = few_sum (test_tables start procs) procs fit in
+    let counted = both _ _ (both _ _ (is_below (length procs) (2 ^ 32) (omega (arith, few))) (is_at_most (length procs) 16777216 (omega (arith, few))))
+    (is_at_most (sum_by (λ (p : Proc). p.statics) procs) 4294967295 (omega (arith, few, sum))) in
+    both _ _ (both _ _ (both _ _ (both _ _ (both _ _ (both _ _ (both _ _ (both _ _ counted refl) refl) refl) refl) refl)
     (both _ _ starts refl)) refl)
-    (all_known (test_tables start procs) (record { strings = refl; integers = refl; fields = refl; globals = refl }) procs known.each)
+    fit

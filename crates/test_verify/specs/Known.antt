@@ -3,9 +3,9 @@ use Rattle.std.specs.Prelude.{◌≡◌, ℕ, ◌≤◌, Bool, true, false, nat_
 use Rattle.icn_code.specs.declared.instr.Instr.{Instr}
 use Rattle.icn_code.specs.declared.instr.Instr.TheVariants.{Int, Str, Cset, Local, Static, Global, Llist, Field, Invoke, Mark, Chfail, Goto, Loop, Init, Create}
 use Rattle.icn_code.specs.Codes.{Proc, Tables}
-use Rattle.icn_code.specs.Rules.{is_count, is_proc}
+use Rattle.icn_code.specs.Rules.{is_proc}
 
--- an instruction names one of three strings or two globals, the one integer or field, or a label among so many places
+-- an instruction names one of three strings or two globals, the one integer or field, a label among so many places, or at most 65535 operands
 abbrev pub is_known : ℕ → Instr → Bool
 is_known count (Int place) = nat_lt place 1
 is_known count (Str place) = nat_lt place 3
@@ -13,9 +13,9 @@ is_known count (Cset place) = false
 is_known count (Local place) = false
 is_known count (Static place) = false
 is_known count (Global place) = nat_lt place 2
-is_known count (Llist operands) = is_count operands
+is_known count (Llist operands) = nat_le operands 65535
 is_known count (Field place) = nat_lt place 1
-is_known count (Invoke operands) = is_count operands
+is_known count (Invoke operands) = nat_le operands 65535
 is_known count (Mark label) = nat_le label count
 is_known count (Chfail label) = nat_le label count
 is_known count (Goto label) = nat_le label count

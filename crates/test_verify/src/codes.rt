@@ -57,7 +57,7 @@ fn procedure(alloc: Global, instrs: &[Instr]) -> Result<Option<LinkedProcedure>,
     }))
 }
 
-/// The procedures with these instructions; none, if one names what isn't there.
+/// The procedures with these instructions; none, if one names what isn't there. `AllocError` is want of memory.
 pub fn procedures(
     alloc: Global,
     bodies: &[&[Instr]],
@@ -88,7 +88,7 @@ fn first_start(procs: &[LinkedProcedure]) -> Start
     }
 }
 
-/// The code of a program that calls `write`, with these procedures.
+/// The code of a program that calls `write`, with these procedures. `AllocError` is want of memory.
 pub fn code_of(alloc: Global, procs: Vec<LinkedProcedure>) -> Result<Code, AllocError>
     requires known { AreKnown (procs_of procs.items) }
 {
@@ -155,7 +155,7 @@ pub fn check_procs(
     Ok(())
 }
 
-/// The same for one procedure.
+/// The same for one procedure. `AllocError` is want of memory.
 pub fn check_proc(
     rt: &impl Abort,
     alloc: Global,

@@ -1,4 +1,4 @@
-use Rattle.law_steps.proofs.NamedStarts.{starts_sized}
+use Rattle.law_steps.proofs.StepsSized.{starts_sized}
 use Rattle.law_steps.proofs.start_is_sized.Goals as goal
 
 pub returns : goal.returns

@@ -17,7 +17,7 @@ pub first-requires-clause-arity : goal.first-requires-clause-arity
 first-requires-clause-arity g c = (subst (λ (what : Applied). IsApplicable what (length c.args.args.now)) c.in-Op.is c.requires.applicable).1
 
 pub returns-in-Op-clause-applies : goal.returns-in-Op-clause-applies
-returns-in-Op-clause-applies g c = rw c.in-Op.is (c.first.ensures (g.O.Sink.state c.args.out.now) (g.E.Sink.state c.args.err.now))
+returns-in-Op-clause-applies g c = rw c.in-Op.is c.first.ensures
 
 pub returns-in-Op-clause-named : goal.returns-in-Op-clause-named
 returns-in-Op-clause-named g c =
@@ -25,12 +25,12 @@ returns-in-Op-clause-named g c =
     (call_state c.args.w.now (g.L.Locals.items c.args.l.now)
     (call_streams (g.I.Source.left c.args.input.now) (g.I.Source.faults c.args.input.now) (g.O.Sink.state c.args.out.now) (g.E.Sink.state c.args.err.now)))
     (call_state c.first.new.w (g.L.Locals.items c.first.new.l)
-    (call_streams (g.I.Source.left c.first.new.input) (g.I.Source.faults c.first.new.input) (g.O.Sink.state c.args.out.now) (g.E.Sink.state c.args.err.now)))
+    (call_streams (g.I.Source.left c.first.new.input) (g.I.Source.faults c.first.new.input) (g.O.Sink.state c.first.new.out) (g.E.Sink.state c.first.new.err)))
     c.first.result
     (λ was. rows_keep_names.operations (g.N.Names.known c.args.names.now) c.in-Op.op (map (item_in (extent_of c.args.w.now.heap)) c.args.args.now)
     (setting_of was c.args.w.now (g.L.Locals.items c.args.l.now))
     (elsewhere (g.N.Names.known c.args.names.now) c.args.w.now (g.L.Locals.items c.args.l.now) (outside_of []) was c.requires.named) c.requires.args_named)
-    (c.first.ensures (g.O.Sink.state c.args.out.now) (g.E.Sink.state c.args.err.now))
+    c.first.ensures
 
 pub returns-in-Func-clause-applies : goal.returns-in-Func-clause-applies
 returns-in-Func-clause-applies g c = rw c.in-Func.is c.apply_function.ensures.applies
@@ -44,11 +44,11 @@ returns-in-Op-clause-sized g c =
     (call_state c.args.w.now (g.L.Locals.items c.args.l.now)
     (call_streams (g.I.Source.left c.args.input.now) (g.I.Source.faults c.args.input.now) (g.O.Sink.state c.args.out.now) (g.E.Sink.state c.args.err.now)))
     (call_state c.first.new.w (g.L.Locals.items c.first.new.l)
-    (call_streams (g.I.Source.left c.first.new.input) (g.I.Source.faults c.first.new.input) (g.O.Sink.state c.args.out.now) (g.E.Sink.state c.args.err.now)))
+    (call_streams (g.I.Source.left c.first.new.input) (g.I.Source.faults c.first.new.input) (g.O.Sink.state c.first.new.out) (g.E.Sink.state c.first.new.err)))
     c.first.result
     (λ was sizes. rows_keep_sizes.operations sizes c.in-Op.op (map (item_in (extent_of c.args.w.now.heap)) c.args.args.now)
     (setting_of was c.args.w.now (g.L.Locals.items c.args.l.now)))
-    (c.first.ensures (g.O.Sink.state c.args.out.now) (g.E.Sink.state c.args.err.now))
+    c.first.ensures
 
 pub returns-in-Func-clause-sized : goal.returns-in-Func-clause-sized
 returns-in-Func-clause-sized g c = c.apply_function.ensures.sized

@@ -80,61 +80,61 @@ pub again-requires-in-TextBytes-clause-operation : goal.again-requires-in-TextBy
 again-requires-in-TextBytes-clause-operation g c = rw c.in-TextBytes.is refl
 
 pub returns-in-TextBytes-clause-applies : goal.returns-in-TextBytes-clause-applies
-returns-in-TextBytes-clause-applies g c = c.again-in-TextBytes.ensures (g.O.Sink.state c.args.out.now) (g.E.Sink.state c.args.err.now)
+returns-in-TextBytes-clause-applies g c = c.again-in-TextBytes.ensures
 
 pub again-requires-in-VariableBytes-clause-operation : goal.again-requires-in-VariableBytes-clause-operation
 again-requires-in-VariableBytes-clause-operation g c = rw c.in-VariableBytes.is refl
 
 pub returns-in-VariableBytes-clause-applies : goal.returns-in-VariableBytes-clause-applies
-returns-in-VariableBytes-clause-applies g c = c.again-in-VariableBytes.ensures (g.O.Sink.state c.args.out.now) (g.E.Sink.state c.args.err.now)
+returns-in-VariableBytes-clause-applies g c = c.again-in-VariableBytes.ensures
 
 pub again-requires-in-ListItems-clause-operation : goal.again-requires-in-ListItems-clause-operation
 again-requires-in-ListItems-clause-operation g c = rw c.in-ListItems.is refl
 
 pub returns-in-ListItems-clause-applies : goal.returns-in-ListItems-clause-applies
-returns-in-ListItems-clause-applies g c = c.again-in-ListItems.ensures (g.O.Sink.state c.args.out.now) (g.E.Sink.state c.args.err.now)
+returns-in-ListItems-clause-applies g c = c.again-in-ListItems.ensures
 
 pub again-requires-in-SetMembers-clause-operation : goal.again-requires-in-SetMembers-clause-operation
 again-requires-in-SetMembers-clause-operation g c = rw c.in-SetMembers.is refl
 
 pub returns-in-SetMembers-clause-applies : goal.returns-in-SetMembers-clause-applies
-returns-in-SetMembers-clause-applies g c = c.again-in-SetMembers.ensures (g.O.Sink.state c.args.out.now) (g.E.Sink.state c.args.err.now)
+returns-in-SetMembers-clause-applies g c = c.again-in-SetMembers.ensures
 
 pub again-requires-in-TableValues-clause-operation : goal.again-requires-in-TableValues-clause-operation
 again-requires-in-TableValues-clause-operation g c = rw c.in-TableValues.is refl
 
 pub returns-in-TableValues-clause-applies : goal.returns-in-TableValues-clause-applies
-returns-in-TableValues-clause-applies g c = c.again-in-TableValues.ensures (g.O.Sink.state c.args.out.now) (g.E.Sink.state c.args.err.now)
+returns-in-TableValues-clause-applies g c = c.again-in-TableValues.ensures
 
 pub again-requires-in-RecordFields-clause-operation : goal.again-requires-in-RecordFields-clause-operation
 again-requires-in-RecordFields-clause-operation g c = rw c.in-RecordFields.is refl
 
 pub returns-in-RecordFields-clause-applies : goal.returns-in-RecordFields-clause-applies
-returns-in-RecordFields-clause-applies g c = c.again-in-RecordFields.ensures (g.O.Sink.state c.args.out.now) (g.E.Sink.state c.args.err.now)
+returns-in-RecordFields-clause-applies g c = c.again-in-RecordFields.ensures
 
 pub again-requires-in-InputLines-clause-operation : goal.again-requires-in-InputLines-clause-operation
 again-requires-in-InputLines-clause-operation g c = rw c.in-InputLines.is refl
 
 pub returns-in-InputLines-clause-applies : goal.returns-in-InputLines-clause-applies
-returns-in-InputLines-clause-applies g c = c.again-in-InputLines.ensures (g.O.Sink.state c.args.out.now) (g.E.Sink.state c.args.err.now)
+returns-in-InputLines-clause-applies g c = c.again-in-InputLines.ensures
 
 pub again-requires-in-UndoExchange-clause-operation : goal.again-requires-in-UndoExchange-clause-operation
 again-requires-in-UndoExchange-clause-operation g c = rw c.in-UndoExchange.is refl
 
 pub returns-in-UndoExchange-clause-applies : goal.returns-in-UndoExchange-clause-applies
-returns-in-UndoExchange-clause-applies g c = c.again-in-UndoExchange.ensures (g.O.Sink.state c.args.out.now) (g.E.Sink.state c.args.err.now)
+returns-in-UndoExchange-clause-applies g c = c.again-in-UndoExchange.ensures
 
 pub again-requires-in-UndoPosition-clause-operation : goal.again-requires-in-UndoPosition-clause-operation
 again-requires-in-UndoPosition-clause-operation g c = rw c.in-UndoPosition.is refl
 
 pub returns-in-UndoPosition-clause-applies : goal.returns-in-UndoPosition-clause-applies
-returns-in-UndoPosition-clause-applies g c = c.again-in-UndoPosition.ensures (g.O.Sink.state c.args.out.now) (g.E.Sink.state c.args.err.now)
+returns-in-UndoPosition-clause-applies g c = c.again-in-UndoPosition.ensures
 
 pub again-requires-in-Counting-clause-operation : goal.again-requires-in-Counting-clause-operation
 again-requires-in-Counting-clause-operation g c = rw c.in-Counting.is refl
 
 pub returns-in-Counting-clause-applies : goal.returns-in-Counting-clause-applies
-returns-in-Counting-clause-applies g c = c.again-in-Counting.ensures (g.O.Sink.state c.args.out.now) (g.E.Sink.state c.args.err.now)
+returns-in-Counting-clause-applies g c = c.again-in-Counting.ensures
 
 pub returns-in-TableKeys-clause-memory : goal.returns-in-TableKeys-clause-memory
 returns-in-TableKeys-clause-memory g c = rw c.in-TableKeys.is (λ in_place. never in_place)

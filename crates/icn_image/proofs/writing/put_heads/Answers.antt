@@ -1,5 +1,5 @@
 use Rattle.std.proofs.Common.{length, ◌++◌, ap, ◌∙◌}
-use Rattle.std.specs.Int.{w16, to_le_bytes}
+use Rattle.std.specs.Int.{w32, to_le_bytes}
 use Rattle.icn_code.specs.Codes.{proc_of}
 use Rattle.icn_image.specs.Fronts.{head_of}
 use Rattle.icn_image.specs.Spelling.{head}
@@ -12,5 +12,5 @@ loop-proc-preserved c =
     let procs = c.args.procs.now in
     let i = c.loop-proc.proc-index in
     let d = c.proc-item.result in
-    put_head_more w16 c.args.out.now.items (to_le_bytes w16 (length procs)) procs i d c.loop-proc.out.items c.put_head.new.out.items c.loop-proc-test.true
-    c.loop-proc.invariant (c.in_ok-put_head.ensures ∙ ap (λ (p : LinkedProcedure). c.loop-proc.out.items ++ head w16 (head_of (proc_of p))) c.proc-item.is)
+    put_head_more w32 c.args.out.now.items (to_le_bytes w32 (length procs)) procs i d c.loop-proc.out.items c.put_head.new.out.items c.loop-proc-test.true
+    c.loop-proc.invariant (c.in_ok-put_head.ensures ∙ ap (λ (p : LinkedProcedure). c.loop-proc.out.items ++ head w32 (head_of (proc_of p))) c.proc-item.is)

@@ -30,6 +30,9 @@ pub do_on_stack-requires-clause-group : goal.do_on_stack-requires-clause-group
 do_on_stack-requires-clause-group g c =
     sym c.group_of.ensures ∙ c.in-Stack.is
 
+pub do_on_stack-requires-clause-firsts : goal.do_on_stack-requires-clause-firsts
+do_on_stack-requires-clause-firsts g c = c.requires.firsts
+
 pub do_on_stack-requires-clause-goes_on : goal.do_on_stack-requires-clause-goes_on
 do_on_stack-requires-clause-goes_on g c = (
   (extent c.args.m.now),

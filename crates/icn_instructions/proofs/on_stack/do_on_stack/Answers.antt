@@ -1,5 +1,5 @@
-use Rattle.std.proofs.Common.{◌≡◌, ◌<◌, ℕ, length, refl, sym, ap, ◌∙◌, subst, arith}
-use Rattle.std.proofs.lemmas.Option.{slice_get_within}
+use Rattle.std.proofs.Common.{◌≡◌, refl, arith}
+use Rattle.std.specs.Prelude.{slice_index_or}
 use Rattle.icn_frames.specs.Stacks as held
 use Rattle.icn_code.specs.declared.instr.Instr.TheVariants as Instrs
 use Rattle.icn_code.specs.Codes.{Tables}
@@ -10,7 +10,7 @@ use Rattle.icn_instructions.specs.Ranges.{IsInRange}
 use Rattle.icn_instructions.proofs.ArmSteps.{on_ok_map, lacks_as, goes_in, goes_as, case_as, may_take}
 use Rattle.icn_instructions.proofs.GroupSteps.{no_other_stack}
 use Rattle.icn_instructions.proofs.LackSteps.{pop_there, esusp_operand, esusp_mark, chfail_lacks, ccase_operand, ccase_mark}
-use Rattle.icn_instructions.proofs.RangeSteps.{range_as, integer_there, cset_there, local_there, global_there, static_there, few_statics}
+use Rattle.icn_instructions.proofs.RangeSteps.{range_as, integer_there, cset_there, local_there, global_there, static_there, few_statics, first_static}
 use Rattle.icn_instructions.proofs.on_stack.do_on_stack.Goals as goal
 
 pub push_integer-requires : goal.push_integer-requires
@@ -31,21 +31,14 @@ push_local-requires g c =
     local_there tables c.requires.live.0 c.args.frames.now.flat c.in-Local.place
     (range_as tables (held.proc c.args.frames.now.flat) c.args.instr (Instrs.Local c.in-Local.place) c.in-Local.is c.requires.in_range) c.requires.live.1.1
 
-pub first_static-first-requires : goal.first_static-first-requires
-first_static-first-requires g c =
-    let tables : Tables = tables_of c.args.code.now in
-    let r : IsInRange tables (held.proc c.args.frames.now.flat) (Instrs.Static c.in-Static.place) = range_as tables (held.proc c.args.frames.now.flat)
-    c.args.instr (Instrs.Static c.in-Static.place) c.in-Static.is c.requires.in_range in
-    subst (λ (n : ℕ). n < length tables.procs) (sym c.proc.ensures) (slice_get_within tables.procs (held.proc c.args.frames.now.flat) r.entry r.there)
-
 pub push_static-requires : goal.push_static-requires
 push_static-requires g c =
     let tables : Tables = tables_of c.args.code.now in
-    let there = static_there tables (held.proc c.args.frames.now.flat) c.in-Static.place
-    (range_as tables (held.proc c.args.frames.now.flat) c.args.instr (Instrs.Static c.in-Static.place) c.in-Static.is c.requires.in_range) in
-    let first : c.first_static-first.result ≡ statics_before tables (held.proc c.args.frames.now.flat) = c.first_static-first.ensures ∙ ap
-    (statics_before tables) c.proc.ensures in
-    record { few = omega (arith, there, first, few_statics tables c.args.code.now.rules) }
+    let r : IsInRange tables (held.proc c.args.frames.now.flat) (Instrs.Static c.in-Static.place) = range_as tables (held.proc c.args.frames.now.flat)
+    c.args.instr (Instrs.Static c.in-Static.place) c.in-Static.is c.requires.in_range in
+    let first : slice_index_or c.args.firsts.now c.proc.result 0 ≡ statics_before tables (held.proc c.args.frames.now.flat) = first_static tables
+    (held.proc c.args.frames.now.flat) c.proc.result c.in-Static.place c.args.firsts.now r c.requires.firsts c.proc.ensures in
+    record { few = omega (arith, static_there tables (held.proc c.args.frames.now.flat) c.in-Static.place r, first, few_statics tables c.args.code.now.rules) }
 
 pub drop_operand-requires : goal.drop_operand-requires
 drop_operand-requires g c =
@@ -167,8 +160,10 @@ returns-in-Local-clause-no_memory g c =
 pub returns-in-Static-clause-step : goal.returns-in-Static-clause-step
 returns-in-Static-clause-step g c =
     let tables : Tables = tables_of c.args.code.now in
-    let first : c.first_static-first.result ≡ statics_before tables (held.proc c.args.frames.now.flat) = c.first_static-first.ensures ∙ ap
-    (statics_before tables) c.proc.ensures in
+    let r : IsInRange tables (held.proc c.args.frames.now.flat) (Instrs.Static c.in-Static.place) = range_as tables (held.proc c.args.frames.now.flat)
+    c.args.instr (Instrs.Static c.in-Static.place) c.in-Static.is c.requires.in_range in
+    let first : slice_index_or c.args.firsts.now c.proc.result 0 ≡ statics_before tables (held.proc c.args.frames.now.flat) = first_static tables
+    (held.proc c.args.frames.now.flat) c.proc.result c.in-Static.place c.args.firsts.now r c.requires.firsts c.proc.ensures in
     on_ok_map c.push_static.result _ _
     (λ h. goes_as tables c.args.instr (Instrs.Static c.in-Static.place) c.args.frames.now.flat c.push_static.new.frames.flat c.in-Static.is
     (h tables first)) c.push_static.ensures.step
@@ -176,10 +171,11 @@ returns-in-Static-clause-step g c =
 pub returns-in-Static-clause-live : goal.returns-in-Static-clause-live
 returns-in-Static-clause-live g c =
     let tables : Tables = tables_of c.args.code.now in
-    let first : c.first_static-first.result ≡ statics_before tables (held.proc c.args.frames.now.flat) = c.first_static-first.ensures ∙ ap
-    (statics_before tables) c.proc.ensures in
-    let there = static_there tables (held.proc c.args.frames.now.flat) c.in-Static.place
-    (range_as tables (held.proc c.args.frames.now.flat) c.args.instr (Instrs.Static c.in-Static.place) c.in-Static.is c.requires.in_range) in
+    let r : IsInRange tables (held.proc c.args.frames.now.flat) (Instrs.Static c.in-Static.place) = range_as tables (held.proc c.args.frames.now.flat)
+    c.args.instr (Instrs.Static c.in-Static.place) c.in-Static.is c.requires.in_range in
+    let first : slice_index_or c.args.firsts.now c.proc.result 0 ≡ statics_before tables (held.proc c.args.frames.now.flat) = first_static tables
+    (held.proc c.args.frames.now.flat) c.proc.result c.in-Static.place c.args.firsts.now r c.requires.firsts c.proc.ensures in
+    let there = static_there tables (held.proc c.args.frames.now.flat) c.in-Static.place r in
     on_ok_map c.push_static.result _ _ (λ h reach names l. h tables reach (omega (arith, names.statics, there, first)) l) c.push_static.ensures.live
 
 pub returns-in-Static-clause-no_memory : goal.returns-in-Static-clause-no_memory

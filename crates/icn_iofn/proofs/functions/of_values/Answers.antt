@@ -19,10 +19,10 @@ returns-in-Exit g c = λ names. rw c.in-Exit.is
     (keeps_items_refl (reach_of c.args.w.now (g.L.Locals.items c.args.l.now))))
 
 pub returns-in-Read : goal.returns-in-Read
-returns-in-Read g c = λ names. rw c.in-Read.is (c.read.ensures (g.O.Sink.state c.args.out.now) (g.E.Sink.state c.args.err.now))
+returns-in-Read g c = λ names. rw c.in-Read.is c.read.ensures.row
 
 pub returns-in-Reads : goal.returns-in-Reads
-returns-in-Reads g c = λ names. rw c.in-Reads.is (c.reads.ensures (g.O.Sink.state c.args.out.now) (g.E.Sink.state c.args.err.now))
+returns-in-Reads g c = λ names. rw c.in-Reads.is c.reads.ensures.row
 
 pub returns-in-Stop : goal.returns-in-Stop
 returns-in-Stop g c = λ names. rw c.in-Stop.is (c.stop.ensures (g.I.Source.left c.args.input.now) (g.I.Source.faults c.args.input.now))

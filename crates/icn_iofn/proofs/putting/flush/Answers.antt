@@ -1,16 +1,31 @@
 use Rattle.icn_heap.specs.Keys.{file_of}
 use Rattle.std.proofs.Common.{ap}
-use Rattle.icn_iofn.proofs.PutSteps.{output_broken, errors_broken}
+use Rattle.icn_iofn.proofs.PutSteps.{on_ok_map, other_way, output_put, output_broken, errors_put, errors_broken}
 use Rattle.icn_iofn.proofs.putting.flush.Goals as goal
+
+pub returns-in-Output-clause-ok : goal.returns-in-Output-clause-ok
+returns-in-Output-clause-ok g c =
+    output_put c.put_behind.result _ _ _ _ (file_of c.args.file) c.args.text.now (ap file_of c.in-Output.is) c.put_behind.ensures.ok
 
 pub returns-in-Output-clause-err : goal.returns-in-Output-clause-err
 returns-in-Output-clause-err g c =
-    output_broken c.put.result (g.O.Sink.state c.args.out.now) (g.O.Sink.state c.put.new.self) (g.E.Sink.state c.args.err.now)
-    (file_of c.args.file) c.args.text.now
-    (ap file_of c.in-Output.is) c.put.ensures.err c.put.ensures.cause c.put.ensures.want
+    output_broken c.put_behind.result _ _ _ _ (file_of c.args.file) c.args.text.now (ap file_of c.in-Output.is) c.put_behind.ensures.err
+
+pub returns-in-Errout-clause-ok : goal.returns-in-Errout-clause-ok
+returns-in-Errout-clause-ok g c =
+    errors_put c.put_behind-in-Errout.result _ _ _ _ (file_of c.args.file) c.args.text.now (ap file_of c.in-Errout.is) c.put_behind-in-Errout.ensures.ok
 
 pub returns-in-Errout-clause-err : goal.returns-in-Errout-clause-err
 returns-in-Errout-clause-err g c =
-    errors_broken c.put-in-Errout.result (g.E.Sink.state c.args.err.now) (g.E.Sink.state c.put-in-Errout.new.self) (g.O.Sink.state c.args.out.now)
-    (file_of c.args.file) c.args.text.now
-    (ap file_of c.in-Errout.is) c.put-in-Errout.ensures.err c.put-in-Errout.ensures.cause c.put-in-Errout.ensures.want
+    errors_broken c.put_behind-in-Errout.result _ _ _ _ (file_of c.args.file) c.args.text.now (ap file_of c.in-Errout.is)
+    c.put_behind-in-Errout.ensures.err
+
+pub returns-in-Output-clause-settled : goal.returns-in-Output-clause-settled
+returns-in-Output-clause-settled g c = rw c.in-Output.is (on_ok_map c.put_behind.result c.put_behind.ensures.settled (λ none some. none))
+
+pub returns-in-Errout-clause-settled : goal.returns-in-Errout-clause-settled
+returns-in-Errout-clause-settled g c =
+    rw c.in-Errout.is (on_ok_map c.put_behind-in-Errout.result c.put_behind-in-Errout.ensures.settled (λ none some. none))
+
+pub returns-in-Errout-clause-one_settled : goal.returns-in-Errout-clause-one_settled
+returns-in-Errout-clause-one_settled g c = λ one. other_way (c.put_behind-in-Errout.ensures.one_settled (other_way one))

@@ -19,6 +19,7 @@ returns-in_err-push_text-in_default g c = record {
       (stops_idle (file_of c.args.file) c.args.buffer.now.items
       (text_of_piece newline (not c.args.ends) (piece_in (value_in (extent_of c.args.heap.now) c.args.val)))
       (outputs (g.O.Sink.state c.args.out.now) (g.E.Sink.state c.args.err.now)) NoMemory refl);
+  one_settled = λ one. one;
 }
 
 pub returns-in_ok-push_text-in_default : goal.returns-in_ok-push_text-in_default
@@ -34,4 +35,5 @@ returns-in_ok-push_text-in_default g c = record {
       (outputs (g.O.Sink.state c.args.out.now) (g.E.Sink.state c.args.err.now)) refl c.in_ok-push_text-in_default.ensures);
   file = sym (ap (file_after (file_of c.args.file)) (text_piece (extent_of c.args.heap.now) c.args.val c.in_default.not-Std));
   err = tt;
+  one_settled = λ one. one;
 }

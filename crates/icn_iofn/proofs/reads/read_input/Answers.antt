@@ -1,44 +1,32 @@
--- The row reads once, and gives what it read.
+-- Both outputs are settled, and then a text is read.
 use Rattle.std.proofs.Common.{refl}
-use Rattle.icn_heap.specs.Extents.{IsText}
-use Rattle.icn_heap.specs.Heaps.{extent_of}
-use Rattle.icn_value.specs.Values.{Text}
 use Rattle.icn_defs.specs.Rows.{gives_value}
-use Rattle.icn_value.specs.declared.item.Item.TheVariants.{Val as HeldVal}
-use Rattle.icn_value.specs.declared.val.Val.TheVariants.{Text as HeldText}
-use Rattle.icn_vars.specs.declared.outcome.Outcome.TheVariants.{Gives}
+use Rattle.icn_value.specs.Values.{Text}
+use Rattle.icn_streams.specs.Answers.{call_state}
+use Rattle.icn_streams.specs.Handed.{call_streams}
 use Rattle.icn_streams.specs.Readings.{asked_in}
-use Rattle.icn_streams.proofs.NextRead.{if_some_elim}
-use Rattle.icn_streams.proofs.ReadRows.{read_fails, read_gives, read_halts}
+use Rattle.icn_streams.proofs.SettledRows.{behind_settling, reads_quietly, settling_stops, unsettled_stops}
+use Rattle.icn_iofn.specs.ReadParts.{reads_from}
 use Rattle.icn_iofn.proofs.reads.read_input.Goals as goal
 
-pub returns-in_err-text : goal.returns-in_err-text
-returns-in_err-text g c = λ output errors.
-    read_halts (asked_in c.args.ask) (λ text. gives_value (Text text)) (record { outside = λ text s. refl }) c.args.w.now c.read_text.new.w
-    (g.L.Locals.items c.args.l.now)
-    (g.I.Source.left c.args.input.now) (g.I.Source.left c.read_text.new.input) (g.I.Source.faults c.args.input.now)
-    (g.I.Source.faults c.read_text.new.input) output errors
-    c.in_err-text.field-0.0 c.from_residual.result c.from_residual.ensures.1 (λ was told. c.in_err-text.ensures.reads was output errors told)
-    (c.in_err-text.ensures.some output errors) c.in_err-text.ensures.cause
-    c.in_err-text.ensures.halts c.read_text.ensures.locals c.read_text.ensures.kept
+pub returns-in_err-settle-clause-row : goal.returns-in_err-settle-clause-row
+returns-in_err-settle-clause-row g c =
+    settling_stops (reads_from (asked_in c.args.ask))
+    (reads_quietly (asked_in c.args.ask) (λ text. gives_value (Text text)) (record { outside = λ text s. refl })) c.args.w.now (g.L.Locals.items c.args.l.now)
+    (call_streams (g.I.Source.left c.args.input.now) (g.I.Source.faults c.args.input.now) (g.O.Sink.state c.args.out.now) (g.E.Sink.state c.args.err.now))
+    (call_streams (g.I.Source.left c.args.input.now) (g.I.Source.faults c.args.input.now) (g.O.Sink.state c.settle.new.out) (g.E.Sink.state c.settle.new.err))
+    c.in_err-settle.field-0.0 c.from_residual.result c.from_residual.ensures.1 (c.in_err-settle.ensures.settles _ _) c.requires
 
-pub returns-in-Some : goal.returns-in-Some
-returns-in-Some g c = λ output errors.
-    let text : IsText (extent_of c.read_text.new.w.heap) c.in-Some.text = if_some_elim c.in_ok-text.field-0 c.in-Some.text
-    (IsText (extent_of c.read_text.new.w.heap)) c.in-Some.is c.in_ok-text.ensures.live in
-    read_gives (asked_in c.args.ask) (λ text. gives_value (Text text)) (record { outside = λ text s. refl }) c.args.w.now c.read_text.new.w
-    (g.L.Locals.items c.args.l.now)
-    (g.I.Source.left c.args.input.now) (g.I.Source.left c.read_text.new.input) (g.I.Source.faults c.args.input.now)
-    (g.I.Source.faults c.read_text.new.input) output errors
-    c.in_ok-text.field-0 c.in-Some.text (Gives (HeldVal (HeldText c.in-Some.text))) c.in-Some.is (λ s. refl)
-    (λ was told. c.in_ok-text.ensures.reads was output errors told) (c.in_ok-text.ensures.some output errors)
-    c.in_ok-text.ensures.cause (record { live = record { live = record { live = text } } }) c.read_text.ensures.locals c.read_text.ensures.kept
+pub returns-clause-row : goal.returns-clause-row
+returns-clause-row g c =
+    behind_settling (reads_from (asked_in c.args.ask)) c.args.w.now (g.L.Locals.items c.args.l.now)
+    (call_streams (g.I.Source.left c.args.input.now) (g.I.Source.faults c.args.input.now) (g.O.Sink.state c.args.out.now) (g.E.Sink.state c.args.err.now))
+    (call_streams (g.I.Source.left c.args.input.now) (g.I.Source.faults c.args.input.now) (g.O.Sink.state c.settle.new.out) (g.E.Sink.state c.settle.new.err))
+    (call_state c.give_text.new.w (g.L.Locals.items c.args.l.now) (call_streams (g.I.Source.left c.give_text.new.input)
+    (g.I.Source.faults c.give_text.new.input) (g.O.Sink.state c.settle.new.out) (g.E.Sink.state c.settle.new.err)))
+    c.give_text.result (c.in_ok-settle.ensures.settles _ _) (c.give_text.ensures _ _)
 
-pub returns-in-None : goal.returns-in-None
-returns-in-None g c = λ output errors.
-    read_fails (asked_in c.args.ask) (λ text. gives_value (Text text)) (record { outside = λ text s. refl }) c.args.w.now c.read_text.new.w
-    (g.L.Locals.items c.args.l.now)
-    (g.I.Source.left c.args.input.now) (g.I.Source.left c.read_text.new.input) (g.I.Source.faults c.args.input.now)
-    (g.I.Source.faults c.read_text.new.input) output errors
-    c.in_ok-text.field-0 c.in-None.is (λ was told. c.in_ok-text.ensures.reads was output errors told)
-    (c.in_ok-text.ensures.some output errors) c.in_ok-text.ensures.cause c.read_text.ensures.locals c.read_text.ensures.kept
+pub returns-in_err-settle-clause-settled : goal.returns-in_err-settle-clause-settled
+returns-in_err-settle-clause-settled g c =
+    unsettled_stops _ _ c.in_err-settle.field-0.0 c.from_residual.result (g.O.Sink.pending c.settle.new.out) (g.E.Sink.pending c.settle.new.err)
+    c.from_residual.ensures.1 (c.in_err-settle.ensures.settles (g.I.Source.left c.args.input.now) (g.I.Source.faults c.args.input.now))

@@ -12,31 +12,32 @@ use Rattle.icn_vars.specs.Worlds.{setting_of}
 use Rattle.icn_streams.specs.Answers.{call_state}
 use Rattle.icn_streams.specs.Handed.{call_streams}
 use Rattle.icn_streams.proofs.RowAnswers.{applies_same, stops_there}
+use Rattle.icn_streams.proofs.SettledRows.{settled_unread}
 use Rattle.icn_iofn.specs.ReadParts.{count_read, read_from}
 use Rattle.icn_iofn.proofs.reads.reads.Goals as goal
 
-pub returns-in_err-file : goal.returns-in_err-file
-returns-in_err-file g c = λ output errors.
+pub returns-in_err-file-clause-row : goal.returns-in_err-file-clause-row
+returns-in_err-file-clause-row g c =
     stops_there (file (arg_or (Std Input) (map (value_in (extent_of c.args.w.now.heap)) c.args.vals.now) 0))
     (λ from. count_read (map (value_in (extent_of c.args.w.now.heap)) c.args.vals.now)
     (λ count. check (is_input from) 212 (Some (arg (map (value_in (extent_of c.args.w.now.heap)) c.args.vals.now) 0))
     (next_bytes count (λ bytes. gives_value (Text bytes)))))
     (call_state c.args.w.now (g.L.Locals.items c.args.l.now)
-    (call_streams (g.I.Source.left c.args.input.now) (g.I.Source.faults c.args.input.now) output errors))
+    (call_streams (g.I.Source.left c.args.input.now) (g.I.Source.faults c.args.input.now) (g.O.Sink.state c.args.out.now) (g.E.Sink.state c.args.err.now)))
     c.in_err-file.field-0.0 c.from_residual.result c.from_residual.ensures.1
     (λ was. c.in_err-file.ensures.found (extent_of c.args.w.now.heap) (setting_of was c.args.w.now (g.L.Locals.items c.args.l.now)))
     (c.in_err-file.ensures.stops (extent_of c.args.w.now.heap) c.requires.live) c.requires.locals
 
-pub returns-in_err-count : goal.returns-in_err-count
-returns-in_err-count g c = λ output errors.
+pub returns-in_err-count-clause-row : goal.returns-in_err-count-clause-row
+returns-in_err-count-clause-row g c =
     applies_same (reads_row (map (value_in (extent_of c.args.w.now.heap)) c.args.vals.now))
     (count_read (map (value_in (extent_of c.args.w.now.heap)) c.args.vals.now)
     (λ count. check (is_input (file_of c.in_ok-file.file)) 212 (Some (arg (map (value_in (extent_of c.args.w.now.heap)) c.args.vals.now) 0))
     (next_bytes count (λ bytes. gives_value (Text bytes)))))
     (call_state c.args.w.now (g.L.Locals.items c.args.l.now)
-    (call_streams (g.I.Source.left c.args.input.now) (g.I.Source.faults c.args.input.now) output errors))
+    (call_streams (g.I.Source.left c.args.input.now) (g.I.Source.faults c.args.input.now) (g.O.Sink.state c.args.out.now) (g.E.Sink.state c.args.err.now)))
     (call_state c.args.w.now (g.L.Locals.items c.args.l.now)
-    (call_streams (g.I.Source.left c.args.input.now) (g.I.Source.faults c.args.input.now) output errors))
+    (call_streams (g.I.Source.left c.args.input.now) (g.I.Source.faults c.args.input.now) (g.O.Sink.state c.args.out.now) (g.E.Sink.state c.args.err.now)))
     c.from_residual-in_err-count.result
     (λ was. c.in_ok-file.ensures.found (extent_of c.args.w.now.heap) (setting_of was c.args.w.now (g.L.Locals.items c.args.l.now))
     (λ from. count_read (map (value_in (extent_of c.args.w.now.heap)) c.args.vals.now)
@@ -46,18 +47,19 @@ returns-in_err-count g c = λ output errors.
     (λ count. check (is_input (file_of c.in_ok-file.file)) 212 (Some (arg (map (value_in (extent_of c.args.w.now.heap)) c.args.vals.now) 0))
     (next_bytes count (λ bytes. gives_value (Text bytes))))
     (call_state c.args.w.now (g.L.Locals.items c.args.l.now)
-    (call_streams (g.I.Source.left c.args.input.now) (g.I.Source.faults c.args.input.now) output errors))
+    (call_streams (g.I.Source.left c.args.input.now) (g.I.Source.faults c.args.input.now) (g.O.Sink.state c.args.out.now) (g.E.Sink.state c.args.err.now)))
     c.in_err-count.field-0.0 c.from_residual-in_err-count.result c.from_residual-in_err-count.ensures.1
     (λ was. c.in_err-count.ensures.found (setting_of was c.args.w.now (g.L.Locals.items c.args.l.now))) c.in_err-count.ensures.stops c.requires.locals)
 
-pub returns : goal.returns
-returns g c = λ output errors.
+pub returns-clause-row : goal.returns-clause-row
+returns-clause-row g c =
     applies_same (reads_row (map (value_in (extent_of c.args.w.now.heap)) c.args.vals.now))
     (read_from (SomeBytes c.in_ok-count.count) (file_of c.in_ok-file.file) (value_in (extent_of c.args.w.now.heap) c.arg.result))
     (call_state c.args.w.now (g.L.Locals.items c.args.l.now)
-    (call_streams (g.I.Source.left c.args.input.now) (g.I.Source.faults c.args.input.now) output errors))
+    (call_streams (g.I.Source.left c.args.input.now) (g.I.Source.faults c.args.input.now) (g.O.Sink.state c.args.out.now) (g.E.Sink.state c.args.err.now)))
     (call_state c.read_from.new.w (g.L.Locals.items c.args.l.now)
-    (call_streams (g.I.Source.left c.read_from.new.input) (g.I.Source.faults c.read_from.new.input) output errors)) c.read_from.result
+    (call_streams (g.I.Source.left c.read_from.new.input) (g.I.Source.faults c.read_from.new.input)
+    (g.O.Sink.state c.read_from.new.out) (g.E.Sink.state c.read_from.new.err))) c.read_from.result
     (λ was. c.in_ok-file.ensures.found (extent_of c.args.w.now.heap) (setting_of was c.args.w.now (g.L.Locals.items c.args.l.now))
     (λ from. count_read (map (value_in (extent_of c.args.w.now.heap)) c.args.vals.now)
     (λ count. check (is_input from) 212 (Some (arg (map (value_in (extent_of c.args.w.now.heap)) c.args.vals.now) 0))
@@ -68,4 +70,14 @@ returns g c = λ output errors.
     ∙ ap (λ value. check (is_input (file_of c.in_ok-file.file)) 212 (Some value) (next_bytes c.in_ok-count.count (λ bytes. gives_value (Text bytes)))
     (setting_of was c.args.w.now (g.L.Locals.items c.args.l.now)))
     (sym (c.arg.ensures.value (extent_of c.args.w.now.heap)))))
-    (c.read_from.ensures output errors)
+    c.read_from.ensures.row
+
+pub returns-in_err-file-clause-settled : goal.returns-in_err-file-clause-settled
+returns-in_err-file-clause-settled g c =
+    settled_unread c.in_err-file.field-0.0 c.from_residual.result (g.O.Sink.pending c.args.out.now) (g.E.Sink.pending c.args.err.now)
+    c.from_residual.ensures.1
+
+pub returns-in_err-count-clause-settled : goal.returns-in_err-count-clause-settled
+returns-in_err-count-clause-settled g c =
+    settled_unread c.in_err-count.field-0.0 c.from_residual-in_err-count.result (g.O.Sink.pending c.args.out.now) (g.E.Sink.pending c.args.err.now)
+    c.from_residual-in_err-count.ensures.1

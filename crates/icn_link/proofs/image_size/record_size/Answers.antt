@@ -4,5 +4,5 @@ use Rattle.icn_link.proofs.image_size.record_size.Goals as goal
 
 pub returns : goal.returns
 returns c =
-    told_plus (length c.args.fields.now * 2) 4 c.entries_size.result 4 c.saturating_add.result c.entries_size.ensures (sym (told_same 4 (omega arith)))
+    told_plus (length c.args.fields.now * 4) 8 c.entries_size.result 8 c.saturating_add.result c.entries_size.ensures (sym (told_same 8 (omega arith)))
     c.saturating_add.ensures

@@ -1,13 +1,17 @@
-use Rattle.std.proofs.Common.{rules}
+use Rattle.std.proofs.Common.{◌∙◌, FitsSigned, rules}
+use mir.Val.{of_z, to_z}
+use Rattle.std.specs.Int.{w64}
 use Rattle.std.specs.Prelude.{[]}
 use Rattle.icn_value.specs.Store.{outside_of}
 use Rattle.icn_heap.specs.Heaps.{extent_of}
 use Rattle.icn_vars.specs.Outcomes.{residual_in}
 use Rattle.icn_vars.specs.Worlds.{reach_of, setting_of}
+use Rattle.icn_frames.specs.declared.layout.Count.{Count}
 use Rattle.icn_frames.specs.Stacks as flat
 use Rattle.law_steps.proofs.RowCounts.{rows_keep_counts}
 use Rattle.icn_control.proofs.Halts.{unless_ended}
 use Rattle.icn_machine.proofs.PerformSteps.{counts_after, counts_halted, given_row, halt_live, halted_row, kept_after, named_with, names_halted, outcome_live, performs_lack, sizes_halted, stack_live}
+use Rattle.icn_machine.proofs.CountSteps.{count_resumed, counting_held, live_left, names_left, sizes_left, world_left}
 use Rattle.icn_machine.proofs.performing.perform_again.Goals as goal
 
 pub returns-in_err-outcome-clause-row : goal.returns-in_err-outcome-clause-row
@@ -95,3 +99,32 @@ returns-in-Err-clause-leaves g c = record {
   counts = search rules;
   halt = search rules;
 }
+
+pub returns-in-Counting-clause-row : goal.returns-in-Counting-clause-row
+returns-in-Counting-clause-row g c =
+    let n = c.in-Counting.given in
+    let last = c.in-Counting.last in
+    let step = c.in-Counting.step in
+    let a : FitsSigned w64 n = search rules in
+    let b : FitsSigned w64 last = search rules in
+    let d : FitsSigned w64 step = search rules in
+    let count : Count = record { given = to_z w64 (of_z w64 n); last = to_z w64 (of_z w64 last); step = to_z w64 (of_z w64 step) } in
+    count_resumed c.args.world.now c.args.frames.now.flat c.resume_count.new.frames.flat count c.args.rest _ c.resume_count.result
+    (c.in-Counting.is ∙ counting_held n last step a b d) c.resume_count.ensures.same c.resume_count.ensures.counts c.resume_count.ensures.halt
+
+pub returns-in-Counting-clause-live : goal.returns-in-Counting-clause-live
+returns-in-Counting-clause-live g c tables live =
+    live_left c.args.world.now c.args.frames.now.flat c.resume_count.new.frames.flat tables c.resume_count.result c.resume_count.ensures.halt
+    c.resume_count.ensures.live live
+
+pub returns-in-Counting-clause-leaves : goal.returns-in-Counting-clause-leaves
+returns-in-Counting-clause-leaves g c = world_left c.args.world.now c.resume_count.result c.resume_count.ensures.halt
+
+pub returns-in-Counting-clause-sized : goal.returns-in-Counting-clause-sized
+returns-in-Counting-clause-sized g c = sizes_left c.args.world.now c.resume_count.result c.resume_count.ensures.halt
+
+pub returns-in-Counting-clause-named : goal.returns-in-Counting-clause-named
+returns-in-Counting-clause-named g c =
+    names_left (g.N.Names.known c.args.names.now) c.args.world.now c.args.frames.now.flat c.resume_count.new.frames.flat c.resume_count.result
+    c.resume_count.ensures.halt (c.resume_count.ensures.named (g.N.Names.known c.args.names.now) (extent_of c.args.world.now.heap))
+    c.requires.here.stack_named c.requires.here.world_named

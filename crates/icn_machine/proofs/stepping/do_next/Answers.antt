@@ -58,6 +58,9 @@ returns-then-is_applied-clause-within g c = record {
   limits = c.settle.ensures.within.limits ∙ c.do_applied-answer.ensures.within.limits ∙ c.next_instr-instr.ensures.limits;
 }
 
+pub do_plain-answer-requires-clause-firsts : goal.do_plain-answer-requires-clause-firsts
+do_plain-answer-requires-clause-firsts g c = c.requires.firsts
+
 pub do_plain-answer-requires-clause-applied : goal.do_plain-answer-requires-clause-applied
 do_plain-answer-requires-clause-applied g c = sym c.is_applied.ensures ∙ c.if-is_applied.false
 

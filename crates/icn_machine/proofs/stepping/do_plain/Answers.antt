@@ -9,6 +9,9 @@ use Rattle.icn_machine.proofs.stepping.do_plain.Goals as goal
 pub do_instruction-requires-clause-kind : goal.do_instruction-requires-clause-kind
 do_instruction-requires-clause-kind g c = applied_kind c.args.instr c.requires.applied
 
+pub do_instruction-requires-clause-firsts : goal.do_instruction-requires-clause-firsts
+do_instruction-requires-clause-firsts g c = c.requires.firsts
+
 pub do_instruction-requires-clause-runs : goal.do_instruction-requires-clause-runs
 do_instruction-requires-clause-runs g c = c.requires.doing.runs
 

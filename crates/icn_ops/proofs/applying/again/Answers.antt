@@ -6,10 +6,11 @@ use Rattle.icn_defs.specs.Applying.{again}
 use Rattle.icn_ops.proofs.applying.again.Goals as goal
 
 pub returns-in-InputLines : goal.returns-in-InputLines
-returns-in-InputLines g c = λ output errors. rw c.in-InputLines.is (c.lines_again.ensures output errors)
+returns-in-InputLines g c = rw c.in-InputLines.is c.lines_again.ensures.row
 
 pub returns-in_default : goal.returns-in_default
-returns-in_default g c = λ output errors.
+returns-in_default g c =
     faultless_applies (again (residual_in (extent_of c.args.w.now.heap) c.args.rest)) c.args.w.now c.resume.new.w (g.L.Locals.items c.args.l.now)
-    (g.L.Locals.items c.resume.new.l) (call_streams (g.I.Source.left c.args.input.now) (g.I.Source.faults c.args.input.now) output errors) c.resume.result
+    (g.L.Locals.items c.resume.new.l) (call_streams (g.I.Source.left c.args.input.now) (g.I.Source.faults c.args.input.now)
+    (g.O.Sink.state c.args.out.now) (g.E.Sink.state c.args.err.now)) c.resume.result
     (λ was. c.resume.ensures.row was) c.resume.ensures.live c.resume.ensures.locals c.resume.ensures.kept

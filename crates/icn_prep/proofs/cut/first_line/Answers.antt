@@ -1,14 +1,22 @@
-use Rattle.std.proofs.Common.{arith, ◌∙◌, ap, sym, ◌∷◌, drop, ◌+◌}
-use Rattle.std.proofs.lemmas.Bool.{eqb-true}
-use Rattle.icn_prep.specs.FileLines.{lines_of}
-use Rattle.icn_prep.proofs.FirstLines.{cut_at, cut_none}
+-- The first of the lines that the library gives.
+use Rattle.std.proofs.Common.{sym, ◌∙◌}
+use Rattle.icn_prep.proofs.CutLines.{first_is, none_given}
 use Rattle.icn_prep.proofs.cut.first_line.Goals as goal
 
-pub returns-in-Some-clause-cut : goal.returns-in-Some-clause-cut
-returns-in-Some-clause-cut c =
-    let found = c.in-Some.ensures in
-    cut_at c.args.text.now c.in-Some.at found.0.high (eqb-true _ 10 found.1) (λ k l. found.0.before k (omega arith) l)
-    ∙ ap (λ line. line ∷ lines_of (drop (c.in-Some.at + 1) c.args.text.now)) (sym c.without_return.ensures)
+pub unreachable-requires : goal.unreachable-requires
+unreachable-requires c = none_given c.args.text.now c.requires (sym c.lines-lines.ensures.value ∙ c.in_default.ensures.steps.0)
 
-pub returns-in-None-clause-cut : goal.returns-in-None-clause-cut
-returns-in-None-clause-cut c = cut_none c.args.text.now c.requires (λ k l. c.in-None.ensures k (omega arith) l)
+pub returns-clause-cut : goal.returns-clause-cut
+returns-clause-cut c =
+    (first_is c.args.text.now c.in-Some.line.now c.in-Some-next.whole.now c.next.new.self c.next-2.new.self c.requires
+    (sym c.lines-lines.ensures.value ∙ c.in-Some.ensures.steps) (sym c.lines_with_terminator-whole_lines.ensures.value ∙ c.in-Some-next.ensures.steps)).0
+
+pub returns-clause-some : goal.returns-clause-some
+returns-clause-some c =
+    (first_is c.args.text.now c.in-Some.line.now c.in-Some-next.whole.now c.next.new.self c.next-2.new.self c.requires
+    (sym c.lines-lines.ensures.value ∙ c.in-Some.ensures.steps) (sym c.lines_with_terminator-whole_lines.ensures.value ∙ c.in-Some-next.ensures.steps)).1
+
+pub returns-clause-within : goal.returns-clause-within
+returns-clause-within c =
+    (first_is c.args.text.now c.in-Some.line.now c.in-Some-next.whole.now c.next.new.self c.next-2.new.self c.requires
+    (sym c.lines-lines.ensures.value ∙ c.in-Some.ensures.steps) (sym c.lines_with_terminator-whole_lines.ensures.value ∙ c.in-Some-next.ensures.steps)).2

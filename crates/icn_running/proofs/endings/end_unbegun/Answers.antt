@@ -4,7 +4,7 @@ use Rattle.icn_run.specs.Step.{all_names}
 use Rattle.icn_running.proofs.EndsAtStart.{halts_unbegun}
 use Rattle.icn_running.proofs.endings.end_unbegun.Goals as goal
 
-pub returns : goal.returns
-returns g c = λ heap.
+pub returns-clause-answers : goal.returns-clause-answers
+returns-clause-answers g c = λ heap.
     halts_unbegun (all_names (tables_of c.args.code.now)) (heap_of c.in_ok-heap.heap) heap (extent_of c.in_ok-heap.heap) c.args.halt c.end_halted.result _ _
-    c.requires c.end_halted.ensures
+    c.requires c.end_halted.ensures.answers

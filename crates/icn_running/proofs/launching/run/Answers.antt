@@ -12,6 +12,7 @@ use Rattle.icn_running.proofs.RisenCounts.{unbegun_counts}
 use Rattle.icn_running.proofs.RunAnswers.{run_breaks, run_ends, run_reports, unbegun_answers}
 use Rattle.icn_running.proofs.Starts.{start_lasts, start_ready}
 use Rattle.icn_running.proofs.EndsAtStart.{start_halts}
+use Rattle.icn_running.proofs.SettledEnds.{both_settled}
 use Rattle.icn_running.proofs.launching.run.Goals as goal
 
 pub run_started-requires-clause-ready : goal.run_started-requires-clause-ready
@@ -81,7 +82,7 @@ returns-in-Err-clause-ends g c =
     (g.E.Sink.state c.end_unbegun.new.err) run.1 told
     (subst (λ (code : Code). StartsAs {K = g.row.K.Denot} (tables_of code) (launch left) (Err c.in-Err.halt)) c.code.ensures.code
     (c.in-Err.ensures.step (outside_of left)))
-    (rw c.code-in-Err.ensures.code at (c.end_unbegun.ensures (first_store {K = Frames} tables (launch left)).world.heap)))
+    (rw c.code-in-Err.ensures.code at (c.end_unbegun.ensures.answers (first_store {K = Frames} tables (launch left)).world.heap)))
 
 pub returns-in-Err-clause-breaks : goal.returns-in-Err-clause-breaks
 returns-in-Err-clause-breaks g c =
@@ -98,7 +99,7 @@ returns-in-Err-clause-breaks g c =
     (g.E.Sink.state c.end_unbegun.new.err) run.1 told
     (subst (λ (code : Code). StartsAs {K = g.row.K.Denot} (tables_of code) (launch left) (Err c.in-Err.halt)) c.code.ensures.code
     (c.in-Err.ensures.step (outside_of left)))
-    (rw c.code-in-Err.ensures.code at (c.end_unbegun.ensures (first_store {K = Frames} tables (launch left)).world.heap)))
+    (rw c.code-in-Err.ensures.code at (c.end_unbegun.ensures.answers (first_store {K = Frames} tables (launch left)).world.heap)))
 
 pub returns-in-Err-clause-reported : goal.returns-in-Err-clause-reported
 returns-in-Err-clause-reported g c =
@@ -115,7 +116,7 @@ returns-in-Err-clause-reported g c =
     (g.E.Sink.state c.end_unbegun.new.err) run.1 told
     (subst (λ (code : Code). StartsAs {K = g.row.K.Denot} (tables_of code) (launch left) (Err c.in-Err.halt)) c.code.ensures.code
     (c.in-Err.ensures.step (outside_of left)))
-    (rw c.code-in-Err.ensures.code at (c.end_unbegun.ensures (first_store {K = Frames} tables (launch left)).world.heap)))
+    (rw c.code-in-Err.ensures.code at (c.end_unbegun.ensures.answers (first_store {K = Frames} tables (launch left)).world.heap)))
 
 pub returns-in-Err-clause-first_fault : goal.returns-in-Err-clause-first_fault
 returns-in-Err-clause-first_fault g c =
@@ -123,4 +124,7 @@ returns-in-Err-clause-first_fault g c =
     let launch : Launch = launch_with c.args.words.now c.args.limits (outside_of []) in
     unbegun_counts (all_names tables) (first_store {K = Frames} tables launch).world.heap c.in-Err.halt c.end_unbegun.result
     (call_streams (g.I.Source.left c.args.input.now) (g.I.Source.faults c.args.input.now) (g.O.Sink.state c.args.out.now) (g.E.Sink.state c.args.err.now))
-    (g.E.Sink.state c.end_unbegun.new.err) (rw c.code-in-Err.ensures.code at (c.end_unbegun.ensures (first_store {K = Frames} tables launch).world.heap))
+    (g.E.Sink.state c.end_unbegun.new.err) (rw c.code-in-Err.ensures.code at (c.end_unbegun.ensures.answers (first_store {K = Frames} tables launch).world.heap))
+
+pub returns-in-Err-clause-settled : goal.returns-in-Err-clause-settled
+returns-in-Err-clause-settled g c = λ output errors. both_settled _ _ c.end_unbegun.result output (c.end_unbegun.ensures.settled errors)

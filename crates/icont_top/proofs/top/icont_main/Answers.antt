@@ -317,3 +317,17 @@ returns-in-Ok-Generate-clause-refused g c = c.generate_answer.ensures.leaves.ref
 
 pub returns-in-Ok-Generate-clause-unread : goal.returns-in-Ok-Generate-clause-unread
 returns-in-Ok-Generate-clause-unread g c = c.generate_answer.ensures.leaves.unread
+
+-- What is pending
+
+pub returns-in-Ok-Translate-clause-settled : goal.returns-in-Ok-Translate-clause-settled
+returns-in-Ok-Translate-clause-settled g c = c.translate_answer.ensures.settled (g.O.Sink.pending c.args.out.now)
+
+pub returns-in-Ok-Link-clause-settled : goal.returns-in-Ok-Link-clause-settled
+returns-in-Ok-Link-clause-settled g c = c.link_answer.ensures.settled
+
+pub returns-in-Ok-Generate-clause-settled : goal.returns-in-Ok-Generate-clause-settled
+returns-in-Ok-Generate-clause-settled g c = c.generate_answer.ensures.settled
+
+pub returns-in-Err-clause-settled : goal.returns-in-Err-clause-settled
+returns-in-Err-clause-settled g c o e n = (o, c.refuse.ensures.settled n)

@@ -4,12 +4,13 @@ use Rattle.icn_answer.specs.declared.answer.Answer.TheVariants.{Wrote}
 use Rattle.icn_run_answer.proofs.CountCauses.{none_counts, own_counts, run_no_absence, run_no_file}
 use Rattle.icn_run_answer.proofs.OutsideLeft.{leaves_both}
 use Rattle.icn_answer.proofs.NoFaults.{wrote_no_fault}
+use Rattle.icn_answer.proofs.TornAnswers.{is_torn, torn_no_absence, torn_no_read, torn_no_write}
 use Rattle.icn_run_answer.proofs.Reports.{own_reports}
 use Rattle.icn_answer.proofs.ToldContent.{if_some_elim, if_some_intro}
 use Rattle.icont_words.specs.Asking.{run_seen}
 use Rattle.icont_units.proofs.EqualResults.{err_injective}
-use Rattle.icont_top.proofs.AnswersGiven.{said_name, torn_no_absence, torn_no_read, torn_no_write}
-use Rattle.icont_top.proofs.CallOutcomes.{image_torn, is_torn, ran_done, writes_image, writes_part, wrote_done}
+use Rattle.icont_top.proofs.AnswersGiven.{said_name}
+use Rattle.icont_top.proofs.CallOutcomes.{image_torn, ran_done, writes_image, writes_part, wrote_done}
 use Rattle.icont_top.proofs.InputLeft.{run_lost}
 use Rattle.icont_top.proofs.top.image_answer.Goals as goal
 
@@ -79,3 +80,12 @@ returns-in-Err-clause-leaves g c = leaves_both refl refl (record {
   others = own_counts c.torn_answer.result (torn_no_write c.torn_answer.result c.torn_answer.ensures.others)
       (torn_no_read c.torn_answer.result c.torn_answer.ensures.others) c.torn_answer.ensures.puts;
 })
+
+pub returns-in-Some-clause-settled : goal.returns-in-Some-clause-settled
+returns-in-Some-clause-settled g c = c.ran_answer.ensures.settled
+
+pub returns-in-None-clause-settled : goal.returns-in-None-clause-settled
+returns-in-None-clause-settled g c o e n = (o, e)
+
+pub returns-in-Err-clause-settled : goal.returns-in-Err-clause-settled
+returns-in-Err-clause-settled g c o e n = absurd (n (is_torn c.torn_answer.result c.torn_answer.ensures.others))

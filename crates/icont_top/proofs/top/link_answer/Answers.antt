@@ -64,3 +64,9 @@ returns-in-Err-clause-leaves g c =
 
 pub returns-in-Err-clause-untouched : goal.returns-in-Err-clause-untouched
 returns-in-Err-clause-untouched g c is = c.in-Err.ensures.reads.files
+
+pub returns-in-Ok-clause-settled : goal.returns-in-Ok-clause-settled
+returns-in-Ok-clause-settled g c = c.image_answer.ensures.settled
+
+pub returns-in-Err-clause-settled : goal.returns-in-Err-clause-settled
+returns-in-Err-clause-settled g c o e n = (o, c.refuse.ensures.settled n)

@@ -1,5 +1,5 @@
 use Rattle.std.proofs.Common.{◌∙◌, sym}
-use Rattle.icont_top.proofs.SizesLine.{ran_alone, ran_undone, sizes_reports, sizes_run, some_put}
+use Rattle.icont_top.proofs.SizesLine.{done_no_fault, ran_alone, ran_undone, sizes_end, sizes_reports, sizes_run, some_put}
 use Rattle.icn_answer.proofs.ToldContent.{if_some_elim, if_some_intro}
 use Rattle.icont_top.proofs.top.ran_answer.Goals as goal
 
@@ -12,17 +12,31 @@ pub returns-then-is_done-clause-ran : goal.returns-then-is_done-clause-ran
 returns-then-is_done-clause-ran g c =
     if_some_intro (g.I.Source.left c.args.input.now) _ (λ left d.
     rw c.in-Some.is (sizes_run c.in-Some.number c.run_answer-answer.result c.sizes_answer.result (sym c.is_done.ensures ∙ c.if-is_done.true)
-    (if_some_elim _ (g.I.Source.left c.args.input.now) left d c.run_answer-answer.ensures.ran) c.run_answer-answer.ensures.causes c.sizes_answer.ensures))
+    (if_some_elim _ (g.I.Source.left c.args.input.now) left d c.run_answer-answer.ensures.ran) c.run_answer-answer.ensures.causes c.sizes_answer.ensures.puts))
 
 pub returns-then-is_done-clause-reported : goal.returns-then-is_done-clause-reported
 returns-then-is_done-clause-reported g c =
     sizes_reports c.in-Some.number c.run_answer-answer.result c.sizes_answer.result (sym c.is_done.ensures ∙ c.if-is_done.true)
     c.run_answer-answer.ensures.causes c.run_answer-answer.ensures.reported
     (if_some_intro (g.I.Source.left c.args.input.now) _ (λ left d. some_put c.run_answer-answer.result (sym c.is_done.ensures ∙ c.if-is_done.true)
-    (if_some_elim _ (g.I.Source.left c.args.input.now) left d c.run_answer-answer.ensures.ran))) c.sizes_answer.ensures
+    (if_some_elim _ (g.I.Source.left c.args.input.now) left d c.run_answer-answer.ensures.ran))) c.sizes_answer.ensures.puts
 
 pub returns-else-is_done-clause-ran : goal.returns-else-is_done-clause-ran
 returns-else-is_done-clause-ran g c =
     if_some_intro (g.I.Source.left c.args.input.now) _ (λ left d.
     rw c.in-Some.is (ran_undone c.in-Some.number (sym c.is_done.ensures ∙ c.if-is_done.false)
     (if_some_elim _ (g.I.Source.left c.args.input.now) left d c.run_answer-answer.ensures.ran)))
+
+pub returns-in-None-clause-settled : goal.returns-in-None-clause-settled
+returns-in-None-clause-settled g c = c.run_answer-answer.ensures.settled
+
+pub returns-then-is_done-clause-settled : goal.returns-then-is_done-clause-settled
+returns-then-is_done-clause-settled g c o e n = c.sizes_answer.ensures.settled
+    (c.run_answer-answer.ensures.settled o e (done_no_fault c.run_answer-answer.result (sym c.is_done.ensures ∙ c.if-is_done.true))).1 n
+
+pub returns-else-is_done-clause-settled : goal.returns-else-is_done-clause-settled
+returns-else-is_done-clause-settled g c = c.run_answer-answer.ensures.settled
+
+pub returns-then-is_done-clause-causes : goal.returns-then-is_done-clause-causes
+returns-then-is_done-clause-causes g c = sizes_end c.in-Some.number c.run_answer-answer.result c.sizes_answer.result
+    (sym c.is_done.ensures ∙ c.if-is_done.true) c.run_answer-answer.ensures.causes c.sizes_answer.ensures.puts

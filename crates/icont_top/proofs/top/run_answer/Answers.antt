@@ -1,9 +1,9 @@
-use Rattle.std.proofs.Common.{ap, refl}
+use Rattle.std.proofs.Common.{None, ap}
 use Rattle.icn_value.specs.Limited.{Bounds, limits_of}
 use Rattle.icn_defs.specs.Running.{launch_of}
 use Rattle.icn_code.specs.CodeTables.{tables_of}
 use Rattle.icn_run_answer.proofs.CountCauses.{broken_counts, ran_counts}
-use Rattle.icn_run_answer.proofs.Reports.{fault_reports, ran_reports}
+use Rattle.icn_run_answer.proofs.Reports.{fault_reports, is_run_fault, ran_reports}
 use Rattle.icont_words.specs.Asking.{run_seen}
 use Rattle.icont_top.proofs.RunsUnder.{off_puts, run_broken, run_ended}
 use Rattle.icn_answer.proofs.ToldContent.{if_some_intro}
@@ -18,24 +18,30 @@ returns-in-Ok-clause-ran g c =
 pub returns-in-Err-clause-ran : goal.returns-in-Err-clause-ran
 returns-in-Err-clause-ran g c =
     if_some_intro (g.I.Source.left c.args.input.now) _ (λ left d.
-    rw c.answer_of-answer.ensures (run_broken (tables_of c.args.code.now.code) (run_seen c.args.asked) left _ c.in-Err.fault _ _ _
+    rw c.broken_answer.ensures.answer (run_broken (tables_of c.args.code.now.code) (run_seen c.args.asked) left _ c.in-Err.fault
     (ap (λ (bounds : Bounds). record bounds { turns = c.args.asked.turns }) c.standard-standard.ensures) c.in-Err.ensures.first_fault
-    (c.in-Err.ensures.breaks left d) (rw c.answer_of-answer.ensures at c.own_line.ensures.puts) refl))
+    (c.in-Err.ensures.breaks left d) (c.broken_answer.ensures.behind _ _)))
 
 pub returns-in-Ok-clause-reported : goal.returns-in-Ok-clause-reported
 returns-in-Ok-clause-reported g c = ran_reports c.in-Ok.ending (if_some_intro (g.I.Source.left c.args.input.now) _ (λ left d. c.in-Ok.ensures.reported left d))
 
 pub returns-in-Err-clause-reported : goal.returns-in-Err-clause-reported
 returns-in-Err-clause-reported g c =
-    rw c.answer_of-answer.ensures (fault_reports _ _ _ c.in-Err.fault c.in-Err.ensures.first_fault
+    rw c.broken_answer.ensures.answer (fault_reports _ _ _ c.in-Err.fault c.in-Err.ensures.first_fault
     (if_some_intro (g.I.Source.left c.args.input.now) _ (λ left d. off_puts (tables_of c.args.code.now.code)
     (launch_of (run_seen c.args.asked).arguments (record (limits_of c.standard-standard.result) { turns = c.args.asked.turns }) left)
     c.in-Err.fault _ _ (c.in-Err.ensures.breaks left d)))
-    (rw c.answer_of-answer.ensures at c.own_line.ensures.puts))
+    (c.broken_answer.ensures.behind None 0).own_line)
 
 pub returns-in-Ok-clause-causes : goal.returns-in-Ok-clause-causes
 returns-in-Ok-clause-causes g c = ran_counts c.in-Ok.ending c.in-Ok.ensures.first_fault
 
 pub returns-in-Err-clause-causes : goal.returns-in-Err-clause-causes
 returns-in-Err-clause-causes g c =
-    rw c.answer_of-answer.ensures (broken_counts _ _ c.in-Err.fault c.in-Err.ensures.first_fault (rw c.answer_of-answer.ensures at c.own_line.ensures.puts))
+    rw c.broken_answer.ensures.answer (broken_counts c.in-Err.fault c.in-Err.ensures.first_fault (c.broken_answer.ensures.behind _ _))
+
+pub returns-in-Ok-clause-settled : goal.returns-in-Ok-clause-settled
+returns-in-Ok-clause-settled g c o e n = c.in-Ok.ensures.settled o e
+
+pub returns-in-Err-clause-settled : goal.returns-in-Err-clause-settled
+returns-in-Err-clause-settled g c o e n = absurd (n (rw c.broken_answer.ensures.answer (is_run_fault c.in-Err.fault)))

@@ -2,11 +2,11 @@ use Rattle.std.proofs.Common.{ap, arith, Err}
 use Rattle.icn_answer.specs.declared.answer.Answer.TheVariants.{Wrote}
 use Rattle.icn_run_answer.proofs.CountCauses.{none_counts, own_counts}
 use Rattle.icn_answer.proofs.NoFaults.{wrote_no_fault}
+use Rattle.icn_answer.proofs.TornAnswers.{is_torn, torn_no_absence, torn_no_read, torn_no_write}
 use Rattle.icn_run_answer.proofs.Reports.{own_reports}
 use Rattle.icont_units.proofs.EqualResults.{err_injective}
 use Rattle.icont_top.specs.Writing.{texts_seen}
-use Rattle.icont_top.proofs.AnswersGiven.{torn_no_absence, torn_no_read, torn_no_write}
-use Rattle.icont_top.proofs.CallOutcomes.{is_torn, units_done, units_torn}
+use Rattle.icont_top.proofs.CallOutcomes.{units_done, units_torn}
 use Rattle.icont_top.proofs.top.texts_answer.Goals as goal
 
 pub returns-in-Ok-clause-done : goal.returns-in-Ok-clause-done
@@ -43,3 +43,9 @@ returns-in-Err-clause-causes g c left input out = record {
   others = own_counts c.torn_answer.result (torn_no_write c.torn_answer.result c.torn_answer.ensures.others)
       (torn_no_read c.torn_answer.result c.torn_answer.ensures.others) c.torn_answer.ensures.puts;
 }
+
+pub returns-in-Ok-clause-settled : goal.returns-in-Ok-clause-settled
+returns-in-Ok-clause-settled g c out o e n = (o, e)
+
+pub returns-in-Err-clause-settled : goal.returns-in-Err-clause-settled
+returns-in-Err-clause-settled g c out o e n = absurd (n (is_torn c.torn_answer.result c.torn_answer.ensures.others))

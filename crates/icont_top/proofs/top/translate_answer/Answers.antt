@@ -49,3 +49,9 @@ returns-in-Err-clause-causes g c left input out =
 
 pub returns-in-Err-clause-untouched : goal.returns-in-Err-clause-untouched
 returns-in-Err-clause-untouched g c is = c.in-Err.ensures.reads.files
+
+pub returns-in-Ok-clause-settled : goal.returns-in-Ok-clause-settled
+returns-in-Ok-clause-settled g c out = c.texts_answer.ensures.settled out
+
+pub returns-in-Err-clause-settled : goal.returns-in-Err-clause-settled
+returns-in-Err-clause-settled g c out o e n = (o, c.refuse.ensures.settled n)

@@ -9,4 +9,4 @@ pub returns-clause-faultless : goal.returns-clause-faultless
 returns-clause-faultless c = no_fault_asked
 
 pub returns-clause-some : goal.returns-clause-some
-returns-clause-some c = a_job c.one_spelling.ensures.spelled c.one_fault.ensures.judged c.runs_end.ensures.verified
+returns-clause-some c = a_job c.one_spelling.ensures.kept c.one_fault.ensures.judged c.runs_end.ensures.verified

@@ -1,4 +1,4 @@
-use Rattle.std.proofs.Common.{map, refl}
+use Rattle.std.proofs.Common.{ap, map, refl}
 use Rattle.std.specs.Prelude.{string_bytes}
 use Rattle.icn_value.specs.Limited.{limits_of}
 use Rattle.iconx_top.proofs.AskedAnswers.{answer_put, load_answered, run_answered}
@@ -10,13 +10,14 @@ use Rattle.icn_run_answer.proofs.OutsideLeft.{leaves_both}
 use Rattle.icn_run_answer.proofs.Reports.{reports_of}
 use Rattle.icn_answer.proofs.ToldContent.{if_some_elim, if_some_intro}
 use Rattle.iconx_top.proofs.ReportLines.{load_unrun}
+use Rattle.iconx_top.specs.Words.{image_named}
 use Rattle.iconx_top.proofs.top.image_answer.Goals as goal
 
 pub returns-in-Err-clause-outcome : goal.returns-in-Err-clause-outcome
 returns-in-Err-clause-outcome g c words asks =
     if_some_intro (g.F.Files.held c.args.files.now) _ (λ held e. if_some_intro (g.I.Source.left c.args.input.now) _ (λ left d.
     refused c.args.run.image.now c.in-Err.answer c.refuse.result _ _ _ _ _ _ _
-    (asked_load (limits_of c.args.run.limits) c.args.run.image.now (map string_bytes c.args.run.arguments.now) c.in-Err.answer asks
+    (asked_load c.args.run.image.now c.in-Err.answer (ap image_named asks)
     (if_some_elim _ (g.F.Files.held c.args.files.now) held e c.in-Err.ensures.loaded))
     (load_no_write c.in-Err.answer c.in-Err.ensures.others) (load_no_read c.in-Err.answer c.in-Err.ensures.others)
     c.in-Err.ensures.reads.files e d c.refuse.ensures.line))
@@ -38,7 +39,7 @@ returns-in-Ok-clause-reported g c = c.run_answer.ensures.reported c.args.run.ima
 pub returns-in-Err-clause-answered : goal.returns-in-Err-clause-answered
 returns-in-Err-clause-answered g c words asks =
     if_some_intro (g.F.Files.held c.args.files.now) _ (λ held e. answer_put c.in-Err.answer c.refuse.result
-    (load_answered (limits_of c.args.run.limits) c.args.run.image.now (map string_bytes c.args.run.arguments.now) c.in-Err.answer asks
+    (load_answered c.args.run.image.now c.in-Err.answer (ap image_named asks)
     (if_some_elim _ (g.F.Files.held c.args.files.now) held e c.in-Err.ensures.loaded)) c.refuse.ensures.line)
 
 pub returns-in-Ok-clause-answered : goal.returns-in-Ok-clause-answered
@@ -77,3 +78,9 @@ returns-in-Ok-clause-files g c = c.in-Ok.ensures.reads.files
 
 pub returns-in-Err-clause-files : goal.returns-in-Err-clause-files
 returns-in-Err-clause-files g c = c.in-Err.ensures.reads.files
+
+pub returns-in-Ok-clause-settled : goal.returns-in-Ok-clause-settled
+returns-in-Ok-clause-settled g c = c.run_answer.ensures.settled
+
+pub returns-in-Err-clause-settled : goal.returns-in-Err-clause-settled
+returns-in-Err-clause-settled g c o e n = (o, c.refuse.ensures.settled n)

@@ -1,10 +1,10 @@
-use Rattle.std.proofs.Common.{refl}
+use Rattle.std.proofs.Common.{None, refl}
 use Rattle.icn_value.specs.Store.{outside_of}
 use Rattle.icn_code.specs.CodeTables.{tables_of}
 use Rattle.icn_machine.specs.Starting.{launch_with}
 use Rattle.icn_run_answer.proofs.CountCauses.{broken_counts, ran_counts}
 use Rattle.icn_run_answer.proofs.InputLeft.{broken_lost, ended_lost}
-use Rattle.icn_run_answer.proofs.Reports.{fault_reports, ran_reports}
+use Rattle.icn_run_answer.proofs.Reports.{fault_reports, is_run_fault, ran_reports}
 use Rattle.icn_answer.proofs.ToldContent.{if_some_intro}
 use Rattle.iconx_top.proofs.CallOutcomes.{broke_outcome, off_puts, ran_outcome, run_asked}
 use Rattle.iconx_top.proofs.top.run_answer.Goals as goal
@@ -20,9 +20,9 @@ pub returns-in-Err-clause-outcome : goal.returns-in-Err-clause-outcome
 returns-in-Err-clause-outcome g c words held told asks loaded e =
     if_some_intro (g.I.Source.left c.args.input.now) _ (λ left d.
     let launch = launch_with c.args.asked.arguments.now c.args.asked.limits (outside_of left) in
-    rw c.answer_of-answer.ensures (broke_outcome _ _ (tables_of c.args.code.now.code) launch c.in-Err.fault told
+    rw c.broken_answer.ensures.answer (broke_outcome (tables_of c.args.code.now.code) launch c.in-Err.fault told
     (run_asked left launch c.args.asked.image.now c.args.code.now asks refl loaded)
-    c.in-Err.ensures.first_fault (c.in-Err.ensures.breaks left d) (rw c.answer_of-answer.ensures at c.own_line.ensures.puts)))
+    c.in-Err.ensures.first_fault (c.in-Err.ensures.breaks left d) (c.broken_answer.ensures.behind _ _)))
 
 pub returns-in-Ok-clause-reported : goal.returns-in-Ok-clause-reported
 returns-in-Ok-clause-reported g c name =
@@ -30,18 +30,18 @@ returns-in-Ok-clause-reported g c name =
 
 pub returns-in-Err-clause-reported : goal.returns-in-Err-clause-reported
 returns-in-Err-clause-reported g c name =
-    rw c.answer_of-answer.ensures (fault_reports _ _ _ c.in-Err.fault c.in-Err.ensures.first_fault
+    rw c.broken_answer.ensures.answer (fault_reports _ _ _ c.in-Err.fault c.in-Err.ensures.first_fault
     (if_some_intro (g.I.Source.left c.args.input.now) _ (λ left d.
     off_puts (tables_of c.args.code.now.code) (launch_with c.args.asked.arguments.now c.args.asked.limits (outside_of left)) c.in-Err.fault _ _
     (c.in-Err.ensures.breaks left d)))
-    (rw c.answer_of-answer.ensures at c.own_line.ensures.puts))
+    (c.broken_answer.ensures.behind None 0).own_line)
 
 pub returns-in-Ok-clause-causes : goal.returns-in-Ok-clause-causes
 returns-in-Ok-clause-causes g c = ran_counts c.in-Ok.ending c.in-Ok.ensures.first_fault
 
 pub returns-in-Err-clause-causes : goal.returns-in-Err-clause-causes
 returns-in-Err-clause-causes g c =
-    rw c.answer_of-answer.ensures (broken_counts _ _ c.in-Err.fault c.in-Err.ensures.first_fault (rw c.answer_of-answer.ensures at c.own_line.ensures.puts))
+    rw c.broken_answer.ensures.answer (broken_counts c.in-Err.fault c.in-Err.ensures.first_fault (c.broken_answer.ensures.behind _ _))
 
 pub returns-in-Ok-clause-input : goal.returns-in-Ok-clause-input
 returns-in-Ok-clause-input g c =
@@ -58,3 +58,9 @@ returns-in-Err-clause-input g c =
     broken_lost c.runs_leave.ensures.on_stacks c.broken_off.ensures.reading (tables_of c.args.code.now.code)
     (launch_with c.args.asked.arguments.now c.args.asked.limits (outside_of left)) c.in-Err.fault left off.0 _ _ (c.broken_off.ensures.begun left) off.1.0
     off.1.1)
+
+pub returns-in-Ok-clause-settled : goal.returns-in-Ok-clause-settled
+returns-in-Ok-clause-settled g c o e n = c.in-Ok.ensures.settled o e
+
+pub returns-in-Err-clause-settled : goal.returns-in-Err-clause-settled
+returns-in-Err-clause-settled g c o e n = absurd (n (rw c.broken_answer.ensures.answer (is_run_fault c.in-Err.fault)))

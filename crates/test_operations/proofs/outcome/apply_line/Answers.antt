@@ -1,9 +1,7 @@
-use Rattle.std.proofs.Common.{None}
-use Rattle.icn_host.specs.Sinks.{sink_state}
 use Rattle.test_operations.proofs.outcome.apply_line.Goals as goal
 
 pub show_all-requires-clause-answer : goal.show_all-requires-clause-answer
-show_all-requires-clause-answer c = (c.first-answer.ensures (sink_state None 0 0) (sink_state None 0 0)).live
+show_all-requires-clause-answer c = c.first-answer.ensures.live
 
 pub show_all-requires-clause-locals : goal.show_all-requires-clause-locals
-show_all-requires-clause-locals c = (c.first-answer.ensures (sink_state None 0 0) (sink_state None 0 0)).locals
+show_all-requires-clause-locals c = c.first-answer.ensures.locals

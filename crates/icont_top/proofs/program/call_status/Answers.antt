@@ -1,0 +1,26 @@
+use Rattle.std.proofs.Common.{◌∙◌}
+use Rattle.icont_top.proofs.program.call_status.Goals as goal
+
+pub returns : goal.returns
+returns g c = record {
+  answer = c.icont_main-answer.result;
+  is = record {
+    outcome = c.icont_main-answer.ensures.outcome;
+    faultless = c.icont_main-answer.ensures.faultless;
+    headline = c.icont_main-answer.ensures.headline;
+    written = c.icont_main-answer.ensures.written;
+    line = c.icont_main-answer.ensures.line;
+    fault_line = c.icont_main-answer.ensures.fault_line;
+    answered = c.icont_main-answer.ensures.answered;
+    complete = c.icont_main-answer.ensures.complete;
+    command = c.icont_main-answer.ensures.command;
+    links = c.icont_main-answer.ensures.links;
+    input = c.icont_main-answer.ensures.input;
+    untouched = c.icont_main-answer.ensures.untouched;
+    refused = c.icont_main-answer.ensures.refused;
+    unread = c.icont_main-answer.ensures.unread;
+    causes = c.icont_main-answer.ensures.causes;
+    settled = c.icont_main-answer.ensures.settled;
+  };
+  status = c.from.ensures ∙ c.code.ensures;
+}
