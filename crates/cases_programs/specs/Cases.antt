@@ -5,6 +5,7 @@ use Rattle.std.specs.Prelude.{◌≡◌, ℕ, zero, suc, pred, List, [], ◌∷�
 use Rattle.std.specs.Option.{option_map}
 use Rattle.icn_tree.specs.Trees.{Declaration}
 use Rattle.icn_value.specs.Limited.{Bounds, default_limits}
+use Rattle.icn_value.specs.Store.{errors_in, output_in}
 use Rattle.icn_code.specs.Codes.{Tables}
 use Rattle.icn_defs.specs.Running.{Ending, Done, Errored, AtBound, Observation, launch_of}
 use Rattle.icn_meaning.specs.Program.{Program, program}
@@ -75,8 +76,8 @@ abbrev pub under : Bounds → List Declaration → ℕ → Expectation → Progr
 under bounds file steps wanted = run_of (file ∷ []) [] bounds [] steps wanted
 
 -- one file with this input
-abbrev pub reading : String → List Declaration → ℕ → Expectation → ProgramCase
-reading input file steps wanted = run_of (file ∷ []) [] default_limits (codes input) steps wanted
+abbrev pub with_input : String → List Declaration → ℕ → Expectation → ProgramCase
+with_input input file steps wanted = run_of (file ∷ []) [] default_limits (codes input) steps wanted
 
 -- the default limits, but for the turns
 abbrev pub most_turns : ℕ → Bounds
@@ -100,8 +101,8 @@ most_levels levels = record default_limits { levels = levels }
 abbrev pub seen_of : M.Evaluation → Option Expectation
 seen_of (M.over ending st) = Some (record {
   ending = ending;
-  output = st.outside.output;
-  errors = st.outside.errors;
+  output = output_in st.outside.history;
+  errors = errors_in st.outside.history;
   turns = st.turns;
   strings = st.world.heap.strings;
   cells = st.world.heap.cells;
@@ -130,7 +131,11 @@ pub record UnderLimits : Type 0 where
 
 -- the ending of a run, with both outputs
 abbrev pub end_of : Observation → End
-end_of seen = record { ending = seen.ending; output = seen.outside.output; errors = seen.outside.errors }
+end_of seen = record {
+  ending = seen.ending;
+  output = output_in seen.outside.history;
+  errors = errors_in seen.outside.history;
+}
 
 -- the ending of a run alone
 abbrev pub ending_of : Observation → Ending

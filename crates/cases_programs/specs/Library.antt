@@ -3,19 +3,19 @@ use Rattle.std.specs.Prelude.{List, [], ◌∷◌}
 use Rattle.icn_tree.specs.declared.token.Operator.TheVariants as Signs
 use Rattle.icn_tree.specs.declared.tree.SectionKind.TheVariants.{Between}
 use Rattle.cases_programs.specs.Words.{int, text, letters, name, key, before, between, assign, update, call, write, element, section, field, list, while, while_do, every, kind, main}
-use Rattle.cases_programs.specs.Cases.{ProgramCase, case, reading, ends_done}
+use Rattle.cases_programs.specs.Cases.{ProgramCase, case, with_input, ends_done}
 
 -- programs that read, make structures and call functions
 abbrev pub library : List ProgramCase
 library =
     -- procedure main(); while write(read()); end
-    reading "a\n\nb"
+    with_input "a\n\nb"
     (main (while (write (call (name "read") [] ∷ [])) ∷ []) ∷ [])
     150
     (ends_done "a\n\nb\n" 10 2 1) ∷
     -- procedure main(); t := table(0); while line := read() do line ? (while tab(upto(&letters)) do
     --   t[tab(many(&letters))] +:= 1); every write(k := key(t), " ", t[k]); end
-    reading "to be or not to be\n"
+    with_input "to be or not to be\n"
     (main
     (assign (name "t") (call (name "table") (int 0 ∷ [])) ∷
     while_do (assign (name "line") (call (name "read") []))

@@ -1,9 +1,9 @@
--- What runs leave of the input, and the readings that they make, the last one first.
-use Rattle.std.specs.Prelude.{◌≡◌, ℕ, List, [], ◌∷◌, codes, Option, Some}
+-- What runs leave of the input, and what they do outside, in its order.
+use Rattle.std.specs.Prelude.{◌≡◌, ℕ, List, [], ◌∷◌, ◌++◌, codes, map, Option, Some}
 use Rattle.std.specs.Option.{option_map}
 use Rattle.icn_tree.specs.Trees.{Empty, Declaration}
 use Rattle.icn_value.specs.Limited.{default_limits}
-use Rattle.icn_value.specs.Store.{ALine, SomeBytes, Reading, Outside}
+use Rattle.icn_value.specs.Store.{ALine, SomeBytes, Event, AReading, OutputByte, ErrorByte, Outside}
 use Rattle.icn_code.specs.Codes.{Tables}
 use Rattle.icn_defs.specs.Running.{Launch, Observation, launch_of}
 use Rattle.icn_meaning.specs.Program.{Program, program}
@@ -55,17 +55,22 @@ Reads r =
     left_by (launch_of [] default_limits r.input) (program files) (tables_of files)
     ≡ record { meant = Some r.outside; on_stacks = Some r.outside; on_marks = Some r.outside }
 
--- the reading of a line, with what was left, and how much stood on both outputs
-abbrev pub line_of : List ℕ → ℕ → ℕ → Reading
-line_of left output errors =
-    record { asked = ALine; left = left; output = output; errors = errors }
+-- the reading of a line
+abbrev pub a_line : List Event
+a_line = AReading ALine ∷ []
 
--- the reading of so many bytes, with what was left, and how much stood on both outputs
-abbrev pub bytes_of : ℕ → List ℕ → ℕ → ℕ → Reading
-bytes_of count left output errors =
-    record { asked = SomeBytes count; left = left; output = output; errors = errors }
+-- the reading of so many bytes
+abbrev pub some_bytes : ℕ → List Event
+some_bytes count = AReading (SomeBytes count) ∷ []
 
--- programs that read, with the input that they leave and the readings that they made
+-- a text is put on the output, and on the error output
+abbrev pub on_output : List ℕ → List Event
+on_output text = map OutputByte text
+
+abbrev pub on_errors : List ℕ → List Event
+on_errors text = map ErrorByte text
+
+-- programs that read, with the input that they leave and all that they do outside
 abbrev pub readings : List ReadCase
 readings =
     -- procedure main(); while write(read()); end
@@ -74,11 +79,9 @@ readings =
       input = codes "a\n\nb";
       outside = record {
         left = [];
-        output = codes "a\n\nb\n";
-        errors = [];
-        readings =
-            line_of [] 5 0 ∷ line_of (codes "b") 3 0 ∷ line_of (codes "\nb") 2 0
-            ∷ line_of (codes "a\n\nb") 0 0 ∷ [];
+        history =
+            a_line ++ on_output (codes "a\n") ++ a_line ++ on_output (codes "\n") ++ a_line
+            ++ on_output (codes "b\n") ++ a_line;
       };
     } ∷
     -- procedure main(); write(reads(&input, 3)); writes(&errout, "x"); write(read()); end
@@ -93,9 +96,9 @@ readings =
       input = codes "abcde\nf";
       outside = record {
         left = codes "f";
-        output = codes "abc\nde\n";
-        errors = codes "x";
-        readings = line_of (codes "de\nf") 4 1 ∷ bytes_of 3 (codes "abcde\nf") 0 0 ∷ [];
+        history =
+            some_bytes 3 ++ on_output (codes "abc\n") ++ on_errors (codes "x") ++ a_line
+            ++ on_output (codes "de\n");
       };
     } ∷
     []

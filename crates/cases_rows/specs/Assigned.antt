@@ -4,7 +4,7 @@ use Rattle.icn_text.specs.declared.op.Op.TheVariants as O
 use Rattle.icn_text.specs.declared.func.Func.TheVariants as F
 use Rattle.icn_value.specs.Values.{Value, Null, Integer, Text, AList, Global, Static, Element, Field, Key, Keyword, Subject, Position, Random, ErrorCount, Whole, Part, Root, Item, Val, Var}
 use Rattle.icn_value.specs.Store.{Setting, having_heap, having_random, having_error, having_kept, having_position, having_subject, having_globals, having_statics, with_list, with_table, with_record}
-use Rattle.cases_rows.specs.Cases.{RowCase, case, case_from, case_between, plain, op, fn, int, below, str, list, local, local_part, holding, gives, fails, stops, stops_alone, Gave, Suspended, Failed, Stopped, costs}
+use Rattle.cases_rows.specs.Cases.{RowCase, case, case_from, case_between, plain, op, fn, int, below, str, list, local, local_part, locals_holding, gives, fails, stops, stops_alone, Gave, Suspended, Failed, Stopped, costs}
 
 -- an integer from 0 on, as a value
 abbrev num : ℕ → Value
@@ -32,7 +32,7 @@ keeping = having_kept (Some (record { number = 101; value = Some (Text (codes "x
 
 -- local 0 holds this text, and the others what they held
 abbrev text_local : List ℕ → Setting → Setting
-text_local bytes setting = holding (Text bytes ∷ num 7 ∷ Null ∷ []) setting
+text_local bytes setting = locals_holding (Text bytes ∷ num 7 ∷ Null ∷ []) setting
 
 -- table 0 has these pairs
 abbrev first_table : List (Value × Value) → Setting → Setting
@@ -48,7 +48,7 @@ abbrev pub variables : List RowCase
 variables =
     -- x := y
     case (op O.Assign (local 1 ∷ int 5 ∷ []))
-    (Gave (local 1) (holding (Text (codes "hello") ∷ num 5 ∷ Null ∷ []) plain) ∷ []) ∷
+    (Gave (local 1) (locals_holding (Text (codes "hello") ∷ num 5 ∷ Null ∷ []) plain) ∷ []) ∷
     case (op O.Assign (whole (Global 0) ∷ local 1 ∷ []))
     (Gave (whole (Global 0)) (having_globals (num 7 ∷ []) plain) ∷ []) ∷
     case (op O.Assign (whole (Static 0) ∷ list 1 ∷ []))
@@ -103,12 +103,12 @@ variables =
     case (op O.Dereference (local_part 0 6 0 ∷ [])) (gives (str [])) ∷
     -- x :=: y
     case (op O.Swap (local 0 ∷ local 1 ∷ []))
-    (Gave (local 0) (holding (num 7 ∷ Text (codes "hello") ∷ Null ∷ []) plain) ∷ []) ∷
+    (Gave (local 0) (locals_holding (num 7 ∷ Text (codes "hello") ∷ Null ∷ []) plain) ∷ []) ∷
     case (op O.Swap (local 0 ∷ int 1 ∷ [])) (stops 111 (int 1)) ∷
     case (op O.Swap (int 1 ∷ whole (Element 1 (pos 4)) ∷ [])) (stops_alone 205) ∷
     -- where the right side refuses, the left was assigned
     case (op O.Swap (local 1 ∷ position ∷ []))
-    (Failed (holding (Text (codes "hello") ∷ num 2 ∷ Null ∷ []) plain) ∷ []) ∷
+    (Failed (locals_holding (Text (codes "hello") ∷ num 2 ∷ Null ∷ []) plain) ∷ []) ∷
     -- parts of one variable: the first moves the second by its change of length
     case (op O.Swap (local_part 0 1 1 ∷ local_part 0 3 2 ∷ []))
     (Gave (local_part 0 1 2) (costs 11 0 (text_local (codes "lleho") plain)) ∷ []) ∷
@@ -124,7 +124,7 @@ variables =
     (Stopped 205 None (costs 1 0 (text_local (codes "e") plain)) ∷ []) ∷
     -- x <- y and x <-> y, and what they take back
     case (op O.ReversibleAssign (local 1 ∷ int 2 ∷ []))
-    (Suspended (local 1) (holding (Text (codes "hello") ∷ num 2 ∷ Null ∷ []) plain) ∷ fails) ∷
+    (Suspended (local 1) (locals_holding (Text (codes "hello") ∷ num 2 ∷ Null ∷ []) plain) ∷ fails) ∷
     case (op O.ReversibleAssign (local_part 0 1 1 ∷ str (codes "abc") ∷ []))
     (Suspended (local_part 0 1 3) (costs 7 0 (text_local (codes "abcello") plain)) ∷ Failed
     (costs 12 0 plain) ∷ []) ∷
@@ -145,7 +145,7 @@ variables =
       number = pos 2;
     })) plain) ∷ []) ∷
     case (op O.ReversibleSwap (local 0 ∷ local 1 ∷ []))
-    (Suspended (local 0) (holding (num 7 ∷ Text (codes "hello") ∷ Null ∷ []) plain) ∷ fails) ∷
+    (Suspended (local 0) (locals_holding (num 7 ∷ Text (codes "hello") ∷ Null ∷ []) plain) ∷ fails) ∷
     case (op O.ReversibleSwap (local_part 0 1 1 ∷ local_part 0 3 2 ∷ []))
     (Suspended (local_part 0 1 2) (costs 11 0 (text_local (codes "lleho") plain)) ∷ Failed
     (costs 20 0 plain) ∷ []) ∷ []

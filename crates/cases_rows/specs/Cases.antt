@@ -95,7 +95,7 @@ plain = record {
     kept = None;
   };
   locals = Text (codes "hello") ∷ Integer (pos 7) ∷ Null ∷ [];
-  outside = record { left = codes "one\n\nlast"; output = []; errors = []; readings = [] };
+  outside = record { left = codes "one\n\nlast"; history = [] };
 }
 
 -- so many string bytes and cells more
@@ -107,8 +107,8 @@ costs bytes cells setting =
     }
 
 -- the locals hold these values
-abbrev pub holding : List Value → Setting → Setting
-holding values setting = record setting { locals = values }
+abbrev pub locals_holding : List Value → Setting → Setting
+locals_holding values setting = record setting { locals = values }
 
 -- What is seen
 

@@ -4,9 +4,9 @@ use Rattle.std.specs.Prelude.{◌+◌, ℕ, pos, List, [], ◌∷◌, ◌++◌, 
 use Rattle.icn_text.specs.declared.op.Op.TheVariants as O
 use Rattle.icn_text.specs.declared.func.Func.TheVariants as F
 use Rattle.icn_value.specs.Values.{Null, Integer, Text, ASet, ATable, Key, Whole, Val, Var}
-use Rattle.icn_value.specs.Store.{Setting, ALine, having_heap}
+use Rattle.icn_value.specs.Store.{Setting, ALine, AReading, having_heap}
 use Rattle.icn_defs.specs.Rows.{Row}
-use Rattle.cases_rows.specs.Cases.{RowCase, case_from, plain, op, fn, int, str, null, list, local_part, holding, Gave, Stopped, costs}
+use Rattle.cases_rows.specs.Cases.{RowCase, case_from, plain, op, fn, int, str, null, list, local_part, locals_holding, Gave, Stopped, costs}
 
 -- so many string bytes and cells may still be charged
 abbrev with_room : ℕ → ℕ → Setting
@@ -44,15 +44,13 @@ limits =
     (Stopped 306 None (costs 2 0 (with_room 5 9)) ∷ []) ∷
     -- the left side of an exchange was assigned when the right side met the limit
     case_from (with_room 6 9) (op O.Swap (local_part 0 1 1 ∷ local_part 0 3 2 ∷ []))
-    (Stopped 306 None (costs 6 0 (holding (Text (codes "llello") ∷ Integer (pos 7) ∷ Null
+    (Stopped 306 None (costs 6 0 (locals_holding (Text (codes "llello") ∷ Integer (pos 7) ∷ Null
     ∷ []) (with_room 6 9))) ∷ []) ∷
     -- what was read is taken
     case_from (with_room 2 9) (fn F.Read []) (Stopped 306 None (record (with_room 2 9) {
       outside = record {
         left = codes "\nlast";
-        output = [];
-        errors = [];
-        readings = record { asked = ALine; left = codes "one\n\nlast"; output = 0; errors = 0 } ∷ [];
+        history = AReading ALine ∷ [];
       };
     }) ∷ []) ∷
     -- cells

@@ -71,8 +71,8 @@ reports =
     alone 307 (codes "Run-time error 307\ninadequate space in block region\n") ∷ []
 
 -- what keywords tell of a run: level 4, co-expression 2, entered from 1, and an error that is kept
-abbrev pub standing : Standing
-standing = record {
+abbrev pub case_standing : Standing
+case_standing = record {
   level = 4;
   current = 2;
   source = 1;
@@ -87,7 +87,7 @@ pub record KeywordCase : Type 0 where
 
 -- the keyword gives this item
 pub record IsGiven (word : KeywordCase) : Type 0 where
-  pub is : keyword_item standing word.keyword ≡ word.item
+  pub is : keyword_item case_standing word.keyword ≡ word.item
 
 -- a keyword that gives a value
 abbrev value : AnyKeyword → Value → KeywordCase

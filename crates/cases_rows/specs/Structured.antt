@@ -6,7 +6,7 @@ use Rattle.icn_text.specs.declared.func.Func.TheVariants as F
 use Rattle.icn_value.specs.Values.{Value, Null, Integer, Text, Chars, AList, ASet, ATable, ARecord, ACoexp, Procedure, Std, Input, Errout, Element, Field, Key, Whole, Item, Val, Var}
 use Rattle.icn_value.specs.Store.{Setting, having_heap, having_random, with_list, with_set, with_table}
 use Rattle.icn_defs.specs.Rows.{Row}
-use Rattle.cases_rows.specs.Cases.{RowCase, case, case_from, case_between, plain, op, fn, int, below, greatest, str, null, list, local, local_part, holding, gives, gives_all, fails, stops, stops_alone, Gave, Suspended, Failed, Stopped, costs}
+use Rattle.cases_rows.specs.Cases.{RowCase, case, case_from, case_between, plain, op, fn, int, below, greatest, str, null, list, local, local_part, locals_holding, gives, gives_all, fails, stops, stops_alone, Gave, Suspended, Failed, Stopped, costs}
 
 -- Words for what is changed
 
@@ -108,10 +108,10 @@ structures =
     (Suspended (element 0 1) plain ∷ Suspended (element 0 3) (first_list (txt (codes "a") ∷ num 1
     ∷ Null ∷ []) (pos 2) plain) ∷ []) ∷
     case_between (op O.Assign (local 0 ∷ str (codes "x") ∷ []) ∷ []) (op O.Elements (local 0 ∷ []))
-    (Suspended (local_part 0 1 1) plain ∷ Failed (holding (txt (codes "x") ∷ num 7 ∷ Null ∷ []) plain)
+    (Suspended (local_part 0 1 1) plain ∷ Failed (locals_holding (txt (codes "x") ∷ num 7 ∷ Null ∷ []) plain)
     ∷ []) ∷
     case_between (op O.Assign (local 0 ∷ int 5 ∷ []) ∷ []) (op O.Elements (local 0 ∷ []))
-    (Suspended (local_part 0 1 1) plain ∷ Stopped 103 (Some (num 5)) (holding (num 5 ∷ num 7 ∷ Null
+    (Suspended (local_part 0 1 1) plain ∷ Stopped 103 (Some (num 5)) (locals_holding (num 5 ∷ num 7 ∷ Null
     ∷ []) plain) ∷ []) ∷
     -- x[y]
     case (op O.Subscript (str (codes "abc") ∷ str (codes "2") ∷ [])) (gives (str (codes "b"))) ∷

@@ -14,7 +14,7 @@ pub const READ_FAULT: &[u8] = b"read fault\n";
 
 pub const NO_MEMORY: &[u8] = b"no memory\n";
 
-/// The line of an answer of a program with this usage line, where the image has this name.
+/// The line of an answer of a program with this usage line, where the image has this name. The error is want of memory.
 pub fn line_of(
     alloc: Global,
     usage: &[u8],

@@ -20,9 +20,10 @@ ghost use Rattle.icn_apply.specs.Undoing.{undoes_in_place};
 
 use crate::applied::Applied;
 use crate::functions::apply_function;
+use icn_args::undo_position_again;
 use icn_convert::Names;
 use icn_host::{Sink, Source};
-use icn_ops::undo_assign_again;
+use icn_ops::{undo_assign_again, undo_exchange_again};
 use icn_structfn::key_again;
 use icn_value::{Item, Residual};
 use icn_vars::{Halt, Locals, Outcome, World};
@@ -54,9 +55,9 @@ pub fn apply<L: Locals, N: Names, I: Source, O: Sink, E: Sink>(
     ensures applies { Applies (step_rows.apply (N.known names.now) (applied_of what)
         (map (item_in (extent_of w.old.heap)) args.now))
         (call_state w.old (L.items l.old)
-        (call_streams (I.left input.old) (I.faults input.old) (O.state out.old) (E.state err.old)))
+        (call_streams (I.left input.old) (I.counts input.old) (O.state out.old) (E.state err.old)))
         (call_state w.new (L.items l.new)
-        (call_streams (I.left input.new) (I.faults input.new) (O.state out.new) (E.state err.new))) result }
+        (call_streams (I.left input.new) (I.counts input.new) (O.state out.new) (E.state err.new))) result }
     ensures named { AnswerNamed (N.known names.now) w.new (L.items l.new) result }
     ensures sized { AnswerKeepsSizes w.old w.new result }
 {
@@ -66,8 +67,8 @@ pub fn apply<L: Locals, N: Names, I: Source, O: Sink, E: Sink>(
     }
 }
 
-/// Resumes what an operation or a function left. The errors are those of `apply`. An assignment is taken back without memory where its
-/// variable is neither a part of a text nor a value at a key of a table.
+/// Resumes what an operation or a function left. The errors are those of `apply`. An assignment or an exchange is taken back without
+/// memory where no variable of it is a part of a text or a value at a key of a table, and a move always is.
 pub fn again<L: Locals, N: Names, I: Source, O: Sink, E: Sink>(
     rest: Residual,
     w: &mut World,
@@ -84,9 +85,9 @@ pub fn again<L: Locals, N: Names, I: Source, O: Sink, E: Sink>(
     requires rest_named { ResidualNamed (N.known names.now) (residual_in (extent_of w.old.heap) rest) }
     ensures applies { Applies (rows.again (residual_in (extent_of w.old.heap) rest))
         (call_state w.old (L.items l.old)
-        (call_streams (I.left input.old) (I.faults input.old) (O.state out.old) (E.state err.old)))
+        (call_streams (I.left input.old) (I.counts input.old) (O.state out.old) (E.state err.old)))
         (call_state w.new (L.items l.new)
-        (call_streams (I.left input.new) (I.faults input.new) (O.state out.new) (E.state err.new))) result }
+        (call_streams (I.left input.new) (I.counts input.new) (O.state out.new) (E.state err.new))) result }
     ensures named { AnswerNamed (N.known names.now) w.new (L.items l.new) result }
     ensures sized { AnswerKeepsSizes w.old w.new result }
     ensures memory { undoes_in_place (residual_in (extent_of w.old.heap) rest) ≡ true
@@ -109,9 +110,9 @@ fn resume<L: Locals, I: Source, O: Sink, E: Sink>(
     requires rest { IsLiveResidual (reach_of w.old (L.items l.old)) rest }
     ensures applies { Applies (rows.again (residual_in (extent_of w.old.heap) rest))
         (call_state w.old (L.items l.old)
-        (call_streams (I.left input.old) (I.faults input.old) (O.state out.old) (E.state err.old)))
+        (call_streams (I.left input.old) (I.counts input.old) (O.state out.old) (E.state err.old)))
         (call_state w.new (L.items l.new)
-        (call_streams (I.left input.new) (I.faults input.new) (O.state out.new) (E.state err.new))) result }
+        (call_streams (I.left input.new) (I.counts input.new) (O.state out.new) (E.state err.new))) result }
     ensures memory { undoes_in_place (residual_in (extent_of w.old.heap) rest) ≡ true
         → IfErr result (λ halt. halt ≢ NoMemory) }
 {
@@ -129,8 +130,14 @@ fn resume<L: Locals, I: Source, O: Sink, E: Sink>(
         Residual::TableValues { .. } => icn_ops::again(rest, w, l, buffer, input, out, err),
         Residual::RecordFields { .. } => icn_ops::again(rest, w, l, buffer, input, out, err),
         Residual::InputLines => icn_ops::again(rest, w, l, buffer, input, out, err),
-        Residual::UndoExchange { .. } => icn_ops::again(rest, w, l, buffer, input, out, err),
-        Residual::UndoPosition { .. } => icn_ops::again(rest, w, l, buffer, input, out, err),
+        Residual::UndoExchange {
+            mover,
+            left,
+            right,
+            old_left,
+            old_right,
+        } => undo_exchange_again(w, l, mover, left, right, old_left, old_right),
+        Residual::UndoPosition { old } => undo_position_again(w, l, old),
         Residual::Counting { .. } => icn_ops::again(rest, w, l, buffer, input, out, err),
     }
 }

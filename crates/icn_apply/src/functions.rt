@@ -47,9 +47,9 @@ pub fn apply_function<L: Locals, N: Names, I: Source, O: Sink, E: Sink>(
     ensures applies { Applies (function_row (N.known names.now) func
         (map (item_in (extent_of w.old.heap)) args.now))
         (call_state w.old (L.items l.now)
-        (call_streams (I.left input.old) (I.faults input.old) (O.state out.old) (E.state err.old)))
+        (call_streams (I.left input.old) (I.counts input.old) (O.state out.old) (E.state err.old)))
         (call_state w.new (L.items l.now)
-        (call_streams (I.left input.new) (I.faults input.new) (O.state out.new) (E.state err.new))) result }
+        (call_streams (I.left input.new) (I.counts input.new) (O.state out.new) (E.state err.new))) result }
     ensures named { AnswerNamed (N.known names.now) w.new (L.items l.now) result }
     ensures sized { AnswerKeepsSizes w.old w.new result }
 {
@@ -75,7 +75,8 @@ fn apply_errorclear<L: Locals, N: Names>(
     requires args_named { All (ItemNamed (N.known _names.now))
         (map (item_in (extent_of w.old.heap)) args.now) }
     ensures applies { (handed : CallStreams)
-        → Applies (function_row (N.known _names.now) ErrorClear (map (item_in (extent_of w.old.heap)) args.now))
+        → Applies (function_row (N.known _names.now) ErrorClear
+        (map (item_in (extent_of w.old.heap)) args.now))
         (call_state w.old (L.items l.now) handed) (call_state w.new (L.items l.now) handed) result }
     ensures named { AnswerNamed (N.known _names.now) w.new (L.items l.now) result }
     ensures sized { AnswerKeepsSizes w.old w.new result }

@@ -1,3 +1,2 @@
 pub mod RowWords
-pub mod KeyedStructures
 pub mod ItemsLeft

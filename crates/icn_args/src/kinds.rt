@@ -1,25 +1,15 @@
 // Arguments that are files or structures.
 ghost use Rattle.icn_value.specs.Store.{Setting};
 ghost use Rattle.std.specs.Prelude.{ℕ, IfErr, IfOk};
-ghost use Rattle.icn_defs.specs.Arguments.{file, keeper, list, table};
+ghost use Rattle.icn_defs.specs.Arguments.{file, list};
 ghost use Rattle.icn_heap.specs.Extents.{Extent, IsLive, value_in};
 ghost use Rattle.icn_heap.specs.Keys.{file_of};
-ghost use Rattle.icn_args.specs.KeyedStructures.{IsLiveKeeper, keeper_in};
-ghost use Rattle.icn_value.specs.declared.val.Val.TheVariants.{List, Table};
+ghost use Rattle.icn_value.specs.declared.val.Val.TheVariants.{List};
 ghost use Rattle.icn_args.specs.RowWords.{IsFound};
 ghost use Rattle.icn_vars.specs.Stops.{IsLiveStop};
 
 use icn_value::{File, Val};
 use icn_vars::Stop;
-
-/// A set or a table.
-#[derive(Clone, Copy, Debug, PartialEq, Eq)]
-pub enum Keeper {
-    /// A set, by its number.
-    Set(u32),
-    /// A table, by its number.
-    Table(u32),
-}
 
 /// The file that a value is. The error is 105 about the value.
 pub fn file_of(val: Val) -> Result<File, Stop>
@@ -43,32 +33,5 @@ pub fn list_of(val: Val) -> Result<u32, Stop>
     match val {
         Val::List(id) => Ok(id),
         _ => Err(Stop::Error(108, Some(val))),
-    }
-}
-
-/// The number of the table that a value is. The error is 124 about the value.
-pub fn table_of(val: Val) -> Result<u32, Stop>
-    ensures found { (all : Extent) (setting : Setting)
-        → IsFound all (table (value_in all val)) setting setting (λ (id : ℕ). id) result }
-    ensures live { (all : Extent) → IsLive all val → IfOk result (λ id. IsLive all (Table id)) }
-    ensures stops { (all : Extent) → IsLive all val → IfErr result (IsLiveStop all) }
-{
-    match val {
-        Val::Table(id) => Ok(id),
-        _ => Err(Stop::Error(124, Some(val))),
-    }
-}
-
-/// The set or the table that a value is. The error is 122 about the value.
-pub fn keeper_of(val: Val) -> Result<Keeper, Stop>
-    ensures found { (all : Extent) (setting : Setting)
-        → IsFound all (keeper (value_in all val)) setting setting keeper_in result }
-    ensures live { (all : Extent) → IsLive all val → IfOk result (IsLiveKeeper all) }
-    ensures stops { (all : Extent) → IsLive all val → IfErr result (IsLiveStop all) }
-{
-    match val {
-        Val::Set(id) => Ok(Keeper::Set(id)),
-        Val::Table(id) => Ok(Keeper::Table(id)),
-        _ => Err(Stop::Error(122, Some(val))),
     }
 }

@@ -1,5 +1,5 @@
 // Moving in the subject, and texts that stand in others.
-ghost use Rattle.std.specs.Prelude.{◌≡◌, ◌+◌, ◌≤◌, length};
+ghost use Rattle.std.specs.Prelude.{◌≡◌, ◌≢◌, ◌+◌, ◌≤◌, length, IfErr};
 ghost use Rattle.std.specs.List.{All};
 ghost use Rattle.icn_value.specs.Store.{Outside};
 ghost use Rattle.icn_defs.specs.Scanning.{stands, tabs_to, undo_position_again};
@@ -7,6 +7,7 @@ ghost use Rattle.icn_heap.specs.Extents.{IsLive, text_in};
 ghost use Rattle.icn_heap.specs.Heaps.{extent_of};
 ghost use Rattle.icn_vars.specs.Outcomes.{IsLiveAnswer, IsLiveOutcome, outcome_in};
 ghost use Rattle.icn_vars.specs.Worlds.{KeepsItems, reach_of, setting_of};
+ghost use Rattle.icn_vars.specs.declared.outcome.Halt.TheVariants.{NoMemory};
 ghost use Rattle.icn_args.specs.RowWords.{Answers};
 
 use icn_value::{Item, Residual, Val};
@@ -45,11 +46,12 @@ pub fn tab_to<L: Locals>(w: &mut World, l: &L, place: u64) -> Outcome
     Outcome::Suspends(Item::Val(Val::Text(text)), Residual::UndoPosition { old })
 }
 
-/// Moves back to the place that `tab_to` left, and fails. The error is 205 where the subject is too short now.
+/// Moves back to the place that `tab_to` left, and fails. The error is 205 where the subject is too short now. It takes no memory.
 pub fn undo_position_again<L: Locals>(w: &mut World, l: &L, old: u64) -> Result<Outcome, Halt>
     requires locals { All (IsLive (extent_of w.old.heap)) (L.items l.now) }
     requires place { 1 ≤ old }
     ensures row { Answers w.old (L.items l.now) w.new (L.items l.now) (undo_position_again old) result }
+    ensures memory { IfErr result (λ halt. halt ≢ NoMemory) }
     ensures live { IsLiveAnswer (reach_of w.new (L.items l.now)) result }
     ensures locals { All (IsLive (extent_of w.new.heap)) (L.items l.now) }
     ensures kept { KeepsItems (reach_of w.old (L.items l.now)) (reach_of w.new (L.items l.now)) }

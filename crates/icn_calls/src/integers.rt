@@ -22,7 +22,7 @@ use icn_convert::to_integer;
 use icn_frames::{Cell, Frames, Stack};
 use icn_heap::Heap;
 use icn_value::{Item, Val};
-use icn_vars::{Halt, World, place_of};
+use icn_vars::{Halt, World, position_of};
 
 /// The number by which a value is called, where it is called by number: an integer, or a text that converts to one. It takes
 /// no memory.
@@ -60,7 +60,7 @@ pub fn pick_argument(items: &[Item], n: i64) -> Option<Item>
         → option_map (item_in all) result ≡ choose_item n (map (item_in all) items.now) }
     ensures live { (reach : Reach) → All (IsLiveItem reach) items.now → IfSome result (IsLiveItem reach) }
 {
-    let Some(place) = place_of(n, items.len() as u64) else {
+    let Some(place) = position_of(n, items.len() as u64) else {
         return None;
     };
     item_at(items, (place - 1) as usize)

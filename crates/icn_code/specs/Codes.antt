@@ -31,9 +31,11 @@ pub record Tables : Type 0 where
   pub globals : List Global
   pub procs : List Proc
 
+-- a record type, with its fields as a plain list
 abbrev pub record_of : LinkedRecord → RecordType
 record_of kind = record { name = kind.name; fields = kind.fields.items }
 
+-- a procedure, with its instructions as a plain list
 abbrev pub proc_of : LinkedProcedure → Proc
 proc_of proc = record {
   name = proc.name;

@@ -2,7 +2,7 @@
 use Rattle.std.specs.Prelude.{◌==◌, ℕ, ℤ, ◌+◌, ◌^◌, pos, negsuc, Bool, true, ◌&&◌, ◌||◌, not, nat_le, nat_lt, List, [], ◌∷◌, length, map, slice_index_or}
 use Rattle.std.specs.List.{list_all, list_any, sum_by}
 use Rattle.std.specs.Str.{bytes_eq}
-use Rattle.icn_profile.specs.Numbers.{most_fields, most_procedures, most_statics, most_variables}
+use Rattle.icn_profile.specs.Numbers.{most_fields, most_procedures, most_statics, most_variables, number_limit}
 use Rattle.icn_value.specs.declared.cset.Cset.{Cset}
 use Rattle.icn_code.specs.declared.instr.Instr.{Instr}
 use Rattle.icn_code.specs.declared.instr.Instr.TheVariants.{Int, Str, Cset as CsetAt, Local, Static, Global as GlobalAt, Llist, Field, Invoke, Mark, Chfail, Goto, Loop, Init, Create}
@@ -12,13 +12,11 @@ use Rattle.icn_code.specs.declared.code.Start.{Start}
 use Rattle.icn_code.specs.declared.code.Start.TheVariants.{Null, Procedure, Record, Function}
 use Rattle.icn_code.specs.Codes.{RecordType, Proc, Tables}
 
+-- the number is that of a byte
 abbrev pub is_byte : ℕ → Bool
 is_byte b = nat_lt b 256
 
--- the numbers of a code have 32 bits
-abbrev pub number_limit : ℕ
-number_limit = 2 ^ 32
-
+-- the number has 32 bits
 abbrev pub is_number : ℕ → Bool
 is_number n = nat_lt n number_limit
 
@@ -26,6 +24,7 @@ is_number n = nat_lt n number_limit
 abbrev pub is_string_below : ℕ → List ℕ → Bool
 is_string_below limit bytes = nat_lt (length bytes) limit && list_all is_byte bytes
 
+-- a text of bytes whose length is a number of a code
 abbrev pub is_string : List ℕ → Bool
 is_string bytes = is_string_below number_limit bytes
 
@@ -47,12 +46,14 @@ abbrev pub is_record : ℕ → ℕ → RecordType → Bool
 is_record strings fields kind = nat_lt kind.name strings && nat_le (length kind.fields) most_fields
     && list_all (λ field. nat_lt field fields) kind.fields
 
+-- what a global begins with is there: a record or a procedure of the code, a function, or null
 abbrev pub is_start : ℕ → ℕ → Start → Bool
 is_start records procs Null = true
 is_start records procs (Procedure place) = nat_lt place procs
 is_start records procs (Record place) = nat_lt place records
 is_start records procs (Function func) = true
 
+-- a global's name is a string, and what it begins with is there
 abbrev pub is_global : ℕ → ℕ → ℕ → Global → Bool
 is_global strings records procs global = nat_lt global.name strings && is_start records procs global.start
 
@@ -60,9 +61,11 @@ is_global strings records procs global = nat_lt global.name strings && is_start 
 abbrev pub name_of : List (List ℕ) → Global → List ℕ
 name_of strings global = slice_index_or strings global.name []
 
+-- one of these names is this one
 abbrev pub has_name : List (List ℕ) → List ℕ → Bool
 has_name names name = list_any (λ other. bytes_eq other name) names
 
+-- no name stands twice
 abbrev pub names_differ : List (List ℕ) → Bool
 names_differ [] = true
 names_differ (name ∷ names) = not (has_name names name) && names_differ names
@@ -107,6 +110,7 @@ is_instr_below limit tables proc I.Coact = true
 is_instr_below limit tables proc I.Coret = true
 is_instr_below limit tables proc I.Cofail = true
 
+-- what an instruction names is there, and what it counts is a number of a code
 abbrev pub is_instr : Tables → Proc → Instr → Bool
 is_instr tables proc instr = is_instr_below number_limit tables proc instr
 
@@ -117,10 +121,12 @@ is_head strings proc =
     && nat_le (proc.parameters + proc.locals) most_variables && nat_le proc.statics most_variables
     && nat_lt (length proc.instrs) (2 ^ 32)
 
+-- the head of a procedure keeps the rules, and so does each of its instructions, below the limit
 abbrev pub is_proc_below : ℕ → Tables → Proc → Bool
 is_proc_below limit tables proc =
     is_head (length tables.strings) proc && list_all (is_instr_below limit tables proc) proc.instrs
 
+-- the head of a procedure and each of its instructions keep the rules of codes
 abbrev pub is_proc : Tables → Proc → Bool
 is_proc tables proc = is_proc_below number_limit tables proc
 

@@ -37,3 +37,4 @@ pub mod LiveTransfers
 pub mod CountedSteps
 pub mod ActivationSteps
 pub mod Halts
+pub mod PlainValueSteps

@@ -13,3 +13,4 @@ pub mod FailingMachines
 pub mod TakenOperands
 pub mod Creations
 pub mod Operands
+pub mod PlainValues

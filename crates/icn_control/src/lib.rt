@@ -19,6 +19,7 @@ mod marks;
 mod on_stack;
 mod opening;
 mod operands;
+mod plain_values;
 mod returns;
 mod scans;
 mod texts;
@@ -47,6 +48,7 @@ pub use on_stack::{
 };
 pub use opening::open_scan;
 pub use operands::take_operands;
+pub use plain_values::{take_value, value_slot};
 pub use returns::{fail_procedure, give_back, leave_failing, result_of, suspend_with};
 pub use scans::{leave_scan, swap_if_scanning, swap_pairs};
 pub use texts::push_string;

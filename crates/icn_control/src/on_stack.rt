@@ -97,6 +97,12 @@ pub fn give_suspended<K: Stack<Cell> + Drop>(frames: &mut Frames<K>) -> Result<(
     ensures step { OnOk result (GoesOn Instrs.Esusp frames.old.flat frames.new.flat) }
     ensures live { OnOk result (StaysLive frames.old.flat frames.new.flat) }
 {
+    let slot = frames.top();
+    if is_plain_operand(slot) {
+        frames.drop_top();
+        frames.suspend_mark_plain(slot)?;
+        return Ok(());
+    }
     let x = frames.pop();
     frames.suspend(Why::Alt, Some(x))?;
     Ok(())
@@ -132,6 +138,11 @@ pub fn push_below<K: Stack<Cell> + Drop>(frames: &mut Frames<K>) -> Result<(), A
     ensures step { OnOk result (GoesOn Instrs.Ccase frames.old.flat frames.new.flat) }
     ensures live { OnOk result (StaysLive frames.old.flat frames.new.flat) }
 {
+    let slot = frames.below_slot();
+    if is_plain_operand(slot) {
+        frames.push_plain(slot)?;
+        return Ok(());
+    }
     let x = frames.below();
     frames.push(x)?;
     Ok(())

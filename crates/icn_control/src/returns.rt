@@ -1,23 +1,30 @@
 // Instructions that end a procedure, or suspend it.
-ghost use Rattle.std.specs.Prelude.{◌≡◌, ◌<◌, ℕ, [], false, IsSome, IfOk, IfErr, MatchResult};
+ghost use Rattle.std.specs.Prelude.{◌≡◌, ◌<◌, ℕ, [], false, Some, IsSome, IfOk, IfErr, MatchResult};
+ghost use Rattle.icn_value.specs.declared.val.Val.{Val};
+ghost use Rattle.icn_value.specs.declared.item.Item.TheVariants as Items;
 ghost use Rattle.icn_code.specs.Codes.{Tables};
 ghost use Rattle.icn_code.specs.declared.instr.Instr.TheVariants as Instrs;
+ghost use Rattle.icn_heap.specs.Extents.{IsLive};
 ghost use Rattle.icn_heap.specs.Heaps.{extent_of};
 ghost use Rattle.icn_vars.specs.Outcomes.{IsLiveHalt};
 ghost use Rattle.icn_vars.specs.Stops.{IsLiveStop, halt_of};
 ghost use Rattle.icn_vars.specs.Worlds.{IsLiveItem, item_in, reach_of, world_of};
+ghost use Rattle.icn_frames.specs.Slots.{plain_operand};
 ghost use Rattle.icn_frames.specs.Stacks as flat;
+ghost use Rattle.icn_frames.specs.Stacks.{FlatStack};
 ghost use Rattle.icn_run.specs.Rows.{Item as ItemRead};
 ghost use Rattle.icn_run.specs.Stacks.{Frames as FramesRead, flat as calls};
 ghost use Rattle.icn_run.specs.Step.{State, Store, proc_fails, with_result};
 ghost use Rattle.icn_control.specs.LiveStacks.{IsLiveStack, with_locals};
 ghost use Rattle.icn_control.specs.StackAndWorld.{ComesWith, HaltsWith, StandsWith};
+ghost use Rattle.icn_control.specs.PlainValues.{TakesValue};
 ghost use Rattle.icn_control.specs.Results.{is_local_item, is_local_root};
 ghost use Rattle.icn_control.specs.StackViews.{instruction_state, stack_in};
 ghost use Rattle.icn_control.specs.Soundness.{KeepsHeap, UnlessEnded};
 
 use crate::machine::RunState;
-use crate::on_stack::put;
+use crate::on_stack::{put, put_slot};
+use crate::plain_values::take_value;
 use crate::scans::swap_if_scanning;
 use crate::values::value_of;
 use crate::world::restore_pair;
@@ -115,6 +122,54 @@ pub fn fail_procedure<K: Stack<Cell> + Drop>(frames: &mut Frames<K>, world: &mut
 ///
 /// The error is that of the value.
 pub fn give_back<K: Stack<Cell> + Drop>(
+    frames: &mut Frames<K>,
+    world: &mut World,
+) -> Result<RunState, Halt>
+    requires operand { IsSome (flat.pop frames.old.flat) }
+    requires live { (tables : Tables) × IsLiveStack tables (reach_of world.old []) frames.old.flat }
+    ensures step { ComesWith Instrs.Pret world.old frames.old.flat world.new frames.new.flat result }
+    ensures live { (tables : Tables) → IsLiveStack tables (reach_of world.old []) frames.old.flat
+        → UnlessEnded result (IsLiveStack tables (reach_of world.new []) frames.new.flat) }
+    ensures halt { IfErr result (IsLiveHalt (reach_of world.new [])) }
+    ensures same { KeepsHeap world.old world.new }
+{
+    match take_value(frames) {
+        Some(value) => Ok(leave_with(frames, world, value)),
+        None => give_item_back(frames, world),
+    }
+}
+
+// Returns with a value, by its slot, beside which nothing may be kept; the operand was taken.
+fn leave_with<K: Stack<Cell> + Drop>(
+    frames: &mut Frames<K>,
+    world: &mut World,
+    value: Cell,
+) -> RunState
+    requires room { 0 < frames.old.spare }
+    requires value { IsSome (plain_operand value) }
+    requires live { (tables : Tables) × IsLiveStack tables (reach_of world.old []) frames.old.flat }
+    ensures step { (m : FlatStack) → TakesValue m frames.old.flat value
+        → (tables : Tables) (st : Store FramesRead) → st.world ≡ world_of world.old
+        → StandsWith (instruction_state (extent_of world.old.heap) tables Instrs.Pret m st) st world.new
+        frames.new.flat result }
+    ensures live { (tables : Tables) (v : Val) → plain_operand value ≡ Some (Items.Val v)
+        → IsLive (extent_of world.old.heap) v → IsLiveStack tables (reach_of world.old []) frames.old.flat
+        → IsLiveStack tables (reach_of world.new []) frames.new.flat }
+    ensures same { KeepsHeap world.old world.new }
+{
+    let pair = frames.oldest_pair();
+    restore_pair(world, pair);
+    if frames.is_base() {
+        return RunState::Over;
+    }
+    frames.leave();
+    put_slot(frames, value);
+    RunState::Running
+}
+
+// Returns with the top operand, whatever it is.
+#[inline(never)]
+fn give_item_back<K: Stack<Cell> + Drop>(
     frames: &mut Frames<K>,
     world: &mut World,
 ) -> Result<RunState, Halt>

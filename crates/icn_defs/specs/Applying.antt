@@ -67,9 +67,9 @@ operation_on SectionPlus x y z = section_plus_row x y z
 operation_on SectionMinus x y z = section_minus_row x y z
 operation_on ToBy x y z = to_by_row x y z
 
--- an operand by its place, from 0 on
+-- an operand by its index, from 0 on
 abbrev pub operand : List Item → ℕ → Item
-operand items place = unwrap_or (slice_get items place) (Val Null)
+operand items index = unwrap_or (slice_get items index) (Val Null)
 
 -- an operation is applied
 abbrev pub operation_row : Op → List Item → Row
@@ -138,20 +138,20 @@ function_row names func items = do
 
 -- what was left is resumed
 abbrev pub again : Residual → Row
-again (TextBytes text place) = text_bytes_from text place
-again (VariableBytes variable place) = variable_bytes_from variable place
-again (ListItems id place) = list_items_from id place
-again (SetMembers id place) = set_members_from id place
-again (TableValues id place) = table_values_from id place
-again (TableKeys id place) = table_keys_from id place
-again (RecordFields id place) = record_fields_from id place
+again (TextBytes text offset) = text_bytes_from text offset
+again (VariableBytes variable offset) = variable_bytes_from variable offset
+again (ListItems id index) = list_items_from id index
+again (SetMembers id index) = set_members_from id index
+again (TableValues id index) = table_values_from id index
+again (TableKeys id index) = table_keys_from id index
+again (RecordFields id index) = record_fields_from id index
 again InputLines = lines_again
 again (UndoAssign variable old) = undo_assign_again variable old
 again (UndoExchange mover x y old_x old_y) = undo_exchange_again mover x y old_x old_y
 again (UndoPosition old) = undo_position_again old
 again (Counting n last step) = counting_again n last step
 again (Sequence n step) = sequence_again n step
-again (Balanced wanted opening closing text place last) =
-    balanced_again wanted opening closing text place last
-again (Found wanted text place last) = found_from wanted text (place + 1) last
-again (Among bytes text place last) = among_from bytes text (place + 1) last
+again (Balanced wanted opening closing text position last) =
+    balanced_again wanted opening closing text position last
+again (Found wanted text position last) = found_from wanted text (position + 1) last
+again (Among bytes text position last) = among_from bytes text (position + 1) last

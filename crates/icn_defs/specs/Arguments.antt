@@ -9,13 +9,13 @@ use Rattle.icn_defs.specs.Rows.{Finds, present}
 abbrev pub value_or : Value → Value → Value
 value_or default value = if is_null value then default else value
 
--- the argument at this place, which is null where it is missing
+-- the argument at this index, which is null where it is missing
 abbrev pub arg : List Value → ℕ → Value
-arg values place = value_at values place
+arg values index = value_at values index
 
--- the argument at this place, or another value where it is null
+-- the argument at this index, or another value where it is null
 abbrev pub arg_or : Value → List Value → ℕ → Value
-arg_or default values place = value_or default (arg values place)
+arg_or default values index = value_or default (arg values index)
 
 -- Integers, texts and csets, by conversion
 

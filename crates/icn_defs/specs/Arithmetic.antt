@@ -3,9 +3,9 @@ use Rattle.std.specs.Prelude.{ℤ, pos, ◌+ℤ◌, neg_ℤ, int_le, Bool, not, 
 use Rattle.std.specs.Int.{is_positive}
 use Rattle.std.specs.Ordering.{int_cmp, int_eq, is_lt, is_le, is_eq, is_ge, is_gt, is_ne}
 use Rattle.icn_text.specs.declared.arithmetic.Arith.{Arith}
-use Rattle.icn_text.specs.IntegerArithmetic.{fitting, within_64_bits, sum, difference, product, quotient, remainder, power}
+use Rattle.icn_text.specs.IntegerArithmetic.{if_fits, within_64_bits, sum, difference, product, quotient, remainder, power}
 use Rattle.icn_value.specs.Values.{Integer, Item, Val}
-use Rattle.icn_defs.specs.Rows.{◌>>=◌, ◌>>◌, Row, Counting, fails, gives_value, suspends, check, number_or_error, passing}
+use Rattle.icn_defs.specs.Rows.{◌>>=◌, ◌>>◌, Row, Counting, fails, gives_value, suspends, check, number_or_error, fails_unless}
 use Rattle.icn_defs.specs.ReadAndAssign.{the_value}
 use Rattle.icn_defs.specs.Arguments.{number, integer}
 
@@ -67,7 +67,7 @@ number_comparison_row test x y = do
   w ← the_value y
   m ← number v
   n ← number w
-  passing (test m n)
+  fails_unless (test m n)
   gives_value (Integer n)
 
 -- `m < n`
@@ -104,7 +104,7 @@ counts_on step last n = if is_positive step then int_le n last else int_le last 
 abbrev pub count_from : ℤ → ℤ → Option ℤ → Row
 count_from last step None = fails
 count_from last step (Some n) = do
-  passing (counts_on step last n)
+  fails_unless (counts_on step last n)
   suspends (Val (Integer n)) (Counting n last step)
 
 -- `i to j by k`; it ends silently at the end of 64 bits
@@ -121,4 +121,4 @@ to_by_row x y z = do
 
 -- resumed, the count goes on by its step
 abbrev pub counting_again : ℤ → ℤ → ℤ → Row
-counting_again n last step = count_from last step (fitting (n +ℤ step))
+counting_again n last step = count_from last step (if_fits (n +ℤ step))

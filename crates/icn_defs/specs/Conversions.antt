@@ -3,7 +3,7 @@ use Rattle.std.specs.Prelude.{ℕ, zero, suc, ℤ, pos, negsuc, ◌+◌, ◌-◌
 use Rattle.std.specs.Fmt.{signed_decimal}
 use Rattle.std.specs.declared.cmp.Ordering.{Ordering}
 use Rattle.std.specs.Ordering.{is_lt}
-pub use Rattle.icn_text.specs.IntegerArithmetic.{fits, fitting}
+pub use Rattle.icn_text.specs.IntegerArithmetic.{fits, if_fits}
 pub use Rattle.icn_text.specs.Reading.{written_integer}
 use Rattle.icn_value.specs.Values.{Value, Null, Integer, Text, Chars}
 pub use Rattle.icn_value.specs.Members.{contains, members}
@@ -83,12 +83,12 @@ is_null value = false
 
 -- Positions
 
--- The place that a position means in a text of so many bytes: places stand before the first byte, from 1
--- on, and one behind the last. At or below 0 a position counts from the end.
-abbrev pub place_of : ℤ → ℕ → Option ℕ
-place_of (pos zero) size = Some (size + 1)
-place_of (pos (suc n)) size = if nat_le n size then Some (suc n) else None
-place_of (negsuc n) size = if nat_lt n size then Some (size - n) else None
+-- The position that an integer means in a text of so many bytes: positions stand before the first byte, from 1
+-- on, and one behind the last. At or below 0 an integer counts from the end.
+abbrev pub position_of : ℤ → ℕ → Option ℕ
+position_of (pos zero) size = Some (size + 1)
+position_of (pos (suc n)) size = if nat_le n size then Some (suc n) else None
+position_of (negsuc n) size = if nat_lt n size then Some (size - n) else None
 
 -- The order of sort
 

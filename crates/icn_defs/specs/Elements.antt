@@ -5,7 +5,7 @@ use Rattle.icn_structs.specs.Numbered.{NumberedList}
 use Rattle.icn_value.specs.Values.{Value, Integer, Text, Element, Field, Key, Variable, Whole, Part, Item, Val, Var}
 use Rattle.icn_value.specs.Store.{list_at, set_at, table_at, record_at, having_random, value_at}
 use Rattle.icn_defs.specs.Conversions.{ValueGroup, Textual, Listed, Collected, Tabled, Recorded, Filed, Activated, Single, group_of, held_integer, held_text}
-use Rattle.icn_defs.specs.Rows.{◌>>=◌, ◌>>◌, Row, Finds, TextBytes, VariableBytes, ListItems, SetMembers, TableValues, RecordFields, gives, gives_value, suspends, wrong, check, present, passing, thing_or_failure, here, changes, costs_text}
+use Rattle.icn_defs.specs.Rows.{◌>>=◌, ◌>>◌, Row, Finds, TextBytes, VariableBytes, ListItems, SetMembers, TableValues, RecordFields, gives, gives_value, suspends, wrong, check, present, fails_unless, thing_or_failure, here, changes, costs_text}
 use Rattle.icn_defs.specs.ReadAndAssign.{the_value, reads}
 use Rattle.icn_defs.specs.Lines.{lines_row}
 
@@ -13,75 +13,75 @@ use Rattle.icn_defs.specs.Lines.{lines_row}
 
 -- a part of a variable, which may be a part itself
 abbrev pub part_of : Variable → ℕ → ℕ → Variable
-part_of (Whole root) place size = Part root place size
-part_of (Part root begin count) place size = Part root (begin + place - 1) size
+part_of (Whole root) position size = Part root position size
+part_of (Part root begin count) position size = Part root (begin + position - 1) size
 
 -- the variable that holds the text, if the item is one and holds a text
 abbrev pub text_variable : Item → Value → Option Variable
 text_variable (Val value) held = None
 text_variable (Var variable) held = option_map (λ text. variable) (held_text held)
 
--- the part of a text at a place, as a variable where there is one that holds the text
+-- the part of a text at a position, as a variable where there is one that holds the text
 abbrev pub part_item : Option Variable → List ℕ → ℕ → ℕ → Item
-part_item None text place size = Val (Text (slice_range text (place - 1) (place - 1 + size)))
-part_item (Some variable) text place size = Var (part_of variable place size)
+part_item None text position size = Val (Text (slice_range text (position - 1) (position - 1 + size)))
+part_item (Some variable) text position size = Var (part_of variable position size)
 
--- the element of a list, the value of a table and the field of a record at a place, from 0 on
+-- the element of a list, the value of a table and the field of a record at an index, from 0 on
 abbrev pub element_item : ℕ → NumberedList Value → ℕ → Item
-element_item id list place = Var (Whole (Element id (list.number +ℤ pos place)))
+element_item id list index = Var (Whole (Element id (list.number +ℤ pos index)))
 
 -- a field of a record
 abbrev pub field_item : ℕ → ℕ → Item
-field_item id place = Var (Whole (Field id place))
+field_item id index = Var (Whole (Field id index))
 
 -- the value at a key of a table
 abbrev pub key_item : ℕ → Value → Item
 key_item id key = Var (Whole (Key id key))
 
--- Elements: each is given with the place behind it, and where no element stands there it fails
+-- Elements: each is given with the index or the offset behind it, and where no element stands there it fails
 
--- the byte at a place of a text
+-- the byte at an offset of a text
 abbrev pub text_bytes_from : List ℕ → ℕ → Row
-text_bytes_from text place = do
-  byte ← thing_or_failure (slice_get text place)
-  suspends (Val (Text (byte ∷ []))) (TextBytes text (place + 1))
+text_bytes_from text offset = do
+  byte ← thing_or_failure (slice_get text offset)
+  suspends (Val (Text (byte ∷ []))) (TextBytes text (offset + 1))
 
 -- the bytes of the text that the variable holds now: 103 where it holds none
 abbrev pub variable_bytes_from : Variable → ℕ → Row
-variable_bytes_from variable place = do
+variable_bytes_from variable offset = do
   value ← reads variable
   text ← present (held_text value) 103 (Some value)
-  passing (nat_lt place (length text))
-  suspends (Var (part_of variable (place + 1) 1)) (VariableBytes variable (place + 1))
+  fails_unless (nat_lt offset (length text))
+  suspends (Var (part_of variable (offset + 1) 1)) (VariableBytes variable (offset + 1))
 
--- the element at a place of a list
+-- the element at an index of a list
 abbrev pub list_items_from : ℕ → ℕ → Row
-list_items_from id place = do
+list_items_from id index = do
   setting ← here
   let list = list_at setting.world.heap id
-  passing (nat_lt place (length list.items))
-  suspends (element_item id list place) (ListItems id (place + 1))
+  fails_unless (nat_lt index (length list.items))
+  suspends (element_item id list index) (ListItems id (index + 1))
 
--- the member at a place of a set
+-- the member at an index of a set
 abbrev pub set_members_from : ℕ → ℕ → Row
-set_members_from id place = do
+set_members_from id index = do
   setting ← here
-  member ← thing_or_failure (slice_get (set_at setting.world.heap id) place)
-  suspends (Val member) (SetMembers id (place + 1))
+  member ← thing_or_failure (slice_get (set_at setting.world.heap id) index)
+  suspends (Val member) (SetMembers id (index + 1))
 
--- the value at a place of a table
+-- the value at an index of a table
 abbrev pub table_values_from : ℕ → ℕ → Row
-table_values_from id place = do
+table_values_from id index = do
   setting ← here
-  pair ← thing_or_failure (slice_get (table_at setting.world.heap id).pairs place)
-  suspends (key_item id pair.0) (TableValues id (place + 1))
+  pair ← thing_or_failure (slice_get (table_at setting.world.heap id).pairs index)
+  suspends (key_item id pair.0) (TableValues id (index + 1))
 
--- the field at a place of a record
+-- the field at an index of a record
 abbrev pub record_fields_from : ℕ → ℕ → Row
-record_fields_from id place = do
+record_fields_from id index = do
   setting ← here
-  passing (nat_lt place (length (record_at setting.world.heap id).fields))
-  suspends (field_item id place) (RecordFields id (place + 1))
+  fails_unless (nat_lt index (length (record_at setting.world.heap id).fields))
+  suspends (field_item id index) (RecordFields id (index + 1))
 
 -- the bytes of a text: parts of the variable that holds it, if one does
 abbrev pub text_elements : Option Variable → Value → List ℕ → Row
@@ -109,7 +109,7 @@ elements_row x = do
 
 -- At random
 
--- a place among so many, from 0 on
+-- an index among so many, from 0 on
 abbrev pub picks : ℕ → Finds ℕ
 picks size next = do
   setting ← here
@@ -121,42 +121,42 @@ picks size next = do
 abbrev pub random_number : Value → ℤ → Row
 random_number v (pos n) = do
   check (nat_lt 0 n) 205 (Some v)
-  place ← picks n
-  gives_value (Integer (pos (1 + place)))
+  index ← picks n
+  gives_value (Integer (pos (1 + index)))
 random_number v n = wrong 205 (Some v)
 
 -- it fails where there is nothing to pick
 abbrev pub random_of : Item → Value → ValueGroup → Row
 random_of x v (Textual text) = do
   costs_text v
-  passing (nat_lt 0 (length text))
-  place ← picks (length text)
-  gives (part_item (text_variable x v) text (place + 1) 1)
+  fails_unless (nat_lt 0 (length text))
+  offset ← picks (length text)
+  gives (part_item (text_variable x v) text (offset + 1) 1)
 random_of x v (Listed id) = do
   setting ← here
   let list = list_at setting.world.heap id
-  passing (nat_lt 0 (length list.items))
-  place ← picks (length list.items)
-  gives (element_item id list place)
+  fails_unless (nat_lt 0 (length list.items))
+  index ← picks (length list.items)
+  gives (element_item id list index)
 random_of x v (Collected id) = do
   setting ← here
   let set = set_at setting.world.heap id
-  passing (nat_lt 0 (length set))
-  place ← picks (length set)
-  gives_value (value_at set place)
+  fails_unless (nat_lt 0 (length set))
+  index ← picks (length set)
+  gives_value (value_at set index)
 random_of x v (Tabled id) = do
   setting ← here
   let pairs = (table_at setting.world.heap id).pairs
-  passing (nat_lt 0 (length pairs))
-  place ← picks (length pairs)
-  pair ← thing_or_failure (slice_get pairs place)
+  fails_unless (nat_lt 0 (length pairs))
+  index ← picks (length pairs)
+  pair ← thing_or_failure (slice_get pairs index)
   gives (key_item id pair.0)
 random_of x v (Recorded id) = do
   setting ← here
   let fields = (record_at setting.world.heap id).fields
-  passing (nat_lt 0 (length fields))
-  place ← picks (length fields)
-  gives (field_item id place)
+  fails_unless (nat_lt 0 (length fields))
+  index ← picks (length fields)
+  gives (field_item id index)
 random_of x v (Filed file) = wrong 113 (Some v)
 random_of x v (Activated id) = wrong 113 (Some v)
 random_of x v Single = wrong 113 (Some v)

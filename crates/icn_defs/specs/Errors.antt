@@ -5,6 +5,7 @@ use Rattle.icn_value.specs.Values.{Value}
 use Rattle.icn_value.specs.Store.{Names, Heap, World, KeptError}
 use Rattle.icn_defs.specs.Images.{image}
 
+-- the text of each run-time error, by its number
 abbrev pub error_texts : List (ℕ × List ℕ)
 error_texts =
     (101, codes "integer expected or out of range") ∷ (102, codes "numeric expected")
@@ -33,6 +34,7 @@ error_texts =
 abbrev pub error_text : ℕ → List ℕ
 error_text number = unwrap_or (lookup (λ other. other == number) error_texts) []
 
+-- the line of a report on the value that the error is about, if there is one
 abbrev pub offending_line : Names → Heap → Option Value → List ℕ
 offending_line names heap None = []
 offending_line names heap (Some value) = codes "offending value: " ++ (image names heap value ++ codes "\n")
@@ -56,15 +58,15 @@ ends_run number (pos (suc count)) = is_fatal number
 ends_run number (negsuc count) = is_fatal number
 
 -- one less, but that the least integer of 64 bits stays
-abbrev pub lowered : ℤ → ℤ
-lowered (pos zero) = negsuc zero
-lowered (pos (suc count)) = pos count
-lowered (negsuc count) = if nat_lt count (2 ^ 63 - 1) then negsuc (suc count) else negsuc count
+abbrev pub one_less : ℤ → ℤ
+one_less (pos zero) = negsuc zero
+one_less (pos (suc count)) = pos count
+one_less (negsuc count) = if nat_lt count (2 ^ 63 - 1) then negsuc (suc count) else negsuc count
 
 -- the error is kept, with the value that it is about, and `&error` is lowered
 abbrev pub with_kept : ℕ → Option Value → World → World
 with_kept number offending world =
-    record world { error = lowered world.error; kept = Some (record { number = number; value = offending }) }
+    record world { error = one_less world.error; kept = Some (record { number = number; value = offending }) }
 
 -- an error that ends the run, or one that becomes failure
 abbrev pub ended_or_failed : {S : Type 0} → Bool → ℕ → Option Value → World → S → (World → S) → S

@@ -1,8 +1,8 @@
 -- The functions that read, write and end the program.
-use Rattle.std.specs.Prelude.{◌-◌, ℕ, pos, unsigned_abs, Bool, true, false, not, nat_lt, List, [], ◌∷◌, ◌++◌, length, Option, None, Some, if◌then◌else◌}
+use Rattle.std.specs.Prelude.{◌-◌, ℕ, pos, unsigned_abs, Bool, true, false, not, nat_lt, List, [], ◌∷◌, length, map, Option, None, Some, if◌then◌else◌}
 use Rattle.std.specs.Int.{int_rem_euclid}
 use Rattle.icn_value.specs.Values.{Value, Integer, Text, Std, File, Input, Output, Errout}
-use Rattle.icn_value.specs.Store.{Outside, value_at}
+use Rattle.icn_value.specs.Store.{OutputByte, ErrorByte, Outside, value_at, with_events}
 use Rattle.icn_defs.specs.Conversions.{text_of, is_null}
 use Rattle.icn_defs.specs.Rows.{◌>>=◌, ◌>>◌, Row, Finds, gives_value, ends, check, present, natural, here, changes}
 use Rattle.icn_defs.specs.Arguments.{arg, arg_or, integer, file_of, file}
@@ -40,8 +40,8 @@ reads_row args = do
 -- what is put on the error output, and on the output; nothing is put on the input
 abbrev pub put_on : File → List ℕ → Outside → Outside
 put_on Input text outside = outside
-put_on Output text outside = record outside { output = outside.output ++ text }
-put_on Errout text outside = record outside { errors = outside.errors ++ text }
+put_on Output text outside = with_events (map OutputByte text) outside
+put_on Errout text outside = with_events (map ErrorByte text) outside
 
 -- an argument of `write` puts a text, or selects where the next ones go
 pub data WriteArgument : Type 0 where

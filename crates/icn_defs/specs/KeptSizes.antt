@@ -3,6 +3,7 @@ use Rattle.std.specs.Prelude.{◌≡◌, length}
 use Rattle.icn_value.specs.Store.{Setting}
 use Rattle.icn_defs.specs.Rows.{Outcome, Fails, Gives, Suspends, Error, Ends}
 
+-- there are as many locals, globals and statics as before, and the limits are the same
 pub record KeepsSizes (before after : Setting) : Type 0 where
   pub locals : length after.locals ≡ length before.locals
   pub globals : length after.world.globals ≡ length before.world.globals

@@ -17,9 +17,11 @@ pub record Standing : Type 0 where
   pub source : ℕ
   pub kept : Option KeptError
 
+-- a keyword gives this value
 abbrev pub value_item : Value → Option Item
 value_item value = Some (Val value)
 
+-- a keyword gives this variable
 abbrev pub word : KeywordVariable → Option Item
 word variable = Some (Var (Whole (Keyword variable)))
 

@@ -2,7 +2,7 @@
 use Rattle.std.specs.Prelude.{◌==◌, ◌+◌, ℕ, Bool, true, false, not, List, length, drop, take, take_while, nat_lt, Some}
 use Rattle.icn_value.specs.Values.{Text, Std, File, Input, Output, Errout, Val}
 use Rattle.icn_value.specs.Store.{Request, ALine, SomeBytes, with_reading, having_left}
-use Rattle.icn_defs.specs.Rows.{◌>>=◌, ◌>>◌, Row, Finds, InputLines, suspends, check, passing, here, changes, costs_bytes}
+use Rattle.icn_defs.specs.Rows.{◌>>=◌, ◌>>◌, Row, Finds, InputLines, suspends, check, fails_unless, here, changes, costs_bytes}
 
 -- whether a file is `&input`
 abbrev pub is_input : File → Bool
@@ -27,7 +27,7 @@ next_line next = do
   reads_input ALine
   setting ← here
   let left = setting.outside.left
-  passing (nat_lt 0 (length left))
+  fails_unless (nat_lt 0 (length left))
   let line = take_while (λ byte. not (byte == 10)) left
   takes_input (length line + 1)
   costs_bytes (length line)
@@ -40,7 +40,7 @@ next_bytes count next = do
   reads_input (SomeBytes count)
   setting ← here
   let bytes = take count setting.outside.left
-  passing (nat_lt 0 (length bytes))
+  fails_unless (nat_lt 0 (length bytes))
   takes_input (length bytes)
   costs_bytes (length bytes)
   next bytes

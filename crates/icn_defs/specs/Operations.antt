@@ -5,7 +5,7 @@ use Rattle.std.specs.Cmp.Lexicographic.{slice_cmp}
 use Rattle.icn_value.specs.Values.{Value, Integer, Text, Chars, ASet, Item}
 use Rattle.icn_value.specs.Store.{list_at, set_at}
 use Rattle.icn_defs.specs.Conversions.{contains, members, cset_of, is_null, size_of, same, has_value}
-use Rattle.icn_defs.specs.Rows.{Row, Finds, ◌>>=◌, ◌>>◌, gives, gives_value, present, passing, here, changes_heap, costs_cells, costs_texts, builds, gives_list}
+use Rattle.icn_defs.specs.Rows.{Row, Finds, ◌>>=◌, ◌>>◌, gives, gives_value, present, fails_unless, here, changes_heap, costs_cells, costs_texts, builds, gives_list}
 use Rattle.icn_defs.specs.ReadAndAssign.{the_value}
 use Rattle.icn_defs.specs.Arguments.{string, cset, list, set_of}
 
@@ -15,14 +15,14 @@ use Rattle.icn_defs.specs.Arguments.{string, cset, list, set_of}
 abbrev pub is_null_row : Item → Row
 is_null_row x = do
   v ← the_value x
-  passing (is_null v)
+  fails_unless (is_null v)
   gives x
 
 -- `\x`: x itself where it is not null
 abbrev pub is_not_null_row : Item → Row
 is_not_null_row x = do
   v ← the_value x
-  passing (not (is_null v))
+  fails_unless (not (is_null v))
   gives x
 
 -- `.x`: the value
@@ -56,7 +56,7 @@ text_comparison_row test x y = do
   s ← string v
   t ← string w
   costs_texts (v ∷ w ∷ [])
-  passing (test s t)
+  fails_unless (test s t)
   gives_value (Text t)
 
 -- `s << t`
@@ -88,7 +88,7 @@ abbrev pub equivalence_row : (Bool → Bool) → Item → Item → Row
 equivalence_row test x y = do
   v ← the_value x
   w ← the_value y
-  passing (test (same v w))
+  fails_unless (test (same v w))
   gives_value w
 
 -- `x === y`

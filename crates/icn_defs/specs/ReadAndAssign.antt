@@ -5,7 +5,7 @@ use Rattle.icn_structs.specs.Numbered.{item_numbered, with_numbered}
 use Rattle.icn_structs.specs.PairLists.{value_of, with_value_of}
 use Rattle.icn_value.specs.Values.{Value, Null, Integer, Text, Root, Global, Static, Local, Element, Field, Key, Keyword, KeywordVariable, Subject, Position, Random, ErrorCount, Variable, Whole, Part, Item, Val, Var}
 use Rattle.icn_value.specs.Store.{Setting, Table, list_at, table_at, record_at, value_at, with_list, with_table, with_record, having_globals, having_statics, having_subject, having_position, having_random, having_error}
-use Rattle.icn_defs.specs.Conversions.{same, text_of, integer_of, held_text, place_of}
+use Rattle.icn_defs.specs.Conversions.{same, text_of, integer_of, held_text, position_of}
 use Rattle.icn_defs.specs.Rows.{◌>>=◌, ◌>>◌, Row, Finds, Mover, Neither, Left, Right, fails, wrong, check, present, here, changes, changes_heap, costs_bytes, costs_cells, costs_text}
 
 -- Reading
@@ -23,12 +23,12 @@ table_value table key = unwrap_or (value_of same table.pairs key) table.default
 
 -- What a whole variable holds. A list element is there where an element of its list has its number.
 abbrev pub root_value : Setting → Root → Option Value
-root_value setting (Global place) = Some (value_at setting.world.globals place)
-root_value setting (Static place) = Some (value_at setting.world.statics place)
-root_value setting (Local place) = Some (value_at setting.locals place)
+root_value setting (Global index) = Some (value_at setting.world.globals index)
+root_value setting (Static index) = Some (value_at setting.world.statics index)
+root_value setting (Local index) = Some (value_at setting.locals index)
 root_value setting (Element list number) = item_numbered (list_at setting.world.heap list) number
-root_value setting (Field structure place) =
-    Some (value_at (record_at setting.world.heap structure).fields place)
+root_value setting (Field structure index) =
+    Some (value_at (record_at setting.world.heap structure).fields index)
 root_value setting (Key table key) = Some (table_value (table_at setting.world.heap table) key)
 root_value setting (Keyword word) = Some (keyword_value setting word)
 
@@ -42,18 +42,18 @@ reads_root root next = do
 -- the text that a part is of: 103 with what its variable holds where that is no text, 205 where that is too
 -- short
 abbrev pub reads_text : Root → ℕ → ℕ → Finds (List ℕ)
-reads_text root place size next = do
+reads_text root position size next = do
   value ← reads_root root
   text ← present (held_text value) 103 (Some value)
-  check (nat_le (place - 1 + size) (length text)) 205 None
+  check (nat_le (position - 1 + size) (length text)) 205 None
   next text
 
 -- the value of a variable
 abbrev pub reads : Variable → Finds Value
 reads (Whole root) next = reads_root root next
-reads (Part root place size) next = do
-  text ← reads_text root place size
-  next (Text (slice_range text (place - 1) (place - 1 + size)))
+reads (Part root position size) next = do
+  text ← reads_text root position size
+  next (Text (slice_range text (position - 1) (position - 1 + size)))
 
 -- the value of an item
 abbrev pub the_value : Item → Finds Value
@@ -86,11 +86,11 @@ assigns_keyword refused Subject value next = do
 assigns_keyword refused Position value next = do
   n ← present (integer_of value) 101 (Some value)
   setting ← here
-  moves_to refused (place_of n (length setting.world.subject)) next
+  moves_to refused (position_of n (length setting.world.subject)) next
   where
     moves_to : Row → Option ℕ → Row → Row
     moves_to refused None next = refused
-    moves_to refused (Some place) next = changes (having_position place) next
+    moves_to refused (Some position) next = changes (having_position position) next
 assigns_keyword refused Random value next = do
   n ← present (integer_of value) 101 (Some value)
   changes (having_random (cast_unsigned w64 n % 2 ^ 31))
@@ -116,41 +116,41 @@ stores id key value next = do
 
 -- a whole variable gets a value: 205 where a list element is gone
 abbrev pub assigns_root : Row → Root → Value → Row → Row
-assigns_root refused (Global place) value next =
-    changes (λ setting. having_globals (slice_set setting.world.globals place value) setting) next
-assigns_root refused (Static place) value next =
-    changes (λ setting. having_statics (slice_set setting.world.statics place value) setting) next
-assigns_root refused (Local place) value next =
-    changes (λ setting. record setting { locals = slice_set setting.locals place value }) next
+assigns_root refused (Global index) value next =
+    changes (λ setting. having_globals (slice_set setting.world.globals index value) setting) next
+assigns_root refused (Static index) value next =
+    changes (λ setting. having_statics (slice_set setting.world.statics index value) setting) next
+assigns_root refused (Local index) value next =
+    changes (λ setting. record setting { locals = slice_set setting.locals index value }) next
 assigns_root refused (Element id number) value next = do
   setting ← here
   let list = list_at setting.world.heap id
   check (is_some (item_numbered list number)) 205 None
   changes_heap (with_list id (with_numbered list number value))
   next
-assigns_root refused (Field id place) value next = do
+assigns_root refused (Field id index) value next = do
   setting ← here
   let structure = record_at setting.world.heap id
-  changes_heap (with_record id (record structure { fields = slice_set structure.fields place value }))
+  changes_heap (with_record id (record structure { fields = slice_set structure.fields index value }))
   next
 assigns_root refused (Key table key) value next = stores table key value next
 assigns_root refused (Keyword word) value next = assigns_keyword refused word value next
 
 -- A text with another text in the place of a part of it
 abbrev pub with_part : List ℕ → ℕ → ℕ → List ℕ → List ℕ
-with_part text place size new = take (place - 1) text ++ (new ++ drop (place - 1 + size) text)
+with_part text position size new = take (position - 1) text ++ (new ++ drop (position - 1 + size) text)
 
 -- The variable afterwards is the same, but that a part covers the text that it got. A part wants a text,
 -- 103, and its variable one that is long enough; the whole text is built and assigned.
 abbrev pub assigns_or : Row → Variable → Value → Finds Variable
 assigns_or refused (Whole root) value next = assigns_root refused root value (next (Whole root))
-assigns_or refused (Part root place size) value next = do
+assigns_or refused (Part root position size) value next = do
   new ← present (text_of value) 103 (Some value)
-  text ← reads_text root place size
+  text ← reads_text root position size
   costs_text value
-  costs_bytes (length (with_part text place size new))
-  assigns_root refused root (Text (with_part text place size new))
-  next (Part root place (length new))
+  costs_bytes (length (with_part text position size new))
+  assigns_root refused root (Text (with_part text position size new))
+  next (Part root position (length new))
 
 -- a variable gets a value: `x := y`
 abbrev pub assigns : Variable → Value → Finds Variable
@@ -164,11 +164,11 @@ undoes variable old next = assigns_or (wrong 205 None) variable old (λ now. nex
 
 -- the type of a root, and what tells the roots of a type apart
 abbrev pub root_number : Root → ℕ
-root_number (Global place) = 0
-root_number (Static place) = 1
-root_number (Local place) = 2
+root_number (Global index) = 0
+root_number (Static index) = 1
+root_number (Local index) = 2
 root_number (Element list number) = 3
-root_number (Field structure place) = 4
+root_number (Field structure index) = 4
 root_number (Key table key) = 5
 root_number (Keyword word) = 6
 
@@ -179,23 +179,23 @@ word_number Position = 1
 word_number Random = 2
 word_number ErrorCount = 3
 
--- the place or the structure of a root
+-- the index or the structure of a root
 abbrev pub root_place : Root → ℕ
-root_place (Global place) = place
-root_place (Static place) = place
-root_place (Local place) = place
+root_place (Global index) = index
+root_place (Static index) = index
+root_place (Local index) = index
 root_place (Element list number) = list
-root_place (Field structure place) = structure
+root_place (Field structure index) = structure
 root_place (Key table key) = table
 root_place (Keyword word) = word_number word
 
--- what else tells a root apart: the number of an element, the place of a field, a key
+-- what else tells a root apart: the number of an element, the index of a field, a key
 abbrev pub root_key : Root → Value
-root_key (Global place) = Null
-root_key (Static place) = Null
-root_key (Local place) = Null
+root_key (Global index) = Null
+root_key (Static index) = Null
+root_key (Local index) = Null
 root_key (Element list number) = Integer number
-root_key (Field structure place) = Integer (pos place)
+root_key (Field structure index) = Integer (pos index)
 root_key (Key table key) = key
 root_key (Keyword word) = Null
 
@@ -204,25 +204,25 @@ abbrev pub same_root : Root → Root → Bool
 same_root a b =
     root_number a == root_number b && (root_place a == root_place b && same (root_key a) (root_key b))
 
--- the side with the smaller place, where both are parts of one variable
+-- the side with the smaller position, where both are parts of one variable
 abbrev pub mover_of : Variable → Variable → Mover
 mover_of (Whole root) y = Neither
-mover_of (Part root place size) (Whole other) = Neither
-mover_of (Part root place size) (Part other begin count) =
+mover_of (Part root position size) (Whole other) = Neither
+mover_of (Part root position size) (Part other begin count) =
     if not (same_root root other) then Neither
-    else (if nat_lt place begin then Left else (if nat_lt begin place then Right else Neither))
+    else (if nat_lt position begin then Left else (if nat_lt begin position then Right else Neither))
 
 -- the length of a part
 abbrev pub part_length : Variable → ℕ
 part_length (Whole root) = 0
-part_length (Part root place size) = size
+part_length (Part root position size) = size
 
--- a part moves by the change of length of another one: 205 where its place would be below 1
+-- a part moves by the change of length of another one: 205 where its position would be below 1
 abbrev pub move_part : ℕ → ℕ → Variable → Finds Variable
 move_part old new (Whole root) next = next (Whole root)
-move_part old new (Part root place size) next = do
-  check (nat_lt old (place + new)) 205 None
-  next (Part root (place + new - old) size)
+move_part old new (Part root position size) next = do
+  check (nat_lt old (position + new)) 205 None
+  next (Part root (position + new - old) size)
 
 -- the right side, moved by what the left side became
 abbrev pub moved_by_left : Mover → ℕ → ℕ → Variable → Finds Variable

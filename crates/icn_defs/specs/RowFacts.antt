@@ -116,7 +116,7 @@ abbrev pub is_kept : Names → Heap → Option KeptError → Bool
 is_kept names heap None = true
 is_kept names heap (Some error) = is_error_number error.number && is_live_or_none names heap error.value
 
--- the position is a place of the subject, `&random` below 2 ^ 31, and `&error` one of 64 bits
+-- the position is one of the subject, `&random` below 2 ^ 31, and `&error` one of 64 bits
 abbrev pub is_world : Names → World → Bool
 is_world names world =
     is_heap names world.heap && (are_bytes world.subject && (nat_le 1 world.position
@@ -133,13 +133,13 @@ is_setting names setting = is_world names setting.world && are_live names settin
 
 -- its place is in range; a list element may be gone, but its list is there
 abbrev pub is_root : Names → Setting → Root → Bool
-is_root names setting (Global place) = nat_lt place (length setting.world.globals)
-is_root names setting (Static place) = nat_lt place (length setting.world.statics)
-is_root names setting (Local place) = nat_lt place (length setting.locals)
+is_root names setting (Global index) = nat_lt index (length setting.world.globals)
+is_root names setting (Static index) = nat_lt index (length setting.world.statics)
+is_root names setting (Local index) = nat_lt index (length setting.locals)
 is_root names setting (Element list number) = nat_lt list (length setting.world.heap.lists) && fits number
-is_root names setting (Field structure place) =
+is_root names setting (Field structure index) =
     nat_lt structure (length setting.world.heap.records)
-    && nat_lt place (length (record_at setting.world.heap structure).fields)
+    && nat_lt index (length (record_at setting.world.heap structure).fields)
 is_root names setting (Key table key) =
     nat_lt table (length setting.world.heap.tables) && is_live names setting.world.heap key
 is_root names setting (Keyword word) = true
@@ -147,7 +147,7 @@ is_root names setting (Keyword word) = true
 -- its root is there, and a part begins at 1 or later
 abbrev pub is_variable : Names → Setting → Variable → Bool
 is_variable names setting (Whole root) = is_root names setting root
-is_variable names setting (Part root place size) = is_root names setting root && nat_le 1 place
+is_variable names setting (Part root position size) = is_root names setting root && nat_le 1 position
 
 -- a live value, or a variable that is there
 abbrev pub is_item : Names → Setting → Item → Bool
@@ -163,18 +163,18 @@ word_holds ErrorCount value = is_some (held_integer value)
 
 -- whether a root can hold a value
 abbrev pub root_holds : Root → Value → Bool
-root_holds (Global place) value = true
-root_holds (Static place) value = true
-root_holds (Local place) value = true
+root_holds (Global index) value = true
+root_holds (Static index) value = true
+root_holds (Local index) value = true
 root_holds (Element list number) value = true
-root_holds (Field structure place) value = true
+root_holds (Field structure index) value = true
 root_holds (Key table key) value = true
 root_holds (Keyword word) value = word_holds word value
 
 -- whether a variable can hold a value
 abbrev pub can_hold : Variable → Value → Bool
 can_hold (Whole root) value = root_holds root value
-can_hold (Part root place size) value = is_some (held_text value)
+can_hold (Part root position size) value = is_some (held_text value)
 
 -- an old value of a variable
 abbrev pub is_old : Names → Setting → Variable → Value → Bool
@@ -186,13 +186,13 @@ is_old names setting variable value =
 
 -- what a residual names is there
 abbrev pub is_residual : Names → Setting → Residual → Bool
-is_residual names setting (TextBytes text place) = are_bytes text
-is_residual names setting (VariableBytes variable place) = is_variable names setting variable
-is_residual names setting (ListItems id place) = nat_lt id (length setting.world.heap.lists)
-is_residual names setting (SetMembers id place) = nat_lt id (length setting.world.heap.sets)
-is_residual names setting (TableValues id place) = nat_lt id (length setting.world.heap.tables)
-is_residual names setting (TableKeys id place) = nat_lt id (length setting.world.heap.tables)
-is_residual names setting (RecordFields id place) = nat_lt id (length setting.world.heap.records)
+is_residual names setting (TextBytes text offset) = are_bytes text
+is_residual names setting (VariableBytes variable offset) = is_variable names setting variable
+is_residual names setting (ListItems id index) = nat_lt id (length setting.world.heap.lists)
+is_residual names setting (SetMembers id index) = nat_lt id (length setting.world.heap.sets)
+is_residual names setting (TableValues id index) = nat_lt id (length setting.world.heap.tables)
+is_residual names setting (TableKeys id index) = nat_lt id (length setting.world.heap.tables)
+is_residual names setting (RecordFields id index) = nat_lt id (length setting.world.heap.records)
 is_residual names setting InputLines = true
 is_residual names setting (UndoAssign variable old) = is_old names setting variable old
 is_residual names setting (UndoExchange mover x y old_x old_y) =
@@ -200,9 +200,9 @@ is_residual names setting (UndoExchange mover x y old_x old_y) =
 is_residual names setting (UndoPosition old) = nat_le 1 old
 is_residual names setting (Counting n last step) = fits n && (fits last && fits step)
 is_residual names setting (Sequence n step) = fits n && fits step
-is_residual names setting (Balanced wanted opening closing text place last) = are_bytes text && nat_le 1 place
-is_residual names setting (Found wanted text place last) = are_bytes text && nat_le 1 place
-is_residual names setting (Among bytes text place last) = are_bytes text && nat_le 1 place
+is_residual names setting (Balanced wanted opening closing text position last) = are_bytes text && nat_le 1 position
+is_residual names setting (Found wanted text position last) = are_bytes text && nat_le 1 position
+is_residual names setting (Among bytes text position last) = are_bytes text && nat_le 1 position
 
 -- What an outcome leaves. A structure is never taken away, so that what was live stays so.
 abbrev pub is_outcome : Names → Outcome → Bool

@@ -109,9 +109,9 @@ number_or_error (Ok n) next setting = next n setting
 number_or_error (Err why) next setting = Error (arithmetic_error why) None setting
 
 -- a test that is met, else the row fails
-abbrev pub passing : Bool → Row → Row
-passing true next setting = next setting
-passing false next setting = Fails setting
+abbrev pub fails_unless : Bool → Row → Row
+fails_unless true next setting = next setting
+fails_unless false next setting = Fails setting
 
 -- a thing that is there, else the row fails
 abbrev pub thing_or_failure : {A : Type 0} → Option A → Finds A

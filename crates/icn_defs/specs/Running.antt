@@ -1,9 +1,9 @@
 -- How a run starts, what is put as it ends early, and what is observed of it, whether it is the evaluation of a program or the run of its code.
-use Rattle.std.specs.Prelude.{◌≡◌, ℕ, ℤ, pos, zero, suc, List, [], ◌∷◌, ◌++◌, length, replicate, Option, None, Some, codes}
+use Rattle.std.specs.Prelude.{◌≡◌, ℕ, ℤ, pos, zero, suc, List, [], ◌∷◌, length, map, replicate, Option, None, Some, codes}
 use Rattle.std.specs.List.{sum_by}
 use Rattle.icn_value.specs.Limited.{Bounds}
 use Rattle.icn_value.specs.Values.{Value, Null, Integer, Text}
-use Rattle.icn_value.specs.Store.{Heap, World, Outside, outside_of}
+use Rattle.icn_value.specs.Store.{ErrorByte, Heap, World, Outside, outside_of, with_events}
 use Rattle.icn_defs.specs.Conversions.{integer_of}
 use Rattle.icn_defs.specs.Rows.{◌>>◌, Row, costs_bytes}
 use Rattle.icn_defs.specs.StepRows.{list_row}
@@ -20,7 +20,7 @@ pub data Ending : Type 0 where
   Errored : ℕ → Ending
   AtBound : Ending
 
--- how a run ended, the input left, and what was put on both outputs, with the report of an error or of the bound
+-- how a run ended, the input left, and all that was done outside, with the report of an error or of the bound
 pub record Observation : Type 0 where
   pub ending : Ending
   pub outside : Outside
@@ -52,7 +52,7 @@ bound_report = codes "turn bound reached\n"
 
 -- the outside with a text put on its error output
 abbrev pub with_errors : List ℕ → Outside → Outside
-with_errors text outside = record outside { errors = outside.errors ++ text }
+with_errors text outside = with_events (map ErrorByte text) outside
 
 -- The heap before anything is made. Co-expression 0 is `&main`; its count of results begins with 0.
 abbrev pub first_heap : Bounds → Heap
@@ -80,6 +80,7 @@ first_world bounds globals statics = record {
   kept = None;
 }
 
+-- words as values: a text each
 abbrev pub text_values : List (List ℕ) → List Value
 text_values [] = []
 text_values (word ∷ words) = Text word ∷ text_values words

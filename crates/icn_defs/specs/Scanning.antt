@@ -1,11 +1,11 @@
--- The functions that look at a text from a place on, and those that move in the subject.
+-- The functions that look at a text from a position on, and those that move in the subject.
 use Rattle.std.specs.Prelude.{◌==◌, ◌+◌, ◌-◌, ◌&&◌, ℕ, zero, suc, ℤ, pos, negsuc, ◌+ℤ◌, Bool, true, min, max, nat_lt, nat_le, List, [], ◌∷◌, length, find, slice_index, slice_range, Option, None, Some, option_and_then, codes, if◌then◌else◌}
 use Rattle.std.specs.List.{range_with_len, prefix_len}
 use Rattle.std.specs.Str.{bytes_eq}
 use Rattle.icn_value.specs.Values.{Value, Integer, Text, Chars, Item, Val}
 use Rattle.icn_value.specs.Store.{having_position}
-use Rattle.icn_defs.specs.Conversions.{contains, members, place_of, is_null}
-use Rattle.icn_defs.specs.Rows.{◌>>=◌, ◌>>◌, Row, Finds, UndoPosition, Balanced, Found, Among, fails, gives_value, suspends, check, passing, thing_or_failure, here, changes, costs_text, costs_texts}
+use Rattle.icn_defs.specs.Conversions.{contains, members, position_of, is_null}
+use Rattle.icn_defs.specs.Rows.{◌>>=◌, ◌>>◌, Row, Finds, UndoPosition, Balanced, Found, Among, fails, gives_value, suspends, check, fails_unless, thing_or_failure, here, changes, costs_text, costs_texts}
 use Rattle.icn_defs.specs.ReadAndAssign.{the_value}
 use Rattle.icn_defs.specs.Arguments.{arg, arg_or, integer, string, cset}
 use Rattle.icn_defs.specs.Variables.{places}
@@ -18,9 +18,9 @@ pub record SearchedText : Type 0 where
   pub first : ℤ
   pub last : ℤ
 
--- the byte behind a place
+-- the byte behind a position
 abbrev pub byte_behind : List ℕ → ℕ → ℕ
-byte_behind text place = slice_index text (place - 1)
+byte_behind text position = slice_index text (position - 1)
 
 -- the bytes between two places
 abbrev pub between : List ℕ → ℕ → ℕ → List ℕ
@@ -41,11 +41,11 @@ region_from args n next = do
 abbrev pub ends_of : SearchedText → Finds (ℕ × ℕ)
 ends_of region = places region.first region.last (length region.text)
 
--- Tests at the first place
+-- Tests at the first position
 
--- it gives a place
-abbrev pub gives_place : ℕ → Row
-gives_place place = gives_value (Integer (pos place))
+-- it gives a position
+abbrev pub gives_position : ℕ → Row
+gives_position position = gives_value (Integer (pos position))
 
 -- `any(c, s, i, j)`
 abbrev pub any_row : List Value → Row
@@ -54,8 +54,8 @@ any_row args = do
   region ← region_from args 1
   costs_text (arg args 1)
   ends ← ends_of region
-  passing (nat_lt ends.0 ends.1 && contains bytes (byte_behind region.text ends.0))
-  gives_place (ends.0 + 1)
+  fails_unless (nat_lt ends.0 ends.1 && contains bytes (byte_behind region.text ends.0))
+  gives_position (ends.0 + 1)
 
 -- `many(c, s, i, j)`
 abbrev pub many_row : List Value → Row
@@ -65,13 +65,13 @@ many_row args = do
   costs_text (arg args 1)
   ends ← ends_of region
   let count = prefix_len (contains bytes) (between region.text ends.0 ends.1)
-  passing (nat_lt 0 count)
-  gives_place (ends.0 + count)
+  fails_unless (nat_lt 0 count)
+  gives_position (ends.0 + count)
 
--- whether a text stands behind a place and ends by another one
+-- whether a text stands behind a position and ends by another one
 abbrev pub stands : List ℕ → List ℕ → ℕ → ℕ → Bool
-stands wanted text place last =
-    nat_le (place + length wanted) last && bytes_eq wanted (between text place (place + length wanted))
+stands wanted text position last =
+    nat_le (position + length wanted) last && bytes_eq wanted (between text position (position + length wanted))
 
 -- `match(s1, s, i, j)`
 abbrev pub match_row : List Value → Row
@@ -80,17 +80,17 @@ match_row args = do
   region ← region_from args 1
   costs_texts (arg args 0 ∷ arg args 1 ∷ [])
   ends ← ends_of region
-  passing (stands wanted region.text ends.0 ends.1)
-  gives_place (ends.0 + length wanted)
+  fails_unless (stands wanted region.text ends.0 ends.1)
+  gives_position (ends.0 + length wanted)
 
--- Searches: each place is given, and the search goes on behind it
+-- Searches: each position is given, and the search goes on behind it
 
--- the next place from this one on at which the text stands
+-- the next position from this one on at which the text stands
 abbrev pub found_from : List ℕ → List ℕ → ℕ → ℕ → Row
-found_from wanted text place last = do
-  place ← thing_or_failure
-      (find (λ place. stands wanted text place last) (range_with_len place (last + 1 - place)))
-  suspends (Val (Integer (pos place))) (Found wanted text place last)
+found_from wanted text position last = do
+  position ← thing_or_failure
+      (find (λ position. stands wanted text position last) (range_with_len position (last + 1 - position)))
+  suspends (Val (Integer (pos position))) (Found wanted text position last)
 
 -- `find(s1, s, i, j)`
 abbrev pub find_row : List Value → Row
@@ -101,12 +101,12 @@ find_row args = do
   ends ← ends_of region
   found_from wanted region.text ends.0 ends.1
 
--- the next place from this one on before a byte of the cset
+-- the next position from this one on before a byte of the cset
 abbrev pub among_from : List ℕ → List ℕ → ℕ → ℕ → Row
-among_from bytes text place last = do
-  let places = range_with_len place (last - place)
-  place ← thing_or_failure (find (λ place. contains bytes (byte_behind text place)) places)
-  suspends (Val (Integer (pos place))) (Among bytes text place last)
+among_from bytes text position last = do
+  let positions = range_with_len position (last - position)
+  position ← thing_or_failure (find (λ position. contains bytes (byte_behind text position)) positions)
+  suspends (Val (Integer (pos position))) (Among bytes text position last)
 
 -- `upto(c, s, i, j)`
 abbrev pub upto_row : List Value → Row
@@ -128,26 +128,26 @@ count_behind opening closing byte count =
     if contains opening byte then Some (count + 1)
     else (if contains closing byte then close_one count else Some count)
 
--- the first place at which the count is 0 and a byte of the cset stands; these are the bytes behind the
--- place that is said
-abbrev pub balanced_place : List ℕ → List ℕ → List ℕ → List ℕ → ℕ → ℕ → Option ℕ
-balanced_place wanted opening closing [] place count = None
-balanced_place wanted opening closing (byte ∷ bytes) place count =
-    if (count == 0) && contains wanted byte then Some place
-    else option_and_then (λ later. balanced_place wanted opening closing bytes (place + 1) later)
+-- the first position at which the count is 0 and a byte of the cset stands; these are the bytes behind the
+-- position that is said
+abbrev pub balanced_position : List ℕ → List ℕ → List ℕ → List ℕ → ℕ → ℕ → Option ℕ
+balanced_position wanted opening closing [] position count = None
+balanced_position wanted opening closing (byte ∷ bytes) position count =
+    if (count == 0) && contains wanted byte then Some position
+    else option_and_then (λ later. balanced_position wanted opening closing bytes (position + 1) later)
     (count_behind opening closing byte count)
 
--- the next place from this one on, with this count there
+-- the next position from this one on, with this count there
 abbrev pub balanced_from : List ℕ → List ℕ → List ℕ → List ℕ → ℕ → ℕ → ℕ → Row
-balanced_from wanted opening closing text place last count = do
-  place ← thing_or_failure (balanced_place wanted opening closing (between text place last) place count)
-  suspends (Val (Integer (pos place))) (Balanced wanted opening closing text place last)
+balanced_from wanted opening closing text position last count = do
+  position ← thing_or_failure (balanced_position wanted opening closing (between text position last) position count)
+  suspends (Val (Integer (pos position))) (Balanced wanted opening closing text position last)
 
--- resumed, the search goes on behind the byte at its last place, where the count was 0
+-- resumed, the search goes on behind the byte at its last position, where the count was 0
 abbrev pub balanced_again : List ℕ → List ℕ → List ℕ → List ℕ → ℕ → ℕ → Row
-balanced_again wanted opening closing text place last = do
-  count ← thing_or_failure (count_behind opening closing (byte_behind text place) 0)
-  balanced_from wanted opening closing text (place + 1) last count
+balanced_again wanted opening closing text position last = do
+  count ← thing_or_failure (count_behind opening closing (byte_behind text position) 0)
+  balanced_from wanted opening closing text (position + 1) last count
 
 -- `bal(c1, c2, c3, s, i, j)`
 abbrev pub bal_row : List Value → Row
@@ -162,13 +162,13 @@ bal_row args = do
 
 -- Moving in the subject
 
--- to a place: the bytes between it and the old place are given; resumed, `&pos` gets its old value
+-- to a position: the bytes between it and the old one are given; resumed, `&pos` gets its old value
 abbrev pub tabs_to : ℕ → Row
-tabs_to place = do
+tabs_to position = do
   setting ← here
   let old = setting.world.position
-  changes (having_position place)
-  suspends (Val (Text (between setting.world.subject (min old place) (max old place)))) (UndoPosition old)
+  changes (having_position position)
+  suspends (Val (Text (between setting.world.subject (min old position) (max old position)))) (UndoPosition old)
 
 -- 205 where the subject is too short now
 abbrev pub undo_position_again : ℕ → Row
@@ -183,30 +183,30 @@ abbrev pub tab_row : List Value → Row
 tab_row args = do
   n ← integer (arg args 0)
   setting ← here
-  place ← thing_or_failure (place_of n (length setting.world.subject))
-  tabs_to place
+  position ← thing_or_failure (position_of n (length setting.world.subject))
+  tabs_to position
 
--- a sum that is a place; it does not count from the end
-abbrev pub plain_place : ℤ → ℕ → Option ℕ
-plain_place (pos n) size = if nat_le 1 n && nat_le n (size + 1) then Some n else None
-plain_place (negsuc n) size = None
+-- a sum that is a position; it does not count from the end
+abbrev pub plain_position : ℤ → ℕ → Option ℕ
+plain_position (pos n) size = if nat_le 1 n && nat_le n (size + 1) then Some n else None
+plain_position (negsuc n) size = None
 
 -- `move(i)`
 abbrev pub move_row : List Value → Row
 move_row args = do
   n ← integer (arg args 0)
   setting ← here
-  place ← thing_or_failure (plain_place (pos setting.world.position +ℤ n) (length setting.world.subject))
-  tabs_to place
+  position ← thing_or_failure (plain_position (pos setting.world.position +ℤ n) (length setting.world.subject))
+  tabs_to position
 
 -- `pos(i)`
 abbrev pub pos_row : List Value → Row
 pos_row args = do
   n ← integer (arg args 0)
   setting ← here
-  place ← thing_or_failure (place_of n (length setting.world.subject))
-  passing (place == setting.world.position)
-  gives_place place
+  position ← thing_or_failure (position_of n (length setting.world.subject))
+  fails_unless (position == setting.world.position)
+  gives_position position
 
 -- `=s`
 abbrev pub tab_match_row : Item → Row
@@ -215,6 +215,6 @@ tab_match_row x = do
   wanted ← string v
   costs_text v
   setting ← here
-  let place = setting.world.position
-  passing (stands wanted setting.world.subject place (length setting.world.subject + 1))
-  tabs_to (place + length wanted)
+  let position = setting.world.position
+  fails_unless (stands wanted setting.world.subject position (length setting.world.subject + 1))
+  tabs_to (position + length wanted)

@@ -12,6 +12,7 @@ pub use Rattle.icn_defs.specs.Operations.{dereference_row as value_row}
 use Rattle.icn_defs.specs.Structures.{new_record_of}
 use Rattle.icn_defs.specs.Applying.{operation_row, function_row}
 
+-- what has a row: an operation or a function
 pub data OperationOrFunction : Type 0 where
   Operation : Op → OperationOrFunction
   Function : Func → OperationOrFunction

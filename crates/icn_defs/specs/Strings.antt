@@ -136,18 +136,18 @@ type_row names args = do
 -- Texts
 
 -- the text that a field is filled with: a blank where it is empty
-abbrev pub filling : List ℕ → List ℕ
-filling [] = 32 ∷ []
-filling (byte ∷ bytes) = byte ∷ bytes
+abbrev pub filling_text : List ℕ → List ℕ
+filling_text [] = 32 ∷ []
+filling_text (byte ∷ bytes) = byte ∷ bytes
 
 -- so many bytes of a text put again and again, aligned at the left end
 abbrev pub filled_left : List ℕ → ℕ → List ℕ
-filled_left fill count = take count (concat (replicate count (filling fill)))
+filled_left fill count = take count (concat (replicate count (filling_text fill)))
 
 -- so many bytes of a text put again and again, aligned at the right end
 abbrev pub filled_right : List ℕ → ℕ → List ℕ
 filled_right fill count =
-    let text = concat (replicate count (filling fill)) in drop (length text - count) text
+    let text = concat (replicate count (filling_text fill)) in drop (length text - count) text
 
 -- a text at the left end of a field of so many bytes
 abbrev pub left_text : List ℕ → ℕ → List ℕ → List ℕ

@@ -7,7 +7,7 @@ use Rattle.icn_structs.specs.PairLists.{value_of, without}
 use Rattle.icn_value.specs.Values.{Value, Null, Integer, AList, ATable, ARecord, Val}
 use Rattle.icn_value.specs.Store.{Heap, Table, Record, Names, list_at, set_at, table_at, record_at, with_list, with_set, with_table}
 use Rattle.icn_defs.specs.Conversions.{ValueGroup, Textual, Listed, Collected, Tabled, Recorded, Filed, Activated, Single, group_of, same, has_value, with_member, sort_list, is_null}
-use Rattle.icn_defs.specs.Rows.{◌>>=◌, ◌>>◌, Row, Finds, TableKeys, gives_value, suspends, wrong, check, passing, thing_or_failure, natural, here, changes_heap, costs_cells, new_list_of, gives_list}
+use Rattle.icn_defs.specs.Rows.{◌>>=◌, ◌>>◌, Row, Finds, TableKeys, gives_value, suspends, wrong, check, fails_unless, thing_or_failure, natural, here, changes_heap, costs_cells, new_list_of, gives_list}
 use Rattle.icn_defs.specs.ReadAndAssign.{costs_unless, stores}
 use Rattle.icn_defs.specs.Operations.{new_set_of}
 use Rattle.icn_defs.specs.Arguments.{arg, arg_or, integer, list, list_of, table, Keeper, SetKeeper, TableKeeper, keeper}
@@ -175,15 +175,15 @@ abbrev pub member_row : List Value → Row
 member_row args = do
   kept ← keeper (arg args 0)
   setting ← here
-  passing (has_key setting.world.heap kept (arg args 1))
+  fails_unless (has_key setting.world.heap kept (arg args 1))
   gives_value (arg args 1)
 
--- the key at a place, from 0 on, with the place behind it; it fails where none stands there
+-- the key at an index, from 0 on, with the index behind it; it fails where none stands there
 abbrev pub table_keys_from : ℕ → ℕ → Row
-table_keys_from id place = do
+table_keys_from id index = do
   setting ← here
-  pair ← thing_or_failure (slice_get (table_at setting.world.heap id).pairs place)
-  suspends (Val pair.0) (TableKeys id (place + 1))
+  pair ← thing_or_failure (slice_get (table_at setting.world.heap id).pairs index)
+  suspends (Val pair.0) (TableKeys id (index + 1))
 
 -- `key(T)`
 abbrev pub key_row : List Value → Row

@@ -4,8 +4,8 @@ use Rattle.icn_text.specs.declared.arithmetic.Arith.{Arith}
 use Rattle.icn_text.specs.IntegerArithmetic.{sum, difference}
 use Rattle.icn_value.specs.Values.{Value, Variable, Item, Var}
 use Rattle.icn_value.specs.Store.{list_at, record_at}
-use Rattle.icn_defs.specs.Conversions.{ValueGroup, Textual, Listed, Collected, Tabled, Recorded, Filed, Activated, Single, group_of, place_of}
-use Rattle.icn_defs.specs.Rows.{◌>>=◌, ◌>>◌, Row, Finds, Mover, UndoAssign, UndoExchange, fails, gives, suspends, wrong, number_or_error, passing, thing_or_failure, here, costs_text, gives_list}
+use Rattle.icn_defs.specs.Conversions.{ValueGroup, Textual, Listed, Collected, Tabled, Recorded, Filed, Activated, Single, group_of, position_of}
+use Rattle.icn_defs.specs.Rows.{◌>>=◌, ◌>>◌, Row, Finds, Mover, UndoAssign, UndoExchange, fails, gives, suspends, wrong, number_or_error, fails_unless, thing_or_failure, here, costs_text, gives_list}
 use Rattle.icn_defs.specs.ReadAndAssign.{the_value, the_variable, assigns, undoes, exchanges, undoes_exchange, mover_of}
 use Rattle.icn_defs.specs.Arguments.{integer}
 use Rattle.icn_defs.specs.Elements.{part_item, text_variable, element_item, field_item, key_item}
@@ -64,31 +64,31 @@ undo_exchange_again mover x y old_x old_y = do
 -- Subscripts
 
 -- the element that a position stands before, from 1 on; it fails where none does
-abbrev pub element_place : ℤ → ℕ → Finds ℕ
-element_place n size next = do
-  place ← thing_or_failure (place_of n size)
-  passing (nat_le place size)
-  next place
+abbrev pub element_position : ℤ → ℕ → Finds ℕ
+element_position n size next = do
+  position ← thing_or_failure (position_of n size)
+  fails_unless (nat_le position size)
+  next position
 
 -- the element, the field, the byte or the value at a key: 114 for other values
 abbrev pub subscript_of : Item → Value → Value → ValueGroup → Row
 subscript_of x v w (Textual text) = do
   n ← integer w
   costs_text v
-  place ← element_place n (length text)
-  gives (part_item (text_variable x v) text place 1)
+  position ← element_position n (length text)
+  gives (part_item (text_variable x v) text position 1)
 subscript_of x v w (Listed id) = do
   n ← integer w
   setting ← here
   let list = list_at setting.world.heap id
-  place ← element_place n (length list.items)
-  gives (element_item id list (place - 1))
+  position ← element_position n (length list.items)
+  gives (element_item id list (position - 1))
 subscript_of x v w (Tabled id) = gives (key_item id w)
 subscript_of x v w (Recorded id) = do
   n ← integer w
   setting ← here
-  place ← element_place n (length (record_at setting.world.heap id).fields)
-  gives (field_item id (place - 1))
+  position ← element_position n (length (record_at setting.world.heap id).fields)
+  gives (field_item id (position - 1))
 subscript_of x v w (Collected id) = wrong 114 (Some v)
 subscript_of x v w (Filed file) = wrong 114 (Some v)
 subscript_of x v w (Activated id) = wrong 114 (Some v)
@@ -110,8 +110,8 @@ in_order a b = if nat_le a b then (a, b) else (b, a)
 -- the places that two positions mean, the smaller first; it fails where one is out of range
 abbrev pub places : ℤ → ℤ → ℕ → Finds (ℕ × ℕ)
 places m n size next = do
-  a ← thing_or_failure (place_of m size)
-  b ← thing_or_failure (place_of n size)
+  a ← thing_or_failure (position_of m size)
+  b ← thing_or_failure (position_of n size)
   next (in_order a b)
 
 -- two positions, of which the second is made of the two integers

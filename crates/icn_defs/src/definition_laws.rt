@@ -1,16 +1,15 @@
 // Laws of the tables.
-ghost use Rattle.std.specs.Prelude.{◌≡◌, ℕ, List, Some};
+ghost use Rattle.std.specs.Prelude.{◌≡◌, ◌++◌, ℕ, List, [], ◌∷◌, Some, drop};
 ghost use Rattle.icn_defs.specs.InputOutput.{put_on};
-ghost use Rattle.icn_defs.specs.Interruptions.{BreaksRun, BreaksRunReading, Ends, IsOutsideOf, Streams, after_reading};
+ghost use Rattle.icn_defs.specs.Interruptions.{ExtendsBy, after_reading, left_behind};
 ghost use Rattle.icn_defs.specs.Numbers.{func_of, keyword_of, op_of};
-ghost use Rattle.icn_defs.specs.Running.{Observation};
 ghost use Rattle.icn_text.specs.Funcs.{func_number};
 ghost use Rattle.icn_text.specs.Keywords.{keyword_number};
 ghost use Rattle.icn_text.specs.Ops.{op_number};
 ghost use Rattle.icn_text.specs.declared.func.Func.{Func};
 ghost use Rattle.icn_text.specs.declared.keyword.Keyword.{Keyword};
 ghost use Rattle.icn_text.specs.declared.op.Op.{Op};
-ghost use Rattle.icn_value.specs.Store.{Request, Outside, outside_of};
+ghost use Rattle.icn_value.specs.Store.{AReading, Event, Outside, Request};
 ghost use Rattle.icn_value.specs.Values.{File};
 
 /// The number of an operation, a function or a keyword leads back to it, and what a number leads to has that number.
@@ -24,17 +23,15 @@ pub fn numbers_lead_back()
         → keyword_number keyword ≡ n }
 {}
 
-/// A run that ended, and one that a failed reading broke off, left first parts of what it puts and takes, as every run that was broken off. A
-/// program's outside begins as one that a run comes to, and each put and each reading keeps it so.
-pub fn broken_off()
-    ensures ended { (input : List ℕ) (seen : Observation) (before after : Streams)
-        → IsOutsideOf input seen.outside → Ends seen before after → BreaksRun input seen before after }
-    ensures reading { (input : List ℕ) (seen : Observation) (before after : Streams)
-        → IsOutsideOf input seen.outside → BreaksRunReading seen before after
-        → BreaksRun input seen before after }
-    ensures begun { (input : List ℕ) → IsOutsideOf input (outside_of input) }
-    ensures put { (input : List ℕ) (outside : Outside) (file : File) (text : List ℕ)
-        → IsOutsideOf input outside → IsOutsideOf input (put_on file text outside) }
-    ensures read { (input : List ℕ) (outside : Outside) (asked : Request) → IsOutsideOf input outside
-        → IsOutsideOf input (after_reading asked outside) }
+/// What is done outside adds up: each put and each reading is some events, and events lead on from where others led. What is left
+/// of an input behind any events is a rest of it.
+pub fn events_add_up()
+    ensures put { (outside : Outside) (file : File) (text : List ℕ)
+        → (done : List Event) × ExtendsBy outside done (put_on file text outside) }
+    ensures read { (outside : Outside) (asked : Request)
+        → ExtendsBy outside (AReading asked ∷ []) (after_reading asked outside) }
+    ensures joined { (was now later : Outside) (first second : List Event) → ExtendsBy was first now
+        → ExtendsBy now second later → ExtendsBy was (first ++ second) later }
+    ensures rest { (left : List ℕ) (done : List Event)
+        → (taken : ℕ) × (left_behind left done ≡ drop taken left) }
 {}

@@ -9,7 +9,7 @@ mod error_texts;
 mod numbers;
 
 pub use arities::arity;
-pub use definition_laws::{broken_off, numbers_lead_back};
+pub use definition_laws::{events_add_up, numbers_lead_back};
 pub use ending::Ending;
 pub use error_texts::error_text;
 pub use numbers::{func_numbered, keyword_numbered, op_numbered};

@@ -68,6 +68,7 @@ abbrev pub with_last : Trees → Tree → Trees
 with_last NoTrees last = More last NoTrees
 with_last (More tree trees) last = More tree (with_last trees last)
 
+-- one more clause at the end
 abbrev pub with_last_clause : Clauses → Clause → Clauses
 with_last_clause NoClauses last = MoreClauses last NoClauses
 with_last_clause (MoreClauses clause others) last = MoreClauses clause (with_last_clause others last)

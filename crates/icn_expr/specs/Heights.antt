@@ -2,6 +2,7 @@
 use Rattle.std.specs.Prelude.{ℕ, suc, max}
 use Rattle.icn_tree.specs.Trees.{Tree, MaybeTree, Trees, Clause, Clauses, Empty, Constant, Identifier, Keyword, Parentheses, Listing, Compound, Call, CoCall, Subscript, Section, Field, Prefix, Not, Binary, To, If, Case, Loop, Repeat, Create, Next, Fail, Break, Return, Suspend, Absent, Present, NoTrees, More, Default, Guarded, NoClauses, MoreClauses, Initial, NoInitial, Initially, Procedure}
 
+-- the heights of trees, of lists of trees and of clauses
 abbrev mutual
   -- the height of a tree
   pub height : Tree → ℕ

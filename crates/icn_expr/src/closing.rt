@@ -565,7 +565,7 @@ fn close_frame<'a>(
     Ok((climb_at(level, place, whole), tokens))
 }
 
-/// A part is complete.
+/// A part is complete. The error is want of memory.
 pub fn close<'a>(
     stack: &mut OpenForms,
     alloc: Global,

@@ -20,7 +20,7 @@ use icn_tree::{
 };
 use std::alloc::{AllocError, Global};
 
-// A form is open, and a part of it begins.
+/// A form is open, and a part of it begins. The error is want of memory.
 pub fn open_form(
     stack: &mut OpenForms,
     level: u32,
@@ -85,6 +85,7 @@ fn word_operand(
     }
 }
 
+/// The state at which a tree stands, with which the next token may go on.
 pub fn climb_at(level: u32, place: Place, value: CappedTree) -> ReadingState
     ensures { (frames : List OpenFrame) (tokens : List Token)
         → state_of result frames tokens ≡ Climbing level place (capped_of value) frames tokens }
@@ -322,7 +323,7 @@ fn operand<'a>(
     }
 }
 
-// An expression begins.
+/// An expression begins. The error is want of memory.
 pub fn start<'a>(
     stack: &mut OpenForms,
     alloc: Global,
@@ -352,7 +353,7 @@ pub fn start<'a>(
     )
 }
 
-// An operand begins with what is left of its operator's token.
+/// An operand begins with what is left of its operator's token. The error is want of memory.
 pub fn start_with<'a>(
     stack: &mut OpenForms,
     alloc: Global,
@@ -379,7 +380,7 @@ fn close_with(value: CappedTree) -> ReadingState
     }
 }
 
-// A tree, with which the next token may go on.
+/// A tree, with which the next token may go on. The error is want of memory.
 pub fn climb<'a>(
     stack: &mut OpenForms,
     alloc: Global,

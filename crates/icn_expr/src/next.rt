@@ -43,6 +43,7 @@ pub fn section_next(tokens: &[Token]) -> Option<SectionKind>
     }
 }
 
+/// Whether `then` stands next.
 pub fn then_next(tokens: &[Token]) -> bool
     ensures { result ≡ is_then (next tokens.now) }
 {
@@ -52,6 +53,7 @@ pub fn then_next(tokens: &[Token]) -> bool
     }
 }
 
+/// Whether `else` stands next.
 pub fn else_next(tokens: &[Token]) -> bool
     ensures { result ≡ is_else (next tokens.now) }
 {
@@ -61,6 +63,7 @@ pub fn else_next(tokens: &[Token]) -> bool
     }
 }
 
+/// Whether `do` stands next.
 pub fn do_next(tokens: &[Token]) -> bool
     ensures { result ≡ is_do (next tokens.now) }
 {
@@ -70,6 +73,7 @@ pub fn do_next(tokens: &[Token]) -> bool
     }
 }
 
+/// Whether `by` stands next.
 pub fn by_next(tokens: &[Token]) -> bool
     ensures { result ≡ is_by (next tokens.now) }
 {
@@ -79,6 +83,7 @@ pub fn by_next(tokens: &[Token]) -> bool
     }
 }
 
+/// Whether `of` stands next.
 pub fn of_next(tokens: &[Token]) -> bool
     ensures { result ≡ is_of (next tokens.now) }
 {
@@ -88,6 +93,7 @@ pub fn of_next(tokens: &[Token]) -> bool
     }
 }
 
+/// Whether `default` stands next.
 pub fn default_next(tokens: &[Token]) -> bool
     ensures { result ≡ is_default (next tokens.now) }
 {
@@ -97,6 +103,7 @@ pub fn default_next(tokens: &[Token]) -> bool
     }
 }
 
+/// Whether a comma stands next.
 pub fn comma_next(tokens: &[Token]) -> bool
     ensures { result ≡ is_separator ByComma (next tokens.now) }
 {
@@ -106,6 +113,7 @@ pub fn comma_next(tokens: &[Token]) -> bool
     }
 }
 
+/// Whether a semicolon stands next.
 pub fn semicolon_next(tokens: &[Token]) -> bool
     ensures { result ≡ is_separator BySemicolon (next tokens.now) }
 {
@@ -115,6 +123,7 @@ pub fn semicolon_next(tokens: &[Token]) -> bool
     }
 }
 
+/// Whether a colon stands next.
 pub fn colon_next(tokens: &[Token]) -> bool
     ensures { result ≡ is_colon (next tokens.now) }
 {
@@ -124,6 +133,7 @@ pub fn colon_next(tokens: &[Token]) -> bool
     }
 }
 
+/// Whether an opening brace stands next.
 pub fn open_brace_next(tokens: &[Token]) -> bool
     ensures { result ≡ is_open_brace (next tokens.now) }
 {
@@ -133,6 +143,7 @@ pub fn open_brace_next(tokens: &[Token]) -> bool
     }
 }
 
+/// Whether a closing parenthesis stands next.
 pub fn close_parenthesis_next(tokens: &[Token]) -> bool
     ensures { result ≡ is_close_parenthesis (next tokens.now) }
 {
@@ -142,6 +153,7 @@ pub fn close_parenthesis_next(tokens: &[Token]) -> bool
     }
 }
 
+/// Whether a closing bracket stands next.
 pub fn close_bracket_next(tokens: &[Token]) -> bool
     ensures { result ≡ is_close_bracket (next tokens.now) }
 {
@@ -151,6 +163,7 @@ pub fn close_bracket_next(tokens: &[Token]) -> bool
     }
 }
 
+/// Whether a closing brace stands next.
 pub fn close_brace_next(tokens: &[Token]) -> bool
     ensures { result ≡ is_close_brace (next tokens.now) }
 {

@@ -35,15 +35,17 @@ pub struct Branches {
     pub height: u32,
 }
 
-// What is too high is let go.
+/// What is too high is let go.
 pub fn discard(value: CappedTree) {
     drop(value);
 }
 
+/// Elements that no tree takes are let go.
 pub fn discard_elements(elements: Elements) {
     drop(elements);
 }
 
+/// Branches that no tree takes are let go.
 pub fn discard_branches(branches: Branches) {
     drop(branches);
 }

@@ -1,10 +1,13 @@
 // The calls of a stack.
-ghost use Rattle.std.specs.Prelude.{◌≡◌, ◌+◌, ◌<◌, ◌≤◌, ◌^◌, ℕ, Option, None, Bool, true, false, OnOk, OnErr, IsOk, IfOk, IfSome, IsSome, is_some, is_none, length, map, slice_get, slice_set};
+ghost use Rattle.std.specs.Prelude.{◌≡◌, ◌+◌, ◌<◌, ◌≤◌, ◌^◌, ℕ, Option, None, Bool, List, ◌∷◌, true, false, OnOk, OnErr, IsOk, IfOk, IfSome, IsSome, is_some, is_none, length, map, slice_get, slice_set};
 ghost use Rattle.icn_frames.specs.Stacks as flat;
 ghost use Rattle.icn_frames.specs.Stacks.{FlatStack};
 ghost use Rattle.icn_frames.specs.StackInvariant.{shape, IsScan, MayBeAt};
 ghost use Rattle.icn_frames.specs.Slots.{plain_operand, plain_local, counting};
 ghost use Rattle.icn_frames.specs.Newest.{IsCounting, IsNewest};
+ghost use Rattle.icn_frames.specs.CalledWith.{EntersWith, HasOperands, operands_above};
+ghost use Rattle.icn_frames.specs.declared.layout.Cell.{Cell};
+ghost use Rattle.icn_frames.specs.declared.layout.Cell.TheVariants as CellVariants;
 ghost use Rattle.icn_frames.specs.declared.layout.Why.{Why};
 ghost use Rattle.icn_value.specs.declared.item.Item.TheVariants as Items;
 ghost use Rattle.icn_value.specs.declared.val.Val.TheVariants as Vals;
@@ -12,12 +15,12 @@ ghost use Rattle.icn_value.specs.declared.item.Item.{Item};
 ghost use Rattle.icn_value.specs.declared.val.Val.{Val};
 
 use crate::cells::Cells;
-use crate::layout::{Count, NewestKind, Registers, Why};
+use crate::layout::{Count, NewFrame, NewestKind, Registers, Why};
 use crate::slots::StackSlot;
 use crate::stack::Stack;
 use crate::steps::{
-    at_frame, bottom_of, hang, hang_count, is_same, older_than, oldest_from, put_locals,
-    scan_after, swap_at,
+    at_frame, bottom_of, frame_arguments, hang, hang_count, is_same, older_than, oldest_from,
+    put_locals, put_nulls, scan_after, swap_at,
 };
 use icn_value::{Item, Pair, Val};
 use std::alloc::{AllocError, Global};
@@ -26,9 +29,9 @@ use std::marker::Model;
 /// The stack of one co-expression.
 ///
 /// A clause sees the stack as cells, registers and an address in the code, and for how many more cells there is room. The base,
-/// and each procedure's frame, counts as the outermost mark of what runs in it. Only `new`, `reserve`, `mark`, `enter` and the
-/// calls that push or suspend take memory; after an error, which is want of memory, they leave all but the room as it was, and
-/// the room does not shrink.
+/// and each procedure's frame, counts as the outermost mark of what runs in it. Only `new`, `reserve`, `mark`, `enter`,
+/// `enter_with` and the calls that push or suspend take memory; after an error, which is want of memory, they leave all but the
+/// room as it was, and the room does not shrink.
 #[derive(Drop)]
 pub struct Frames<K: Stack<StackSlot> + Drop> {
     cells: Cells<K>,
@@ -543,6 +546,57 @@ impl<K: Stack<StackSlot> + Drop> Frames<K> {
         self.registers = at_frame(height);
         self.address = address;
         Ok(())
+    }
+
+    /// The slot of the operand below `count` others, and there must be so many. Where nothing is kept beside it, it tells the
+    /// operand.
+    #[inline(always)]
+    pub fn slot_below(&self, count: u32) -> StackSlot
+        requires { HasOperands (count + 1) self.now.flat.cells }
+        ensures { (x y : Item) (items : List Item) (rest : List Cell)
+            → self.now.flat.cells ≡ operands_above items (CellVariants.Operand x ∷ rest)
+            → length items ≡ count → plain_operand result ≡ Some y → x ≡ y }
+    {
+        self.cells.slot_at(self.cells.len() - 1 - count as u64)
+    }
+
+    /// Opens the frame of a procedure in the place of the operand below `count` others, and goes to an address: the values of
+    /// these are the first of its locals, and this many nulls come behind them. Whether it is so; it is not where the value of
+    /// one of them is not told by slots alone, and nothing changes then. The level of the call must be a number of 64 bits.
+    /// `AllocError` is want of memory; the stack is as it was then.
+    pub fn enter_with(
+        &mut self,
+        proc: u32,
+        count: u32,
+        nulls: u32,
+        address: u32,
+    ) -> Result<bool, AllocError>
+        requires level { flat.level self.old.flat + 1 < 2 ^ 64 }
+        requires operands { HasOperands (count + 1) self.old.flat.cells }
+        ensures enters { IfOk result (λ done. done ≡ true
+            → EntersWith proc count nulls address self.old.flat self.new.flat) }
+        ensures not { IfOk result (λ done. done ≡ false → self.new.flat ≡ self.old.flat) }
+        ensures err { OnErr result (self.new.flat ≡ self.old.flat) }
+        ensures spare { OnErr result (self.old.spare ≤ self.new.spare) }
+    {
+        let base = self.registers.base;
+        let own = self.cells.locals_at(base - 1);
+        let frame = NewFrame {
+            proc,
+            locals: count as u64 + nulls as u64,
+            level: self.level() + 1,
+            saved: self.registers,
+            address: self.address,
+        };
+        self.cells.reserve(nulls as u64)?;
+        let done = frame_arguments(&mut self.cells, &frame, base, own, count);
+        if done {
+            let height = self.cells.len() - count as u64;
+            put_nulls(&mut self.cells, nulls);
+            self.registers = at_frame(height);
+            self.address = address;
+        }
+        Ok(done)
     }
 
     /// Drops the running procedure's frame with all above it, and gives back what its caller had. There must be a caller.

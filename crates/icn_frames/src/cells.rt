@@ -172,6 +172,18 @@ impl<K: Stack<StackSlot> + Drop> Cells<K> {
         self.slots.push(slot);
     }
 
+    /// Puts a local on top by its slot, beside which nothing may be kept. There must be room for it.
+    #[inline(always)]
+    pub fn push_local_plain(&mut self, slot: StackSlot)
+        requires room { 0 < self.old.spare }
+        requires plain { IsSome (plain_local slot) }
+        ensures cells { (v : Val) → plain_local slot ≡ Some v
+            → self.new.cells ≡ CellVariants.Local v ∷ self.old.cells }
+        ensures spare { self.new.spare + 1 ≡ self.old.spare }
+    {
+        self.slots.push(slot);
+    }
+
     /// Puts the lowest frame on top. There must be room for it.
     pub fn push_base(&mut self, proc: u32, locals: u64)
         requires { 0 < self.old.spare }

@@ -60,6 +60,21 @@ pub struct Registers {
     pub scan: Option<u64>,
 }
 
+/// The frame of a call that is to be put.
+#[derive(Clone, Copy)]
+pub struct NewFrame {
+    /// The procedure that is called.
+    pub proc: u32,
+    /// How many locals it has.
+    pub locals: u64,
+    /// How deep it is called.
+    pub level: u64,
+    /// The registers of the caller.
+    pub saved: Registers,
+    /// Where the caller goes on.
+    pub address: u32,
+}
+
 /// One cell, as clauses see it. A frame has its locals directly above it.
 #[derive(Clone, Copy)]
 pub enum Cell {

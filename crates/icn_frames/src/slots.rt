@@ -12,6 +12,7 @@ ghost use Rattle.icn_frames.specs.declared.layout.Why.{Why};
 ghost use Rattle.icn_frames.specs.declared.layout.Registers.{Registers};
 
 use crate::layout::{Count, NewestKind, Registers, Why};
+use icn_profile::NUMBER_LIMIT;
 use icn_value::{File, Item, KeywordVariable, Pair, Residual, Root, Span, Val, VarRef};
 use std::alloc::AllocError;
 
@@ -279,7 +280,7 @@ pub fn keep_local(extras: &mut Vec<Extra>, at: u64, v: Val) -> StackSlot
         Val::Null => StackSlot::LocalNull,
         Val::Integer(number) => StackSlot::LocalInteger(number),
         Val::Text(Span { start, len }) => {
-            if len < 4294967296 {
+            if len < NUMBER_LIMIT {
                 StackSlot::LocalText {
                     len: len as u32,
                     start,
@@ -317,7 +318,7 @@ fn keep_value(extras: &mut Vec<Extra>, at: u64, v: Val) -> StackSlot
         Val::Null => StackSlot::ValNull,
         Val::Integer(number) => StackSlot::ValInteger(number),
         Val::Text(Span { start, len }) => {
-            if len < 4294967296 {
+            if len < NUMBER_LIMIT {
                 StackSlot::ValText {
                     len: len as u32,
                     start,
@@ -506,6 +507,27 @@ pub fn is_plain_operand(slot: StackSlot) -> bool
         StackSlot::VarElement { .. } | StackSlot::VarField { .. } | StackSlot::VarKey { .. } =>
             true,
         StackSlot::VarSubject | StackSlot::VarPosition | StackSlot::VarRandom => true,
+        _ => false,
+    }
+}
+
+/// Whether a slot is that of a local beside which nothing is kept.
+pub fn is_plain_local(slot: StackSlot) -> bool
+    ensures { result ≡ is_some (plain_local slot) }
+{
+    match slot {
+        StackSlot::LocalNull
+        | StackSlot::LocalInteger(_)
+        | StackSlot::LocalText { .. }
+        | StackSlot::LocalInput => true,
+        StackSlot::LocalOutput
+        | StackSlot::LocalErrout
+        | StackSlot::LocalProc(_)
+        | StackSlot::LocalRec(_) => true,
+        StackSlot::LocalList(_)
+        | StackSlot::LocalSet(_)
+        | StackSlot::LocalTable(_)
+        | StackSlot::LocalCoexp(_) => true,
         _ => false,
     }
 }

@@ -1,14 +1,19 @@
 // What calls do to the cells.
-ghost use Rattle.std.specs.Prelude.{◌≡◌, ◌+◌, ◌<◌, ◌≤◌, ◌==◌, ℕ, ◌∷◌, length, map, Option, Bool, OnOk, OnErr, IfOk};
+ghost use Rattle.std.specs.Prelude.{◌≡◌, ◌+◌, ◌<◌, ◌≤◌, ◌==◌, ℕ, ◌∷◌, true, false, length, map, replicate, Option, Bool, List, OnOk, OnErr, IfOk, IfSome};
+ghost use Rattle.icn_value.specs.declared.val.Val.{Val};
+ghost use Rattle.icn_value.specs.declared.val.Val.TheVariants.{Null};
+ghost use Rattle.icn_frames.specs.CalledWith.{called_cell, Framed, HasOperands, HoldsLocals, IsArgument};
+ghost use Rattle.icn_frames.specs.declared.slots.StackSlot.TheVariants as Slots;
 ghost use Rattle.icn_frames.specs.Stacks as flat;
+ghost use Rattle.icn_frames.specs.declared.layout.Cell.{Cell};
 ghost use Rattle.icn_frames.specs.declared.layout.Cell.TheVariants as CellVariants;
 ghost use Rattle.icn_frames.specs.Heights.{with_copy};
 ghost use Rattle.icn_frames.specs.Slots.{counting};
 ghost use Rattle.icn_frames.specs.StackInvariant.{shape, KindAt, IsScan, MayBeAt, Fit, bottom, FrameAt};
 
 use crate::cells::Cells;
-use crate::layout::{Count, Registers, Why};
-use crate::slots::StackSlot;
+use crate::layout::{Count, NewFrame, Registers, Why};
+use crate::slots::{StackSlot, is_plain_local, operand_as_local};
 use crate::stack::Stack;
 use icn_value::{Pair, Val};
 use std::alloc::AllocError;
@@ -33,6 +38,127 @@ pub fn put_locals<K: Stack<StackSlot> + Drop>(cells: &mut Cells<K>, locals: &[Va
     for v in locals {
         cells.push_local(*v);
     }
+}
+
+/// Puts this many locals on top that are null, for which there must be room.
+pub fn put_nulls<K: Stack<StackSlot> + Drop>(cells: &mut Cells<K>, count: u32)
+    requires { count ≤ cells.old.spare }
+    ensures { cells.new.cells ≡ flat.put_above (replicate count Null) cells.old.cells }
+{
+    for _ in 0..count {
+        cells.push_local_plain(StackSlot::LocalNull);
+    }
+}
+
+// The slot of one of the `own` locals above a height, if it is one and nothing is kept beside it.
+#[inline(always)]
+fn local_argument<K: Stack<StackSlot> + Drop>(
+    cells: &Cells<K>,
+    base: u64,
+    own: u64,
+    slot: StackSlot,
+    index: u32,
+) -> Option<StackSlot>
+    requires within { base + own ≤ length cells.now.cells }
+    requires is { slot ≡ Slots.VarLocal index }
+    ensures { IfSome result (IsArgument base own cells.now.cells slot) }
+{
+    if index as u64 >= own {
+        return None;
+    }
+    let local = cells.slot_above(base, index as u64);
+    if is_plain_local(local) {
+        Some(local)
+    } else {
+        None
+    }
+}
+
+// The slot of a local with the value that an operand is, if it is one and nothing is kept beside it.
+#[inline(always)]
+fn value_argument<K: Stack<StackSlot> + Drop>(
+    cells: &Cells<K>,
+    base: u64,
+    own: u64,
+    slot: StackSlot,
+) -> Option<StackSlot>
+    ensures { IfSome result (IsArgument base own cells.now.cells slot) }
+{
+    let local = operand_as_local(slot);
+    if is_plain_local(local) {
+        Some(local)
+    } else {
+        None
+    }
+}
+
+// The slot of a local with the value of an operand, which is a value or one of the `own` locals above a height, if slots tell it.
+#[inline(always)]
+fn argument_slot<K: Stack<StackSlot> + Drop>(
+    cells: &Cells<K>,
+    base: u64,
+    own: u64,
+    slot: StackSlot,
+) -> Option<StackSlot>
+    requires { base + own ≤ length cells.now.cells }
+    ensures { IfSome result (IsArgument base own cells.now.cells slot) }
+{
+    match slot {
+        StackSlot::VarLocal(index) => local_argument(cells, base, own, slot, index),
+        _ => value_argument(cells, base, own, slot),
+    }
+}
+
+// Puts the frame of a call in the place of the top cell, which must be there.
+fn put_frame<K: Stack<StackSlot> + Drop>(cells: &mut Cells<K>, frame: &NewFrame)
+    requires { 0 < length cells.old.cells }
+    ensures cells { (cell : Cell) (rest : List Cell) → cells.old.cells ≡ cell ∷ rest
+        → cells.new.cells ≡ called_cell frame.now ∷ rest }
+    ensures spare { cells.new.spare ≡ cells.old.spare }
+{
+    cells.drop_top();
+    cells.push_call(
+        frame.proc,
+        frame.locals,
+        frame.level,
+        frame.saved,
+        frame.address,
+    );
+}
+
+/// Puts the frame of a call in the place of the operand below `left` others, which become its lowest locals by their values. The
+/// `own` locals of the caller stand above a height. Where a value is not told by slots alone nothing changes.
+pub fn frame_arguments<K: Stack<StackSlot> + Drop>(
+    cells: &mut Cells<K>,
+    frame: &NewFrame,
+    base: u64,
+    own: u64,
+    left: u32,
+) -> bool
+    requires operands { HasOperands (left + 1) cells.old.cells }
+    requires within { base + own + left < length cells.old.cells }
+    ensures framed { result ≡ true → (held : List Val) → length held ≡ own
+        → HoldsLocals base held cells.old.cells
+        → Framed held left (called_cell frame.now) cells.old.cells cells.new.cells }
+    ensures not { result ≡ false → cells.new.cells ≡ cells.old.cells }
+    ensures spare { cells.new.spare ≡ cells.old.spare }
+{
+    if left == 0 {
+        put_frame(cells, frame);
+        return true;
+    }
+    let slot = cells.slot_at(cells.len() - 1);
+    let Some(local) = argument_slot(cells, base, own, slot) else {
+        return false;
+    };
+    cells.drop_top();
+    let done = frame_arguments(cells, frame, base, own, left - 1);
+    if done {
+        cells.push_local_plain(local);
+        return true;
+    }
+    cells.push_plain(slot);
+    false
 }
 
 /// The newest open scan after a suspension.

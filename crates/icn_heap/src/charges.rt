@@ -3,7 +3,7 @@ use crate::heap::Heap;
 use icn_value::Full;
 
 impl Heap {
-    ghost use Rattle.std.specs.Prelude.{◌≡◌, ◌+◌, ◌≤◌, MatchResult, IfOk, IfErr, OnOk, Ok, Err, if◌then◌else◌};
+    ghost use Rattle.std.specs.Prelude.{◌≡◌, ◌+◌, ◌≤◌, ◌<◌, ◌^◌, MatchResult, IfOk, IfErr, OnOk, Ok, Err, if◌then◌else◌};
     ghost use Rattle.icn_value.specs.Changes.{charged_cells, charged_strings, charged_unless};
     ghost use Rattle.icn_heap.specs.Heaps.{heap_of, with_cells, with_strings};
 
@@ -38,6 +38,7 @@ impl Heap {
             (λ full. charged_strings (heap_of self.now) bytes ≡ Err full) }
         ensures within { OnOk result
             ((heap_of self.now).strings + bytes ≤ (heap_of self.now).bounds.strings) }
+        ensures bits { (heap_of self.now).bounds.strings < 2 ^ 64 }
     {
         let room = self.strings.room();
         if bytes > room {
@@ -47,14 +48,6 @@ impl Heap {
             });
         }
         Ok(())
-    }
-
-    /// How many bytes of strings may be charged in all. A text that is longer needs not be made to be refused.
-    #[tactic(auto, unfolding(crate::specs::Heaps::heap_of))]
-    pub fn strings_limit(&self) -> u64
-        ensures { result ≡ (heap_of self.now).bounds.strings }
-    {
-        self.limits.strings
     }
 
     // The sum once a cell is charged and one more for each of so many elements, or why it is not.

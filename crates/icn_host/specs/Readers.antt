@@ -25,6 +25,8 @@ ReadsFirstPart before count had has = IfSome before (λ bytes. (n : ℕ) × (has
 abbrev pub left_of : List ℕ → ℕ → ℕ → Option (List ℕ) → Option (List ℕ)
 left_of bytes at end behind = prepend_known (slice_range bytes at end) behind
 
+-- what is left of a reader that reads ahead: what it has read and not given, and what is left of the reader
+-- behind
 abbrev pub ahead_left : {R : Type 0} → (R → Option (List ℕ)) → Ahead R → Option (List ℕ)
 ahead_left remaining ahead = left_of ahead.bytes ahead.at ahead.end (remaining ahead.reader)
 

@@ -16,7 +16,7 @@ use std::io::{ErrorKind, Read};
 ///
 /// The count of absences rises at each read of a file that is not there, also where the system can hold none under the name: it
 /// names a folder, a folder on its way is none, it is too long or has a byte 0. The count of faults rises at each other error of
-/// the system but want of memory, and at an interruption after 1000 others in a row.
+/// the system but want of memory, and at an interruption after 1000 others in a row; its count of wants at want of memory.
 ///
 /// A file is written whole: its content is written under a name of its own in the same folder, `.icn-draft-0` or with a greater
 /// number, which then takes the name's place. So a reader sees the old content or the new one, and after a failure the old one
@@ -27,6 +27,7 @@ pub struct DiskFiles<S> {
     alloc: Global,
     system: S,
     faults: u64,
+    wants: u64,
     absences: u64,
 }
 
@@ -35,12 +36,14 @@ impl<S: FileSystem> DiskFiles<S> {
     pub fn new(alloc: Global, system: S) -> Self
         ensures held { ⟦<DiskFiles<S> as Files>⟧.held result ≡ S.held system }
         ensures faults { ⟦<DiskFiles<S> as Files>⟧.faults result ≡ 0 }
+        ensures wants { ⟦<DiskFiles<S> as Files>⟧.wants result ≡ 0 }
         ensures absences { ⟦<DiskFiles<S> as Files>⟧.absences result ≡ 0 }
     {
         DiskFiles {
             alloc,
             system,
             faults: 0,
+            wants: 0,
             absences: 0,
         }
     }
@@ -113,6 +116,8 @@ impl<S: FileSystem> Files for DiskFiles<S> {
 
     ghost faults = { λ s. s.faults };
 
+    ghost wants = { λ s. s.wants };
+
     ghost absences = { λ s. s.absences };
 
     fn read(&mut self, name: &str, most: u64, into: &mut Vec<u8>) -> Result<(), ReadFailure> {
@@ -120,15 +125,18 @@ impl<S: FileSystem> Files for DiskFiles<S> {
         match result {
             Err(ReadFailure::NotThere) => self.absences = self.absences.saturating_add(1),
             Err(ReadFailure::Failed) => self.faults = self.faults.saturating_add(1),
-            _ => {}
+            Err(ReadFailure::NoMemory) => self.wants = self.wants.saturating_add(1),
+            Ok(()) => {}
         }
         result
     }
 
     fn write(&mut self, name: &str, bytes: &[u8]) -> Result<(), Fault> {
         let result = write_file(self.alloc, &mut self.system, name, bytes);
-        if result == Err(Fault::Failed) {
-            self.faults = self.faults.saturating_add(1);
+        match result {
+            Err(Fault::Failed) => self.faults = self.faults.saturating_add(1),
+            Err(Fault::NoMemory) => self.wants = self.wants.saturating_add(1),
+            Ok(()) => {}
         }
         result
     }

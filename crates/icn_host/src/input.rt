@@ -1,7 +1,8 @@
 // A reader as a source.
 ghost use Rattle.std.specs.Prelude.{◌≡◌, ◌+◌, ◌≤◌, OnOk, OnErr, IfOk, IsErrOf, length, vec_len};
 ghost use Rattle.std.specs.Io.KnownBytes.{IsAtEnd, Keeps};
-ghost use Rattle.icn_host.specs.Sources.{ExtendsByLine, TakesLine, TakesLinePart, TakesFirst, TakesFirstPart};
+ghost use Rattle.icn_host.specs.Counts.{CountsOnce, one_more};
+ghost use Rattle.icn_host.specs.Sources.{ExtendsByLine, source_counts, TakesLine, TakesLinePart, TakesFirst, TakesFirstPart};
 ghost use Rattle.icn_host.specs.Buffers.{Extends};
 
 use crate::bytes::{line_len, take_first};
@@ -103,11 +104,13 @@ impl<R: Read> Ahead<R> {
 ///
 /// Its count of faults rises at each error of the reader but want of memory. An interruption after 1000 others in a
 /// row is such an error, and so is a line of more than 1099511627776 bytes. After an error of `line` its newline is
-/// not taken.
+/// not taken. Its count of wants rises where the buffer or the reader wants memory, and its count of calls at each call.
 #[derive(Drop)]
 pub struct StdSource<R> {
     ahead: Ahead<R>,
     faults: u64,
+    wants: u64,
+    calls: u64,
 }
 
 impl<R: Read> StdSource<R> {
@@ -116,7 +119,9 @@ impl<R: Read> StdSource<R> {
     /// The source over this reader. Nothing is read yet.
     pub fn new(reader: R) -> Self
         ensures left { Keeps (R.remaining reader) (source_left R.remaining result) }
-        ensures faults { ⟦<StdSource<R> as Source>⟧.faults result ≡ 0 }
+        ensures faults { (⟦<StdSource<R> as Source>⟧.counts result).faults ≡ 0 }
+        ensures wants { (⟦<StdSource<R> as Source>⟧.counts result).wants ≡ 0 }
+        ensures calls { (⟦<StdSource<R> as Source>⟧.counts result).calls ≡ 0 }
     {
         StdSource {
             ahead: Ahead {
@@ -126,7 +131,29 @@ impl<R: Read> StdSource<R> {
                 end: 0,
             },
             faults: 0,
+            wants: 0,
+            calls: 0,
         }
+    }
+
+    // Counts a call, and what it came to.
+    fn counted<T>(&mut self, answer: Result<T, Fault>) -> Result<T, Fault>
+        ensures same { result ≡ answer }
+        ensures kept { self.new.ahead ≡ self.old.ahead }
+        ensures cause { CountsOnce (⟦<StdSource<R> as Source>⟧.counts self.old).faults
+            (⟦<StdSource<R> as Source>⟧.counts self.new).faults (IsErrOf answer Fault.Failed) }
+        ensures want { CountsOnce (⟦<StdSource<R> as Source>⟧.counts self.old).wants
+            (⟦<StdSource<R> as Source>⟧.counts self.new).wants (IsErrOf answer Fault.NoMemory) }
+        ensures called { (⟦<StdSource<R> as Source>⟧.counts self.new).calls
+            ≡ one_more (⟦<StdSource<R> as Source>⟧.counts self.old).calls }
+    {
+        self.calls = self.calls.saturating_add(1);
+        match &answer {
+            Err(Fault::Failed) => self.faults = self.faults.saturating_add(1),
+            Err(Fault::NoMemory) => self.wants = self.wants.saturating_add(1),
+            Ok(_) => {}
+        }
+        answer
     }
 }
 
@@ -135,21 +162,15 @@ impl<R: Read> Source for StdSource<R> {
 
     ghost left = { λ s. source_left R.remaining s };
 
-    ghost faults = { λ s. s.faults };
+    ghost counts = { λ s. source_counts s.faults s.wants s.calls };
 
     fn line(&mut self, into: &mut Vec<u8>) -> Result<LineEnd, Fault> {
-        let result = self.ahead.line(into);
-        if result == Err(Fault::Failed) {
-            self.faults = self.faults.saturating_add(1);
-        }
-        result
+        let answer = self.ahead.line(into);
+        self.counted(answer)
     }
 
     fn take(&mut self, n: u64, into: &mut Vec<u8>) -> Result<u64, Fault> {
-        let result = self.ahead.take(n, into);
-        if result == Err(Fault::Failed) {
-            self.faults = self.faults.saturating_add(1);
-        }
-        result
+        let answer = self.ahead.take(n, into);
+        self.counted(answer)
     }
 }

@@ -22,7 +22,7 @@ pub struct Kept<W> {
 impl<W: Write> Kept<W> {
     ghost use Rattle.icn_host.specs.Writers.{kept_held, kept_pending};
 
-    // A writer, with room for what is kept.
+    /// A writer, with room for what is kept.
     pub fn new(writer: W, room: Vec<u8>) -> Self
         requires { length room.items ≡ 0 }
         ensures held { Keeps (W.contents writer) (kept_held W.contents result) }
@@ -35,7 +35,7 @@ impl<W: Write> Kept<W> {
         }
     }
 
-    // Writes what is kept. After a failure what was not written is kept still.
+    /// Writes what is kept. After a failure what was not written is kept still.
     pub fn flush(&mut self) -> Result<(), Fault>
         ensures same { Keeps (kept_held W.contents self.old) (kept_held W.contents self.new) }
         ensures settled { OnOk result (kept_pending self.new ≡ 0) }
@@ -50,7 +50,8 @@ impl<W: Write> Kept<W> {
         Ok(())
     }
 
-    // Keeps or writes the piece, and writes all where that is due.
+    /// Keeps or writes the piece, and writes all where that is due. The error is that of the writer; some first part of the
+    /// piece is kept or written then.
     pub fn put_settling(&mut self, piece: &[u8], is_due: bool) -> Result<(), Fault>
         ensures ok { OnOk result
             (Gains (kept_held W.contents self.old) (kept_held W.contents self.new) piece.now) }

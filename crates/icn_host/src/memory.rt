@@ -1,10 +1,10 @@
 // Objects over memory that fail at the calls of a list.
 ghost use Rattle.std.specs.Prelude.{◌≡◌, ◌+◌, ◌≤◌, ◌↔◌, drop, length, Some, OnOk, OnErr, IfOk, IsErrOf, vec_len};
 ghost use Rattle.icn_host.specs.Buffers.{Extends};
-ghost use Rattle.icn_host.specs.Counts.{CountsOnce};
+ghost use Rattle.icn_host.specs.Counts.{CountsOnce, one_more};
 ghost use Rattle.icn_host.specs.FileMaps.{file_map, Reads, ReadsPart, NotHeld, SetsFile, SetsPart};
 ghost use Rattle.icn_host.specs.Sinks.{Gains, GainsPart, sink_state};
-ghost use Rattle.icn_host.specs.Sources.{ExtendsByLine, TakesLine, TakesLinePart, TakesFirst, TakesFirstPart};
+ghost use Rattle.icn_host.specs.Sources.{ExtendsByLine, source_counts, TakesLine, TakesLinePart, TakesFirst, TakesFirstPart};
 
 use crate::bytes::{next_line, take_first};
 use crate::failing::FailingCalls;
@@ -89,13 +89,16 @@ impl Sink for MemSink {
 
 /// A source over memory that fails at the calls whose numbers a list names.
 ///
-/// A call that fails takes and appends nothing, answers `Failed` and raises the count of faults.
+/// A call that fails takes and appends nothing, answers `Failed` and raises the count of faults. One that wants memory answers
+/// `NoMemory` and raises the count of wants.
 #[derive(Drop)]
 pub struct MemSource {
     bytes: Vec<u8>,
     at: usize,
     failing: FailingCalls,
     faults: u64,
+    wants: u64,
+    calls: u64,
     ghost within: { at ≤ length bytes.items },
 }
 
@@ -106,7 +109,9 @@ impl MemSource {
     /// `take` are counted together.
     pub fn new(start: Vec<u8>, failing: Vec<u64>) -> Self
         ensures left { ⟦<MemSource as Source>⟧.left result ≡ Some start.items }
-        ensures faults { ⟦<MemSource as Source>⟧.faults result ≡ 0 }
+        ensures faults { (⟦<MemSource as Source>⟧.counts result).faults ≡ 0 }
+        ensures wants { (⟦<MemSource as Source>⟧.counts result).wants ≡ 0 }
+        ensures calls { (⟦<MemSource as Source>⟧.counts result).calls ≡ 0 }
         ensures plan { source_plan result ≡ first_plan failing.items }
     {
         MemSource {
@@ -114,6 +119,8 @@ impl MemSource {
             at: 0,
             failing: FailingCalls::new(failing),
             faults: 0,
+            wants: 0,
+            calls: 0,
         }
     }
 
@@ -130,7 +137,7 @@ impl Source for MemSource {
 
     ghost left = { λ s. Some (drop s.at s.bytes.items) };
 
-    ghost faults = { λ s. s.faults };
+    ghost counts = { λ s. source_counts s.faults s.wants s.calls };
 
     fn line(&mut self, into: &mut Vec<u8>) -> Result<LineEnd, Fault>
         ensures ok { IfOk result (TakesLine (⟦<MemSource as Source>⟧.left self.old)
@@ -141,16 +148,24 @@ impl Source for MemSource {
         ensures same_left { OnErr result
             (⟦<MemSource as Source>⟧.left self.new ≡ ⟦<MemSource as Source>⟧.left self.old) }
         ensures same_into { OnErr result (into.new.items ≡ into.old.items) }
-        ensures cause { CountsOnce (⟦<MemSource as Source>⟧.faults self.old)
-            (⟦<MemSource as Source>⟧.faults self.new) (IsErrOf result Fault.Failed) }
+        ensures cause { CountsOnce (⟦<MemSource as Source>⟧.counts self.old).faults
+            (⟦<MemSource as Source>⟧.counts self.new).faults (IsErrOf result Fault.Failed) }
+        ensures want { CountsOnce (⟦<MemSource as Source>⟧.counts self.old).wants
+            (⟦<MemSource as Source>⟧.counts self.new).wants (IsErrOf result Fault.NoMemory) }
+        ensures called { (⟦<MemSource as Source>⟧.counts self.new).calls
+            ≡ one_more (⟦<MemSource as Source>⟧.counts self.old).calls }
         ensures fails { IsErrOf result Fault.Failed ↔ FailsNext (source_plan self.old) }
         ensures plan { source_plan self.new ≡ later_plan (source_plan self.old) }
     {
+        self.calls = self.calls.saturating_add(1);
         if self.failing.fails_now() {
             self.faults = self.faults.saturating_add(1);
             return Err(Fault::Failed);
         }
-        let (count, line) = next_line(&self.bytes[self.at..], into)?;
+        let Ok((count, line)) = next_line(&self.bytes[self.at..], into) else {
+            self.wants = self.wants.saturating_add(1);
+            return Err(Fault::NoMemory);
+        };
         self.at += count;
         Ok(line)
     }
@@ -164,16 +179,24 @@ impl Source for MemSource {
         ensures same_left { OnErr result
             (⟦<MemSource as Source>⟧.left self.new ≡ ⟦<MemSource as Source>⟧.left self.old) }
         ensures same_into { OnErr result (into.new.items ≡ into.old.items) }
-        ensures cause { CountsOnce (⟦<MemSource as Source>⟧.faults self.old)
-            (⟦<MemSource as Source>⟧.faults self.new) (IsErrOf result Fault.Failed) }
+        ensures cause { CountsOnce (⟦<MemSource as Source>⟧.counts self.old).faults
+            (⟦<MemSource as Source>⟧.counts self.new).faults (IsErrOf result Fault.Failed) }
+        ensures want { CountsOnce (⟦<MemSource as Source>⟧.counts self.old).wants
+            (⟦<MemSource as Source>⟧.counts self.new).wants (IsErrOf result Fault.NoMemory) }
+        ensures called { (⟦<MemSource as Source>⟧.counts self.new).calls
+            ≡ one_more (⟦<MemSource as Source>⟧.counts self.old).calls }
         ensures fails { IsErrOf result Fault.Failed ↔ FailsNext (source_plan self.old) }
         ensures plan { source_plan self.new ≡ later_plan (source_plan self.old) }
     {
+        self.calls = self.calls.saturating_add(1);
         if self.failing.fails_now() {
             self.faults = self.faults.saturating_add(1);
             return Err(Fault::Failed);
         }
-        let count = take_first(&self.bytes[self.at..], n, into)?;
+        let Ok(count) = take_first(&self.bytes[self.at..], n, into) else {
+            self.wants = self.wants.saturating_add(1);
+            return Err(Fault::NoMemory);
+        };
         self.at += count;
         Ok(count as u64)
     }
@@ -181,13 +204,15 @@ impl Source for MemSource {
 
 /// Files over memory that fail at the calls whose numbers a list names.
 ///
-/// A call that fails changes and appends nothing, answers `Failed` and raises the count of faults.
+/// A call that fails changes and appends nothing, answers `Failed` and raises the count of faults. One that wants memory raises
+/// that of wants.
 #[derive(Drop)]
 pub struct MemFiles {
     alloc: Global,
     files: StoredFiles,
     failing: FailingCalls,
     faults: u64,
+    wants: u64,
     absences: u64,
 }
 
@@ -199,6 +224,7 @@ impl MemFiles {
     pub fn new(alloc: Global, start: StoredFiles, failing: Vec<u64>) -> Self
         ensures held { ⟦<MemFiles as Files>⟧.held result ≡ Some (file_map start) }
         ensures faults { ⟦<MemFiles as Files>⟧.faults result ≡ 0 }
+        ensures wants { ⟦<MemFiles as Files>⟧.wants result ≡ 0 }
         ensures absences { ⟦<MemFiles as Files>⟧.absences result ≡ 0 }
         ensures plan { files_plan result ≡ first_plan failing.items }
     {
@@ -207,6 +233,7 @@ impl MemFiles {
             files: start,
             failing: FailingCalls::new(failing),
             faults: 0,
+            wants: 0,
             absences: 0,
         }
     }
@@ -226,6 +253,8 @@ impl Files for MemFiles {
 
     ghost faults = { λ s. s.faults };
 
+    ghost wants = { λ s. s.wants };
+
     ghost absences = { λ s. s.absences };
 
     fn read(&mut self, name: &str, most: u64, into: &mut Vec<u8>) -> Result<(), ReadFailure>
@@ -239,6 +268,8 @@ impl Files for MemFiles {
         ensures same { ⟦<MemFiles as Files>⟧.held self.new ≡ ⟦<MemFiles as Files>⟧.held self.old }
         ensures cause { CountsOnce (⟦<MemFiles as Files>⟧.faults self.old)
             (⟦<MemFiles as Files>⟧.faults self.new) (IsErrOf result ReadFailure.Failed) }
+        ensures want { CountsOnce (⟦<MemFiles as Files>⟧.wants self.old)
+            (⟦<MemFiles as Files>⟧.wants self.new) (IsErrOf result ReadFailure.NoMemory) }
         ensures absence { CountsOnce (⟦<MemFiles as Files>⟧.absences self.old)
             (⟦<MemFiles as Files>⟧.absences self.new) (IsErrOf result ReadFailure.NotThere) }
         ensures fails { IsErrOf result ReadFailure.Failed ↔ FailsNext (files_plan self.old) }
@@ -249,8 +280,10 @@ impl Files for MemFiles {
             return Err(ReadFailure::Failed);
         }
         let result = look(&self.files, name, most, into);
-        if result == Err(ReadFailure::NotThere) {
-            self.absences = self.absences.saturating_add(1);
+        match result {
+            Err(ReadFailure::NotThere) => self.absences = self.absences.saturating_add(1),
+            Err(ReadFailure::NoMemory) => self.wants = self.wants.saturating_add(1),
+            _ => {}
         }
         result
     }
@@ -262,6 +295,8 @@ impl Files for MemFiles {
             (⟦<MemFiles as Files>⟧.held self.new) name.now bytes.now) }
         ensures cause { CountsOnce (⟦<MemFiles as Files>⟧.faults self.old)
             (⟦<MemFiles as Files>⟧.faults self.new) (IsErrOf result Fault.Failed) }
+        ensures want { CountsOnce (⟦<MemFiles as Files>⟧.wants self.old)
+            (⟦<MemFiles as Files>⟧.wants self.new) (IsErrOf result Fault.NoMemory) }
         ensures absences { ⟦<MemFiles as Files>⟧.absences self.new ≡ ⟦<MemFiles as Files>⟧.absences self.old }
         ensures fails { IsErrOf result Fault.Failed ↔ FailsNext (files_plan self.old) }
         ensures same { OnErr result
@@ -272,6 +307,10 @@ impl Files for MemFiles {
             self.faults = self.faults.saturating_add(1);
             return Err(Fault::Failed);
         }
-        set(self.alloc, &mut self.files, name, bytes)
+        let result = set(self.alloc, &mut self.files, name, bytes);
+        if result == Err(Fault::NoMemory) {
+            self.wants = self.wants.saturating_add(1);
+        }
+        result
     }
 }

@@ -11,7 +11,7 @@ use std::io::{ErrorKind, Read, Write};
 // An interrupted call is made again at most so often in a row.
 pub const RETRIES: u32 = 1000;
 
-// Want of memory is told apart from every other error.
+/// Want of memory is told apart from every other error.
 pub fn fault_of(error: &io::Error) -> Fault
     ensures { (result ≡ Fault.NoMemory) ↔ (error_kind error.now ≡ ErrorKind.OutOfMemory) }
 {
@@ -21,7 +21,7 @@ pub fn fault_of(error: &io::Error) -> Fault
     }
 }
 
-// Fills a part of the buffer from its start: none of it at the end of the input.
+/// Fills a part of the buffer from its start: none of it at the end of the input. After an error nothing was taken.
 pub fn read_some<R: Read>(reader: &mut R, buffer: &mut [u8]) -> Result<usize, Fault>
     ensures within { IfOk result (λ n. n ≤ length buffer.new) }
     ensures taken { IfOk result
@@ -39,7 +39,7 @@ pub fn read_some<R: Read>(reader: &mut R, buffer: &mut [u8]) -> Result<usize, Fa
     Err(Fault::Failed)
 }
 
-// Writes a part of the piece from its start, at least a byte.
+/// Writes a part of the piece from its start, at least a byte. After an error nothing was written.
 pub fn write_some<W: Write>(writer: &mut W, piece: &[u8]) -> Result<usize, Fault>
     ensures within { IfOk result (λ n. (0 < n) × (n ≤ length piece.now)) }
     ensures gains { IfOk result
@@ -57,7 +57,7 @@ pub fn write_some<W: Write>(writer: &mut W, piece: &[u8]) -> Result<usize, Fault
     Err(Fault::Failed)
 }
 
-// Writes the piece, or gives up after a part of it.
+/// Writes the piece. After an error a first part of it was written.
 pub fn write_whole<W: Write>(writer: &mut W, piece: &[u8]) -> Result<(), Fault>
     ensures ok { OnOk result (Gains (W.contents writer.old) (W.contents writer.new) piece.now) }
     ensures err { OnErr result (GainsPart (W.contents writer.old) (W.contents writer.new) piece.now) }

@@ -9,7 +9,8 @@ use std::collections::BTreeMap;
 /// Files over memory, by their names.
 pub type StoredFiles = BTreeMap<String, Vec<u8>>;
 
-// Appends the first `most + 1` bytes of a file, or all of it.
+/// Appends the first `most + 1` bytes of a file, or all of it. The error is `NotThere` where there is none of this name, or
+/// `NoMemory`. Nothing is appended then.
 pub fn look(
     files: &StoredFiles,
     name: &str,
@@ -27,7 +28,7 @@ pub fn look(
     Ok(())
 }
 
-// Sets the content of a file.
+/// Sets the content of a file. The error is `NoMemory`, and all files are as they were then.
 pub fn set(alloc: Global, files: &mut StoredFiles, name: &str, bytes: &[u8]) -> Result<(), Fault>
     ensures ok { OnOk result
         (SetsFile (Some (file_map files.old)) (Some (file_map files.new)) name.now bytes.now) }

@@ -2,6 +2,7 @@
 ghost use Rattle.std.specs.Prelude.{◌≡◌, ◌≤◌, drop, length, Some};
 ghost use Rattle.icn_host.specs.FileMaps.{file_map};
 ghost use Rattle.icn_host.specs.Sinks.{sink_state};
+ghost use Rattle.icn_host.specs.Sources.{source_counts};
 
 use crate::bytes::{next_line, take_first};
 use crate::fault::{Fault, LineEnd, ReadFailure};
@@ -59,6 +60,7 @@ impl Sink for SureSink {
 pub struct SureFiles {
     alloc: Global,
     files: StoredFiles,
+    wants: u64,
     absences: u64,
 }
 
@@ -71,6 +73,7 @@ impl SureFiles {
         SureFiles {
             alloc,
             files: start,
+            wants: 0,
             absences: 0,
         }
     }
@@ -88,18 +91,26 @@ impl Files for SureFiles {
 
     ghost faults = { λ _. 0 };
 
+    ghost wants = { λ s. s.wants };
+
     ghost absences = { λ s. s.absences };
 
     fn read(&mut self, name: &str, most: u64, into: &mut Vec<u8>) -> Result<(), ReadFailure> {
         let result = look(&self.files, name, most, into);
-        if result == Err(ReadFailure::NotThere) {
-            self.absences = self.absences.saturating_add(1);
+        match result {
+            Err(ReadFailure::NotThere) => self.absences = self.absences.saturating_add(1),
+            Err(ReadFailure::NoMemory) => self.wants = self.wants.saturating_add(1),
+            _ => {}
         }
         result
     }
 
     fn write(&mut self, name: &str, bytes: &[u8]) -> Result<(), Fault> {
-        set(self.alloc, &mut self.files, name, bytes)
+        let result = set(self.alloc, &mut self.files, name, bytes);
+        if result == Err(Fault::NoMemory) {
+            self.wants = self.wants.saturating_add(1);
+        }
+        result
     }
 }
 
@@ -108,6 +119,8 @@ impl Files for SureFiles {
 pub struct SureSource {
     bytes: Vec<u8>,
     at: usize,
+    wants: u64,
+    calls: u64,
     ghost within: { at ≤ length bytes.items },
 }
 
@@ -119,6 +132,8 @@ impl SureSource {
         SureSource {
             bytes: start,
             at: 0,
+            wants: 0,
+            calls: 0,
         }
     }
 
@@ -133,16 +148,24 @@ impl SureSource {
 impl Source for SureSource {
     ghost left = { λ s. Some (drop s.at s.bytes.items) };
 
-    ghost faults = { λ _. 0 };
+    ghost counts = { λ s. source_counts 0 s.wants s.calls };
 
     fn line(&mut self, into: &mut Vec<u8>) -> Result<LineEnd, Fault> {
-        let (count, line) = next_line(&self.bytes[self.at..], into)?;
+        self.calls = self.calls.saturating_add(1);
+        let Ok((count, line)) = next_line(&self.bytes[self.at..], into) else {
+            self.wants = self.wants.saturating_add(1);
+            return Err(Fault::NoMemory);
+        };
         self.at += count;
         Ok(line)
     }
 
     fn take(&mut self, n: u64, into: &mut Vec<u8>) -> Result<u64, Fault> {
-        let count = take_first(&self.bytes[self.at..], n, into)?;
+        self.calls = self.calls.saturating_add(1);
+        let Ok(count) = take_first(&self.bytes[self.at..], n, into) else {
+            self.wants = self.wants.saturating_add(1);
+            return Err(Fault::NoMemory);
+        };
         self.at += count;
         Ok(count as u64)
     }

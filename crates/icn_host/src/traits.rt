@@ -2,10 +2,10 @@
 ghost use Rattle.std.specs.Prelude.{◌≡◌, ◌+◌, ◌≤◌, ℕ, List, Option, OnOk, OnErr, IfOk, IsErrOf, vec_len};
 ghost use Rattle.std.specs.Io.KnownBytes.{Keeps};
 ghost use Rattle.icn_host.specs.Buffers.{Extends};
-ghost use Rattle.icn_host.specs.Counts.{CountsOnce};
+ghost use Rattle.icn_host.specs.Counts.{CountsOnce, one_more};
 ghost use Rattle.icn_host.specs.Sinks.{Gains, GainsPart, SinkState, StaysSettled};
 ghost use Rattle.icn_host.specs.FileMaps.{Reads, ReadsPart, NotHeld, SetsFile, SetsPart, FileMap};
-ghost use Rattle.icn_host.specs.Sources.{ExtendsByLine, TakesLine, TakesLinePart, TakesFirst, TakesFirstPart};
+ghost use Rattle.icn_host.specs.Sources.{ExtendsByLine, SourceCounts, TakesLine, TakesLinePart, TakesFirst, TakesFirstPart};
 
 use crate::fault::{Fault, LineEnd, ReadFailure};
 
@@ -14,12 +14,14 @@ pub trait Source {
     /// The bytes left, where the source tells them.
     ghost left: { Self → Option (List ℕ) };
 
-    /// How often it has failed, up to the greatest `u64`.
-    ghost faults: { Self → ℕ };
+    /// How often it has failed, has wanted memory, and was called, up to the greatest `u64`.
+    ghost counts: { Self → SourceCounts };
 
-    /// Appends the bytes before the next newline, and takes that newline too.
+    /// Appends the bytes before the next newline, and takes that newline too. The error is `Failed` where the source failed
+    /// in this call, or `NoMemory`; a part of the line may be taken then.
     fn line(&mut self, into: &mut Vec<u8>) -> Result<LineEnd, Fault>
-        ensures ok { IfOk result (TakesLine (left self.old) (left self.new) into.old.items into.new.items) }
+        ensures ok { IfOk result
+            (TakesLine (left self.old) (left self.new) into.old.items into.new.items) }
         ensures err { OnErr result
             (TakesLinePart (left self.old) (left self.new) into.old.items into.new.items
             (IsErrOf result Fault.Failed)) }
@@ -29,9 +31,14 @@ pub trait Source {
         ensures kept { Extends into.old.items into.new.items }
         ensures plain { IfOk result (λ _. ExtendsByLine into.old.items into.new.items) }
         ensures none { IfOk result (λ line. line ≡ LineEnd.End → into.new.items ≡ into.old.items) }
-        ensures cause { CountsOnce (faults self.old) (faults self.new) (IsErrOf result Fault.Failed) };
+        ensures cause { CountsOnce (counts self.old).faults (counts self.new).faults
+            (IsErrOf result Fault.Failed) }
+        ensures want { CountsOnce (counts self.old).wants (counts self.new).wants
+            (IsErrOf result Fault.NoMemory) }
+        ensures called { (counts self.new).calls ≡ one_more (counts self.old).calls };
 
-    /// Appends and takes the first `n` bytes, or all that are left, and answers how many.
+    /// Appends and takes the first `n` bytes, or all that are left, and answers how many. The error is `Failed` where the
+    /// source failed in this call, or `NoMemory`; a part of them may be taken then.
     fn take(&mut self, n: u64, into: &mut Vec<u8>) -> Result<u64, Fault>
         ensures ok { IfOk result
             (TakesFirst (left self.old) (left self.new) into.old.items into.new.items n) }
@@ -42,7 +49,11 @@ pub trait Source {
         ensures kept { Extends into.old.items into.new.items }
         ensures counted { IfOk result (λ count. vec_len into.new ≡ vec_len into.old + count) }
         ensures within { vec_len into.new ≤ vec_len into.old + n }
-        ensures cause { CountsOnce (faults self.old) (faults self.new) (IsErrOf result Fault.Failed) };
+        ensures cause { CountsOnce (counts self.old).faults (counts self.new).faults
+            (IsErrOf result Fault.Failed) }
+        ensures want { CountsOnce (counts self.old).wants (counts self.new).wants
+            (IsErrOf result Fault.NoMemory) }
+        ensures called { (counts self.new).calls ≡ one_more (counts self.old).calls };
 }
 
 /// Takes bytes in order. It may keep some of them: they are accepted, and pending until they are settled.
@@ -55,8 +66,8 @@ pub trait Sink {
     /// them, whatever becomes of it.
     ghost pending: { Self → ℕ };
 
-    /// Accepts the piece, behind what was accepted. After an `Err` a part of it from its start was accepted. What was settled
-    /// stays so.
+    /// Accepts the piece, behind what was accepted. After an `Err` a part of it from its start was accepted. What was
+    /// settled stays so. It is `Failed` where the count of faults rose, `NoMemory` where that of wants did.
     fn put(&mut self, piece: &[u8]) -> Result<(), Fault>
         ensures ok { OnOk result (Gains (state self.old).held (state self.new).held piece.now) }
         ensures err { OnErr result (GainsPart (state self.old).held (state self.new).held piece.now) }
@@ -67,7 +78,8 @@ pub trait Sink {
         ensures want { CountsOnce (state self.old).wants (state self.new).wants
             (IsErrOf result Fault.NoMemory) };
 
-    /// Settles all that was accepted. After an `Err` some of it may be pending still, and no more than before.
+    /// Settles all that was accepted. After an `Err` some of it may be pending still, and no more than before. It is
+    /// `Failed` where the count of faults rose, `NoMemory` where that of wants did.
     fn flush(&mut self) -> Result<(), Fault>
         ensures same { Keeps (state self.old).held (state self.new).held }
         ensures settled { OnOk result (pending self.new ≡ 0) }
@@ -86,11 +98,15 @@ pub trait Files {
     /// How often it has failed, up to the greatest `u64`.
     ghost faults: { Self → ℕ };
 
+    /// How often it has wanted memory, up to the greatest `u64`.
+    ghost wants: { Self → ℕ };
+
     /// How often a file was not there, up to the greatest `u64`.
     ghost absences: { Self → ℕ };
 
     /// Appends the first `most + 1` bytes of a file, or all of it, so that the caller sees by the length whether it is
-    /// longer than `most`. After an `Err` a part of them was appended.
+    /// longer than `most`. After an `Err` a part of them was appended. It is `NotThere` where there is no such file,
+    /// `Failed` where the store failed, or `NoMemory`.
     fn read(&mut self, name: &str, most: u64, into: &mut Vec<u8>) -> Result<(), ReadFailure>
         ensures ok { OnOk result (Reads (held self.old) name.now (most + 1) into.old.items into.new.items) }
         ensures err { OnErr result
@@ -105,15 +121,17 @@ pub trait Files {
         ensures nothing { IsErrOf result ReadFailure.NotThere → into.new.items ≡ into.old.items }
         ensures same { held self.new ≡ held self.old }
         ensures cause { CountsOnce (faults self.old) (faults self.new) (IsErrOf result ReadFailure.Failed) }
+        ensures want { CountsOnce (wants self.old) (wants self.new) (IsErrOf result ReadFailure.NoMemory) }
         ensures absence { CountsOnce (absences self.old) (absences self.new)
             (IsErrOf result ReadFailure.NotThere) };
 
-    /// Sets the whole content of a file. After an `Err` the name is absent, holds what it held, or holds a part of the
-    /// new bytes from their start. Each other name stays.
+    /// Sets the whole content of a file. After an `Err` the name is absent, holds what it held, or holds a part of the new
+    /// bytes from their start. Each other name stays. It is `Failed` where the store failed, or `NoMemory`.
     fn write(&mut self, name: &str, bytes: &[u8]) -> Result<(), Fault>
         ensures ok { OnOk result (SetsFile (held self.old) (held self.new) name.now bytes.now) }
         ensures err { OnErr result (SetsPart (held self.old) (held self.new) name.now bytes.now) }
         ensures cause { CountsOnce (faults self.old) (faults self.new) (IsErrOf result Fault.Failed) }
+        ensures want { CountsOnce (wants self.old) (wants self.new) (IsErrOf result Fault.NoMemory) }
 
         // No look-up is made.
         ensures absences { absences self.new ≡ absences self.old };

@@ -28,7 +28,8 @@ enum Written {
     Refused,
 }
 
-// Sets the whole content of a file.
+/// Sets the whole content of a file. After an error the name is absent, holds what it held, or a first part of the bytes;
+/// each other name stays.
 pub fn write_file<S: FileSystem>(
     alloc: Global,
     system: &mut S,

@@ -28,6 +28,7 @@ tables_in front = record {
   globals = front.globals.items;
 }
 
+-- the tables of a code: those in front, and its procedures
 abbrev pub with_procs : FrontTables → List Proc → Tables
 with_procs front procs = record {
   strings = front.strings;
@@ -39,6 +40,7 @@ with_procs front procs = record {
   procs = procs;
 }
 
+-- what an image says of a procedure in front of all instructions
 abbrev pub head_of : Proc → ImageHead
 head_of proc = record {
   name = proc.name;
@@ -49,6 +51,7 @@ head_of proc = record {
   instrs = length proc.instrs;
 }
 
+-- the procedure of a head, with these instructions
 abbrev pub with_instrs : ImageHead → List Instr → Proc
 with_instrs head instrs = record {
   name = head.name;

@@ -11,6 +11,7 @@ abbrev pub Reader : Type 0 → Type 0
 Reader A = List ℕ → Result (A × List ℕ) Rule
 
 infixl 10 ◌>>=◌
+-- what is read, and then what comes of it, unless a rule is broken
 abbrev pub ◌>>=◌ : {A B : Type 0} → Result A Rule → (A → Result B Rule) → Result B Rule
 (Ok x) >>= f = f x
 (Err rule) >>= f = Err rule

@@ -56,6 +56,7 @@ record_at width strings fields bytes = do
 
 -- ---- globals
 
+-- a function; I4 where there is none of that number
 abbrev pub func_start : Option Func → Result Start Rule
 func_start None = Err I4
 func_start (Some func) = Ok (Function func)
@@ -68,6 +69,7 @@ start_of records kind number =
     else (if kind == 2 then (if nat_lt number records then Ok (Record number) else Err I4)
     else func_start (func_of number)))
 
+-- a kind, and then a number: what a global begins with
 unfoldable pub start_at : Width → ℕ → Reader Start
 start_at width records bytes = do
   kind ← byte_at bytes
@@ -82,6 +84,7 @@ new_name_at width strings met bytes = do
   name ← index_at width (length strings) bytes
   if met (slice_index_or strings name.0 []) then Err I4 else Ok name
 
+-- a global: its name, and what it begins with
 unfoldable pub global_at : Width → List (List ℕ) → ℕ → NameTest → Reader Global
 global_at width strings records met bytes = do
   name ← new_name_at width strings met bytes
@@ -178,6 +181,7 @@ abbrev pub has_proc : ℕ → Start → Bool
 has_proc procs (Procedure place) = nat_lt place procs
 has_proc procs _ = true
 
+-- the procedures that globals begin with are there
 unfoldable pub have_procs : ℕ → List Global → Bool
 have_procs procs globals = list_all (λ global. has_proc procs global.start) globals
 
@@ -190,6 +194,7 @@ heads_at width front bytes = do
 
 -- ---- instructions
 
+-- the operand of an instruction, by what kind it has; I3 where there is no such instruction
 abbrev pub operand_at : Width → Option Operand → Reader ℕ
 operand_at width None bytes = Err I3
 operand_at width (Some Nothing) bytes = Ok (0, bytes)
@@ -225,6 +230,7 @@ procs_at width front (head ∷ heads) bytes = do
 
 -- ---- the whole
 
+-- all tables of a code, in numbers of this width
 unfoldable pub tables_at : Width → Reader Tables
 tables_at width bytes = do
   front ← front_at width bytes

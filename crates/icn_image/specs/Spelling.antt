@@ -22,6 +22,7 @@ use Rattle.icn_image.specs.Versions.{width_of, image_head}
 abbrev pub table : {A : Type 0} → Width → (A → List ℕ) → List A → List ℕ
 table width spelling entries = to_le_bytes width (length entries) ++ flat_map spelling entries
 
+-- its length and its bytes
 abbrev pub string : Width → List ℕ → List ℕ
 string width bytes = to_le_bytes width (length bytes) ++ bytes
 
@@ -33,6 +34,7 @@ cset set = flat_map (to_le_bytes w64) set.words
 abbrev pub integer : ℤ → List ℕ
 integer value = to_le_bytes w64 (cast_unsigned w64 value)
 
+-- its name, and a table of its fields
 abbrev pub record_type : Width → RecordType → List ℕ
 record_type width kind = to_le_bytes width kind.name ++ table width (to_le_bytes width) kind.fields
 
@@ -43,18 +45,23 @@ kind_and_number width (Procedure place) = 1 ∷ to_le_bytes width place
 kind_and_number width (Record place) = 2 ∷ to_le_bytes width place
 kind_and_number width (Function func) = 3 ∷ to_le_bytes width (func_number func)
 
+-- its name, and what it begins with
 abbrev pub global : Width → Global → List ℕ
 global width variable = to_le_bytes width variable.name ++ kind_and_number width variable.start
 
+-- the byte of a flag
 abbrev pub flag : Bool → ℕ
 flag false = 0
 flag true = 1
 
+-- what an image says of a procedure in front of all instructions; how many these are has four bytes in each
+-- version
 abbrev pub head : Width → ImageHead → List ℕ
 head width proc =
     to_le_bytes width proc.name ++ (to_le_bytes width proc.parameters ++ (flag proc.collects
     ∷ (to_le_bytes width proc.locals ++ (to_le_bytes width proc.statics ++ to_le_bytes w32 proc.instrs))))
 
+-- a number as wide as the version has them, a label in four bytes, or nothing
 abbrev pub operand : Width → Option Operand → ℕ → List ℕ
 operand width (Some Number) value = to_le_bytes width value
 operand width (Some Label) value = to_le_bytes w32 value
@@ -65,6 +72,7 @@ abbrev pub instruction : Width → Instr → List ℕ
 instruction width instr =
     instr_number instr ∷ operand width (operand_of (instr_number instr)) (operand_value instr)
 
+-- the instructions of a procedure
 abbrev pub body : Width → Proc → List ℕ
 body width proc = flat_map (instruction width) proc.instrs
 
@@ -79,6 +87,7 @@ front width tables =
 abbrev pub procs : Width → List Proc → List ℕ
 procs width all = table width (head width) (map head_of all) ++ flat_map (body width) all
 
+-- the tables of a code that stand in front of its procedures
 abbrev pub front_of : Tables → FrontTables
 front_of tables = record {
   strings = tables.strings;

@@ -1,8 +1,9 @@
 -- The versions of an image, and what each can hold.
 use Rattle.std.specs.Prelude.{ℕ, Bool, List, [], ◌∷◌}
 use Rattle.std.specs.Int.{Width, w16, w32}
+use Rattle.icn_profile.specs.Numbers.{number_limit, number_limit_of_first_image}
 use Rattle.icn_code.specs.Codes.{Tables}
-use Rattle.icn_code.specs.Rules.{keeps_rules_below, number_limit}
+use Rattle.icn_code.specs.Rules.{keeps_rules_below}
 use Rattle.icn_image.specs.declared.version.Version.{Version}
 use Rattle.icn_image.specs.declared.version.Version.TheVariants.{First, Second}
 
@@ -13,7 +14,7 @@ width_of Second = w32
 
 -- its numbers are below this one
 abbrev pub limit_of : Version → ℕ
-limit_of First = 65536
+limit_of First = number_limit_of_first_image
 limit_of Second = number_limit
 
 -- the byte that tells it

@@ -24,7 +24,8 @@ pub struct Front {
     pub globals: Vec<icn_code::Global>,
 }
 
-// These tables, where the numbers of the globals' procedures are not judged yet.
+/// These tables, where the numbers of the globals' procedures are not judged yet. The error is the first rule that is
+/// broken, or want of memory.
 #[tactic(auto, unfolding(crate::specs::Reading::front_at))]
 pub fn front_at(alloc: Global, version: Version, bytes: &[u8]) -> Result<(Front, &[u8]), ImageFault>
     ensures { Gives (λ x. (tables_in x.0, x.1.now)) result (front_at (width_of version) bytes.now) }

@@ -102,7 +102,8 @@ fn so_many_globals<'b>(
     Ok((globals, rest))
 }
 
-// The table of globals, in a code with these strings and so many records.
+/// The table of globals, in a code with these strings and so many records. The error is the first rule that is broken, or
+/// want of memory.
 #[tactic(auto, unfolding(crate::specs::Reading::globals_at))]
 pub fn globals_at<'b>(
     alloc: Global,

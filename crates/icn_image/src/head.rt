@@ -62,7 +62,8 @@ fn statics_at(version: Version, before: u64, bytes: &[u8]) -> Result<(u32, &[u8]
     Ok((statics, rest))
 }
 
-// The head of a procedure, in a code with so many strings, behind procedures that have so many statics together.
+/// The head of a procedure, in a code with so many strings, behind procedures that have so many statics together. The error
+/// is the first rule that is broken.
 #[tactic(auto, unfolding(crate::specs::Reading::head_at))]
 pub fn head_at(
     version: Version,

@@ -26,7 +26,7 @@ fn operand_at(
     }
 }
 
-// An instruction, of what may be named where it stands.
+/// An instruction, of what may be named where it stands. The error is the first rule that is broken.
 #[tactic(auto, unfolding(crate::specs::Reading::instr_at))]
 pub fn instr_at<'b>(
     version: Version,

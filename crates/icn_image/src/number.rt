@@ -8,7 +8,7 @@ use crate::fault::ImageFault;
 use crate::version::Version;
 use icn_tree::Rule;
 
-// So many bytes, and what stands behind them.
+/// So many bytes, and what stands behind them. The error is I2, where fewer are there.
 pub fn bytes_at(count: usize, bytes: &[u8]) -> Result<(&[u8], &[u8]), ImageFault>
     ensures { Gives (λ x. (x.0.now, x.1.now)) result (bytes_at count bytes.now) }
 {
@@ -18,7 +18,7 @@ pub fn bytes_at(count: usize, bytes: &[u8]) -> Result<(&[u8], &[u8]), ImageFault
     Ok(bytes.split_at(count))
 }
 
-// A byte.
+/// A byte. The error is I2, where there is none.
 pub fn byte_at(bytes: &[u8]) -> Result<(u8, &[u8]), ImageFault>
     ensures { Gives (λ x. (x.0, x.1.now)) result (byte_at bytes.now) }
 {
@@ -28,7 +28,7 @@ pub fn byte_at(bytes: &[u8]) -> Result<(u8, &[u8]), ImageFault>
     }
 }
 
-// A count, a length, a place in a table or an operand, as wide as the version has them.
+/// A count, a length, a place in a table or an operand, as wide as the version has them. The error is I2.
 pub fn number_at(version: Version, bytes: &[u8]) -> Result<(u32, &[u8]), ImageFault>
     ensures { Gives (λ x. (x.0, x.1.now)) result (number_at (width_of version) bytes.now) }
 {
@@ -48,7 +48,7 @@ fn short_number_at(bytes: &[u8]) -> Result<(u32, &[u8]), ImageFault>
     Ok((u32::from(number), rest))
 }
 
-// A number of 32 bits, as every version has labels, and how many instructions a procedure has.
+/// A number of 32 bits, as every version has labels, and how many instructions a procedure has. The error is I2.
 #[tactic(auto, unfolding(crate::specs::Readers::number_at))]
 pub fn label_at(bytes: &[u8]) -> Result<(u32, &[u8]), ImageFault>
     ensures { Gives (λ x. (x.0, x.1.now)) result (number_at w32 bytes.now) }
@@ -58,7 +58,7 @@ pub fn label_at(bytes: &[u8]) -> Result<(u32, &[u8]), ImageFault>
     Ok((number, rest))
 }
 
-// A count that is at most this one.
+/// A count that is at most this one. The error is I2, or I4 where it is more.
 #[tactic(auto, unfolding(crate::specs::Readers::count_at))]
 pub fn count_at(version: Version, most: u64, bytes: &[u8]) -> Result<(u32, &[u8]), ImageFault>
     ensures { Gives (λ x. (x.0, x.1.now)) result (count_at (width_of version) most bytes.now) }
@@ -70,7 +70,7 @@ pub fn count_at(version: Version, most: u64, bytes: &[u8]) -> Result<(u32, &[u8]
     Ok((count, rest))
 }
 
-// A place in a table of so many entries.
+/// A place in a table of so many entries. The error is I2, or I4 where the table has no such place.
 #[tactic(auto, unfolding(crate::specs::Readers::index_at))]
 pub fn place_at(version: Version, count: usize, bytes: &[u8]) -> Result<(u32, &[u8]), ImageFault>
     ensures gives { Gives (λ x. (x.0, x.1.now)) result (index_at (width_of version) count bytes.now) }

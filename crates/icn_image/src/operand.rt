@@ -13,7 +13,7 @@ pub enum Operand {
     Label,
 }
 
-// What stands behind a number, where it is that of an instruction.
+/// What stands behind a number, where it is that of an instruction.
 pub fn operand_of(number: u8) -> Option<Operand>
     ensures { result ≡ operand_of number }
 {
@@ -25,7 +25,7 @@ pub fn operand_of(number: u8) -> Option<Operand>
     }
 }
 
-// The number of an instruction.
+/// The number of an instruction.
 pub fn instr_number(instr: Instr) -> u8
     ensures { result ≡ instr_number instr }
 {
@@ -70,7 +70,7 @@ pub fn instr_number(instr: Instr) -> u8
     }
 }
 
-// The number that is the operand of an instruction, and 0 where it has none.
+/// The number that is the operand of an instruction, and 0 where it has none.
 pub fn operand_value(instr: Instr) -> u32
     ensures { result ≡ operand_value instr }
 {
@@ -96,7 +96,7 @@ pub fn operand_value(instr: Instr) -> u32
     }
 }
 
-// The instruction of a number and an operand, where there is one.
+/// The instruction of a number and an operand, where there is one.
 #[tactic(auto, unfolding(crate::specs::Operands::instr_of))]
 pub fn instr_of(number: u8, operand: u32) -> Option<Instr>
     ensures { result ≡ instr_of number operand }

@@ -56,7 +56,8 @@ fn so_many_heads(
     Ok((heads, rest))
 }
 
-// The heads of all procedures. Their count judges the globals.
+/// The heads of all procedures. Their count judges the globals. The error is the first rule that is broken, or want of
+/// memory.
 #[tactic(auto, unfolding(crate::specs::Reading::heads_at))]
 pub fn heads_at<'b>(
     alloc: Global,
@@ -137,7 +138,7 @@ fn proc_at<'b>(
     Ok((with_instrs(head, instrs), rest))
 }
 
-// The procedures of these heads, by their instructions.
+/// The procedures of these heads, by their instructions. The error is the first rule that is broken, or want of memory.
 pub fn procs_at<'b>(
     alloc: Global,
     version: Version,

@@ -21,7 +21,7 @@ pub struct TableSizes {
 impl TableSizes {
     ghost use Rattle.icn_image.specs.Scopes.{names_there};
 
-    // Whether what an instruction names is there.
+    /// Whether what an instruction names is there.
     pub fn has(&self, instr: Instr) -> bool
         ensures { result ≡ names_there self.now instr }
     {

@@ -46,7 +46,7 @@ fn so_many_strings(
     Ok((strings, rest))
 }
 
-// The table of strings.
+/// The table of strings. The error is I2, or want of memory.
 #[tactic(auto, unfolding(crate::specs::Readers::table_at))]
 pub fn strings_at(
     alloc: Global,
@@ -95,7 +95,7 @@ fn so_many_csets(alloc: Global, count: u32, bytes: &[u8]) -> Result<(Vec<Cset>, 
     Ok((csets, rest))
 }
 
-// The table of csets.
+/// The table of csets. The error is I2, or want of memory.
 #[tactic(auto, unfolding(crate::specs::Readers::table_at))]
 pub fn csets_at(
     alloc: Global,
@@ -136,7 +136,7 @@ fn so_many_integers(
     Ok((integers, rest))
 }
 
-// The table of integers.
+/// The table of integers. The error is I2, or want of memory.
 #[tactic(auto, unfolding(crate::specs::Readers::table_at))]
 pub fn integers_at(
     alloc: Global,
@@ -168,7 +168,8 @@ fn so_many_places(
     Ok((places, rest))
 }
 
-// A table of places in a table of so many entries: the fields of a code, or those of a record.
+/// A table of places in a table of so many entries: the fields of a code, or those of a record. The error is the first rule
+/// that is broken, I2 or I4, or want of memory.
 #[tactic(auto, unfolding(crate::specs::Readers::bounded_table_at))]
 pub fn places_at(
     alloc: Global,
@@ -219,7 +220,8 @@ fn so_many_records(
     Ok((records, rest))
 }
 
-// The table of records, in a code with so many strings and fields.
+/// The table of records, in a code with so many strings and fields. The error is the first rule that is broken, I2 or I4, or
+/// want of memory.
 #[tactic(auto, unfolding(crate::specs::Readers::bounded_table_at))]
 pub fn records_at(
     alloc: Global,

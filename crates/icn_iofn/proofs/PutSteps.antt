@@ -1,69 +1,69 @@
 -- How puts on files add up to what a line puts.
-use Rattle.std.proofs.Common.{◌≡◌, ◌∙◌, refl, sym, ap, subst, ℕ, Bool, true, false, List, [], ◌∷◌, ◌++◌, inl, inr, ◌≤◌, Result, Ok, Err, append_assoc, append-nil, length, arith}
-use Rattle.std.specs.Prelude.{◌&&◌, not, map, OnErr, OnOk, IfErr, IfOk, IsErrOf, IsErrAnd, if◌then◌else◌}
+use Rattle.std.proofs.Common.{◌≡◌, ◌∙◌, refl, sym, ap, subst, ℕ, zero, suc, Bool, true, false, List, [], ◌∷◌, ◌++◌, inl, inr, ◌≤◌, Result, Ok, Err, append_assoc, append-nil, length, take, Option, arith}
+use Rattle.std.specs.Prelude.{◌&&◌, drop, not, map, OnErr, OnOk, IfErr, IfOk, IsErrOf, IsErrAnd, if◌then◌else◌}
 use Rattle.std.specs.List.{All}
+use Rattle.std.proofs.lemmas.List.{map-append}
 use Rattle.std.proofs.lemmas.List.Elements.{All-tail}
 use Rattle.icn_host.specs.Counts.{CountsOnce}
-use Rattle.std.specs.Io.KnownBytes.{Keeps}
+use Rattle.std.specs.Io.KnownBytes.{Appends, Keeps}
 use Rattle.icn_host.specs.Sinks.{SinkState, Gains, GainsPart}
 use Rattle.icn_host.specs.declared.fault.Fault.{Fault}
 use Rattle.icn_host.specs.declared.fault.Fault.TheVariants.{Failed, NoMemory}
-use Rattle.icn_host.proofs.SinkSteps.{gains_nothing, part_nothing, part_more}
+use Rattle.icn_host.proofs.SinkSteps.{gains_nothing, gains_then, part_nothing}
 use Rattle.icn_host.proofs.KeptSteps.{gains_keeps, part_kept}
 use Rattle.icn_value.specs.declared.val.Val.{Val}
 use Rattle.icn_value.specs.declared.val.Val.TheVariants as Vals
 use Rattle.icn_value.specs.declared.val.File.{File as HeldFile}
 use Rattle.icn_value.specs.Values.{File, Input, Output, Errout}
-use Rattle.icn_value.specs.Store.{Outside}
+use Rattle.icn_value.specs.Store.{ErrorByte, Event, Outside, OutputByte, errors_in, output_in, readings_in, with_events}
 use Rattle.icn_defs.specs.InputOutput.{WriteArgument, Puts, Selects, newline, put_on, put_pieces}
+use Rattle.icn_defs.specs.Interruptions.{ExtendsBy}
+use Rattle.icn_defs.proofs.Interruptions.{bytes_split, errors_of_output, errors_put, errors_read_none, errors_then, extends_by_errors, extends_by_output, extends_itself, extends_then, none_read, output_of_errors, output_put, output_reads_none, output_then}
 use Rattle.icn_heap.specs.Extents.{Extent, IsLive, value_in}
 use Rattle.icn_args.specs.RowWords.{the_text}
 use Rattle.icn_streams.specs.Handed.{KeepsFaultCounts, FailsOnce, LeavesSink, WantsOnce}
-use Rattle.icn_streams.proofs.CallSequences.{puts_nothing, puts_then, then_puts_part}
 use Rattle.icn_streams.proofs.IdleCalls.{keeps_counts_refl}
-use Rattle.icn_iofn.specs.PutPieces.{HasEffect, BrokenBy, GainsOutputs, GainedPart, IsOneSettled, KeepsBoth, Outputs, PutsBehind, PutsOn, PutsPartBehind, PutsPartOn, StopsEffect, errors_failed, errors_part, errors_wanted, file_after, line_put, output_failed, output_part, output_wanted, other_failed, other_wanted, outputs, piece_in, pieces_in, put_failed, put_wanted, text_of_piece, uncounted, waiting_text}
+use Rattle.icn_iofn.specs.PutPieces.{HasEffect, BrokenBy, GainsOutputs, GainedPart, IsOneSettled, KeepsBoth, Outputs, PutsBehind, PutsOn, PutsPartBehind, PutsPartOn, StopsEffect, errors_failed, errors_wanted, file_after, line_put, output_failed, output_wanted, other_failed, other_wanted, outputs, piece_in, pieces_in, put_failed, put_wanted, text_of_piece, uncounted, waiting_text}
 
 -- Puts on a file
 
+-- bytes behind others, whatever they are put on
+put_events_more : (to : ℕ → Event) (a b : List ℕ) (o : Outside) → with_events (map to b) (with_events (map to a) o) ≡ with_events (map to (a ++ b)) o
+put_events_more to a b o = ap (λ (h : List Event). let p : Outside = record o { history = h } in p)
+    (append_assoc o.history (map to a) (map to b) ∙ ap (λ (e : List Event). o.history ++ e) (sym (map-append to a b)))
+
 pub put_more : (file : File) (a b : List ℕ) (o : Outside) → put_on file b (put_on file a o) ≡ put_on file (a ++ b) o
 put_more Input a b o = refl
-put_more Output a b o = ap (λ text. let p : Outside = record o { output = text } in p) (append_assoc o.output a b)
-put_more Errout a b o = ap (λ text. let p : Outside = record o { errors = text } in p) (append_assoc o.errors a b)
+put_more Output a b o = put_events_more OutputByte a b o
+put_more Errout a b o = put_events_more ErrorByte a b o
 
 pub put_nothing : (file : File) (o : Outside) → put_on file [] o ≡ o
 put_nothing Input o = refl
-put_nothing Output o = ap (λ text. let p : Outside = record o { output = text } in p) (append-nil o.output)
-put_nothing Errout o = ap (λ text. let p : Outside = record o { errors = text } in p) (append-nil o.errors)
+put_nothing Output o = ap (λ (h : List Event). let p : Outside = record o { history = h } in p) (append-nil o.history)
+put_nothing Errout o = ap (λ (h : List Event). let p : Outside = record o { history = h } in p) (append-nil o.history)
 
 -- What only grows
 
--- both outputs have what they had and more; nothing else changed
+-- bytes were put behind what was done, and nothing was read
 pub record Grows (was now : Outside) : Type 0 where
-  pub output : List ℕ
-  pub output_is : now.output ≡ was.output ++ output
-  pub errors : List ℕ
-  pub errors_is : now.errors ≡ was.errors ++ errors
-  pub left : now.left ≡ was.left
+  pub done : List Event
+  pub extends : ExtendsBy was done now
+  pub unread : readings_in done ≡ 0
 
 pub grows_all : (o : Outside) → Grows o o
-grows_all o = record { output = []; output_is = sym (append-nil o.output); errors = []; errors_is = sym (append-nil o.errors); left = refl }
-
-more_then : (a b c x y : List ℕ) → b ≡ a ++ x → c ≡ b ++ y → c ≡ a ++ (x ++ y)
-more_then a b c x y first second = second ∙ (ap (λ text. text ++ y) first ∙ append_assoc a x y)
+grows_all o = record { done = []; extends = extends_itself o; unread = refl }
 
 pub grows_then : {o p q : Outside} → Grows o p → Grows p q → Grows o q
 grows_then {o} {p} {q} first second = record {
-  output = first.output ++ second.output;
-  output_is = more_then o.output p.output q.output first.output second.output first.output_is second.output_is;
-  errors = first.errors ++ second.errors;
-  errors_is = more_then o.errors p.errors q.errors first.errors second.errors first.errors_is second.errors_is;
-  left = second.left ∙ first.left;
+  done = first.done ++ second.done;
+  extends = extends_then first.extends second.extends;
+  unread = none_read first.done second.done first.unread second.unread;
 }
 
 pub grows_on : (file : File) (text : List ℕ) (o : Outside) → Grows o (put_on file text o)
 grows_on Input text o = grows_all o
-grows_on Output text o = record { output = text; output_is = refl; errors = []; errors_is = sym (append-nil o.errors); left = refl }
-grows_on Errout text o = record { output = []; output_is = sym (append-nil o.output); errors = text; errors_is = refl; left = refl }
+grows_on Output text o = record { done = map OutputByte text; extends = extends_by_output text o; unread = output_reads_none text }
+grows_on Errout text o = record { done = map ErrorByte text; extends = extends_by_errors text o; unread = errors_read_none text }
 
 pub grows_pieces : (end : List ℕ) (is_first : Bool) (parts : List WriteArgument) (file : File) (o : Outside) → Grows o (put_pieces end is_first parts file o).1
 grows_pieces end is_first [] file o = grows_all o
@@ -101,57 +101,133 @@ broken_then _ kept (errors_wanted x y) = errors_wanted (counts_then kept.output 
 broken_then _ kept (uncounted x) = uncounted (both_then kept x)
 
 pub gained_all : (a : Outputs) (o : Outside) → GainsOutputs a a o o
-gained_all a o = record { output = puts_nothing a.output o.output; errors = puts_nothing a.errors o.errors }
+gained_all a o = record {
+  done = [];
+  extends = extends_itself o;
+  unread = refl;
+  output = gains_nothing a.output.held;
+  errors = gains_nothing a.errors.held;
+}
+
+-- what was gained of some events, and then of others
+output_gained : (a b c : SinkState) (x y : List Event) → Gains a.held b.held (output_in x) → Gains b.held c.held (output_in y)
+    → Gains a.held c.held (output_in (x ++ y))
+output_gained a b c x y first second = subst (Gains a.held c.held) (sym (output_then x y)) (gains_then first second)
+
+errors_gained : (a b c : SinkState) (x y : List Event) → Gains a.held b.held (errors_in x) → Gains b.held c.held (errors_in y)
+    → Gains a.held c.held (errors_in (x ++ y))
+errors_gained a b c x y first second = subst (Gains a.held c.held) (sym (errors_then x y)) (gains_then first second)
 
 pub gained_then : {a b c : Outputs} {o p q : Outside} → GainsOutputs a b o p → GainsOutputs b c p q → GainsOutputs a c o q
-gained_then first second = record { output = puts_then first.output second.output; errors = puts_then first.errors second.errors }
+gained_then {a} {b} {c} {o} {p} {q} first second = record {
+  done = first.done ++ second.done;
+  extends = extends_then first.extends second.extends;
+  unread = none_read first.done second.done first.unread second.unread;
+  output = output_gained a.output b.output c.output first.done second.done first.output second.output;
+  errors = errors_gained a.errors b.errors c.errors first.done second.done first.errors second.errors;
+}
+
+-- where events stand behind others, and more behind them
+behind_both : (before x y z mid end : List Event) → mid ≡ before ++ x → end ≡ mid ++ (y ++ z) → end ≡ before ++ ((x ++ y) ++ z)
+behind_both before x y z mid end first second =
+    second ∙ ap (λ (h : List Event). h ++ (y ++ z)) first ∙ append_assoc before x (y ++ z)
+    ∙ ap (λ (e : List Event). before ++ e) (sym (append_assoc x y z))
 
 pub then_gained_part : {a b c : Outputs} {o p q : Outside} → GainsOutputs a b o p → GainedPart b c p q → GainedPart a c o q
-then_gained_part first second = record { output = then_puts_part first.output second.output; errors = then_puts_part first.errors second.errors }
+then_gained_part {a} {b} {c} {o} {p} {q} first second = record {
+  done = first.done ++ second.done;
+  due = second.due;
+  are = behind_both o.history first.done second.done second.due p.history q.history first.extends.history second.are;
+  unread = none_read first.done second.done first.unread second.unread;
+  output = output_gained a.output b.output c.output first.done second.done first.output second.output;
+  errors = errors_gained a.errors b.errors c.errors first.done second.done first.errors second.errors;
+}
 
 pub part_grows : {a b : Outputs} {o p q : Outside} → GainedPart a b o p → Grows p q → GainedPart a b o q
 part_grows {a} {b} {o} {p} {q} part more = record {
-  output = record {
-    text = part.output.text ++ more.output;
-    is = more_then o.output p.output q.output part.output.text more.output part.output.is more.output_is;
-    gains = part_more more.output part.output.gains;
-  };
-  errors = record {
-    text = part.errors.text ++ more.errors;
-    is = more_then o.errors p.errors q.errors part.errors.text more.errors part.errors.is more.errors_is;
-    gains = part_more more.errors part.errors.gains;
-  };
+  done = part.done;
+  due = part.due ++ more.done;
+  are = more.extends.history ∙ ap (λ (h : List Event). h ++ more.done) part.are ∙ append_assoc o.history (part.done ++ part.due) more.done
+      ∙ ap (λ (e : List Event). o.history ++ e) (append_assoc part.done part.due more.done);
+  unread = part.unread;
+  output = part.output;
+  errors = part.errors;
 }
 
 -- nothing was put yet of what is to come
 pub part_idle : (a : Outputs) {o p : Outside} → Grows o p → GainedPart a a o p
 part_idle a more = record {
-  output = record { text = more.output; is = more.output_is; gains = part_nothing a.output.held more.output };
-  errors = record { text = more.errors; is = more.errors_is; gains = part_nothing a.errors.held more.errors };
+  done = [];
+  due = more.done;
+  are = more.extends.history;
+  unread = refl;
+  output = gains_nothing a.output.held;
+  errors = gains_nothing a.errors.held;
 }
 
-output_is : (file : File) (text : List ℕ) (o : Outside) → (put_on file text o).output ≡ o.output ++ output_part file text
-output_is Input text o = sym (append-nil o.output)
-output_is Output text o = refl
-output_is Errout text o = sym (append-nil o.output)
-
-errors_is : (file : File) (text : List ℕ) (o : Outside) → (put_on file text o).errors ≡ o.errors ++ errors_part file text
-errors_is Input text o = sym (append-nil o.errors)
-errors_is Output text o = sym (append-nil o.errors)
-errors_is Errout text o = refl
+gained_by : (file : File) (text : List ℕ) (a b : Outputs) → PutsOn file text a b → (o : Outside) → GainsOutputs a b o (put_on file text o)
+gained_by Input text a b puts o =
+    record { done = []; extends = extends_itself o; unread = refl; output = puts.output; errors = puts.errors }
+gained_by Output text a b puts o = record {
+  done = map OutputByte text;
+  extends = extends_by_output text o;
+  unread = output_reads_none text;
+  output = subst (Gains a.output.held b.output.held) (sym (output_put text)) puts.output;
+  errors = subst (Gains a.errors.held b.errors.held) (sym (errors_of_output text)) puts.errors;
+}
+gained_by Errout text a b puts o = record {
+  done = map ErrorByte text;
+  extends = extends_by_errors text o;
+  unread = errors_read_none text;
+  output = subst (Gains a.output.held b.output.held) (sym (output_of_errors text)) puts.output;
+  errors = subst (Gains a.errors.held b.errors.held) (sym (errors_put text)) puts.errors;
+}
 
 pub gained_on : {file : File} {text : List ℕ} {a b : Outputs} → PutsOn file text a b → (o : Outside) → GainsOutputs a b o (put_on file text o)
-gained_on {file} {text} puts o = record {
-  output = record { text = output_part file text; is = output_is file text o; gains = puts.output };
-  errors = record { text = errors_part file text; is = errors_is file text o; gains = puts.errors };
+gained_on {file} {text} {a} {b} puts o = gained_by file text a b puts o
+
+first_part : {before after : Option (List ℕ)} {text : List ℕ} (part : GainsPart before after text) → Gains before after (take part.count text)
+first_part part = record { appends = part.appends }
+
+no_part : {before after : Option (List ℕ)} → GainsPart before after [] → Gains before after []
+no_part {before} {after} part = record { appends = subst (Appends before after) (none part.count) part.appends }
+  where
+    none : (n : ℕ) → ◌≡◌ {A = List ℕ} (take n []) []
+    none zero = refl
+    none (suc n) = refl
+
+gained_part_by : (file : File) (text : List ℕ) (a b : Outputs) (fault : Fault) → PutsPartOn file text a b fault → (o : Outside)
+    → GainedPart a b o (put_on file text o)
+gained_part_by Input text a b fault puts o = record {
+  done = [];
+  due = [];
+  are = sym (append-nil o.history);
+  unread = refl;
+  output = no_part puts.output;
+  errors = no_part puts.errors;
 }
+gained_part_by Output text a b fault puts o =
+    let n = puts.output.count in record {
+      done = map OutputByte (take n text);
+      due = map OutputByte (drop n text);
+      are = ap (λ (e : List Event). o.history ++ e) (bytes_split OutputByte n text);
+      unread = output_reads_none (take n text);
+      output = subst (Gains a.output.held b.output.held) (sym (output_put (take n text))) (first_part puts.output);
+      errors = subst (Gains a.errors.held b.errors.held) (sym (errors_of_output (take n text))) (no_part puts.errors);
+    }
+gained_part_by Errout text a b fault puts o =
+    let n = puts.errors.count in record {
+      done = map ErrorByte (take n text);
+      due = map ErrorByte (drop n text);
+      are = ap (λ (e : List Event). o.history ++ e) (bytes_split ErrorByte n text);
+      unread = errors_read_none (take n text);
+      output = subst (Gains a.output.held b.output.held) (sym (output_of_errors (take n text))) (no_part puts.output);
+      errors = subst (Gains a.errors.held b.errors.held) (sym (errors_put (take n text))) (first_part puts.errors);
+    }
 
 pub gained_part_on : {file : File} {text : List ℕ} {a b : Outputs} {fault : Fault} → PutsPartOn file text a b fault → (o : Outside)
     → GainedPart a b o (put_on file text o)
-gained_part_on {file} {text} puts o = record {
-  output = record { text = output_part file text; is = output_is file text o; gains = puts.output };
-  errors = record { text = errors_part file text; is = errors_is file text o; gains = puts.errors };
-}
+gained_part_on {file} {text} {a} {b} {fault} puts o = gained_part_by file text a b fault puts o
 
 -- One put, once the other output is settled
 
@@ -218,23 +294,23 @@ none_gained a b same = gains_keeps (gains_nothing a.held) same
 none_part : (a b : SinkState) → Keeps a.held b.held → GainsPart a.held b.held []
 none_part a b same = part_kept [] same
 
-pub output_put : (r : Result (Unit {0}) Fault) (o o' e e' : SinkState) (file : File) (text : List ℕ) → file ≡ Output
+pub puts_on_output : (r : Result (Unit {0}) Fault) (o o' e e' : SinkState) (file : File) (text : List ℕ) → file ≡ Output
     → OnOk r (PutsBehind text o o' e e') → OnOk r (PutsOn file text (outputs o e) (outputs o' e'))
-output_put (Ok _) o o' e e' file text is puts = rw is (record {
+puts_on_output (Ok _) o o' e e' file text is puts = rw is (record {
   output = puts.gains;
   errors = none_gained e e' puts.left.held;
   counts = record { output = puts.counts; errors = puts.left.counts };
 })
-output_put (Err _) o o' e e' file text is puts = tt
+puts_on_output (Err _) o o' e e' file text is puts = tt
 
-pub errors_put : (r : Result (Unit {0}) Fault) (o o' e e' : SinkState) (file : File) (text : List ℕ) → file ≡ Errout
+pub puts_on_errors : (r : Result (Unit {0}) Fault) (o o' e e' : SinkState) (file : File) (text : List ℕ) → file ≡ Errout
     → OnOk r (PutsBehind text e e' o o') → OnOk r (PutsOn file text (outputs o e) (outputs o' e'))
-errors_put (Ok _) o o' e e' file text is puts = rw is (record {
+puts_on_errors (Ok _) o o' e e' file text is puts = rw is (record {
   output = none_gained o o' puts.left.held;
   errors = puts.gains;
   counts = record { output = puts.left.counts; errors = puts.counts };
 })
-errors_put (Err _) o o' e e' file text is puts = tt
+puts_on_errors (Err _) o o' e e' file text is puts = tt
 
 output_part_by : (o o' e e' : SinkState) (text : List ℕ) (fault : Fault) → PutsPartBehind text o o' e e' fault
     → PutsPartOn Output text (outputs o e) (outputs o' e') fault
@@ -311,6 +387,14 @@ puts_waiting file other text more whole rest a b puts is empty = record {
   same = λ was. ap (λ t. put_on other t (put_on file whole was)) empty
       ∙ (put_nothing other (put_on file whole was) ∙ (ap (λ t. put_on file t was) is ∙ sym (put_more file text more was)));
   counts = puts.counts;
+}
+
+-- what waits could not be put whole
+pub stops_waiting : (file : File) (text more whole : List ℕ) (a b : Outputs) (fault : Fault) → PutsPartOn file whole a b fault → whole ≡ text ++ more
+    → StopsEffect (waiting_text file text a) b (put_on file more) fault
+stops_waiting file text more whole a b fault puts is = record {
+  gained = λ was. subst (GainedPart a b was) (ap (λ t. put_on file t was) is ∙ sym (put_more file text more was)) (gained_part_on puts was);
+  cause = puts.cause;
 }
 
 -- memory was wanting before anything was put

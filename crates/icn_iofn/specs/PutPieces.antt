@@ -1,13 +1,14 @@
 -- How the pieces of a line go to the outputs: what is to be put on one file waits until another one is selected.
-use Rattle.std.specs.Prelude.{◌≡◌, ◌⊎◌, ℕ, Bool, List, [], ⊤, map, unwrap_or, if◌then◌else◌}
+use Rattle.std.specs.Prelude.{◌≡◌, ◌⊎◌, ℕ, Bool, List, [], ◌++◌, ⊤, map, unwrap_or, if◌then◌else◌}
 use Rattle.std.specs.Io.KnownBytes.{Keeps}
 use Rattle.icn_host.specs.Sinks.{SinkState, Gains, GainsPart}
 use Rattle.icn_host.specs.declared.fault.Fault.{Fault}
 use Rattle.icn_host.specs.declared.fault.Fault.TheVariants.{Failed, NoMemory}
 use Rattle.icn_value.specs.Values.{Value, File, Input, Output, Errout}
-use Rattle.icn_value.specs.Store.{Outside}
+use Rattle.icn_value.specs.Store.{Event, Outside, errors_in, output_in, readings_in}
 use Rattle.icn_defs.specs.InputOutput.{WriteArgument, Puts, Selects, piece_of, put_on, put_pieces}
-use Rattle.icn_streams.specs.Handed.{KeepsFaultCounts, FailsOnce, LeavesSink, WantsOnce, PutsAdded as PutsText, PutsPart}
+use Rattle.icn_defs.specs.Interruptions.{ExtendsBy}
+use Rattle.icn_streams.specs.Handed.{KeepsFaultCounts, FailsOnce, LeavesSink, WantsOnce}
 
 -- an argument as a piece, where it is one, and all of them
 abbrev pub piece_in : Value → WriteArgument
@@ -23,6 +24,7 @@ output_part Input text = []
 output_part Output text = text
 output_part Errout text = []
 
+-- what it puts on the error output
 abbrev pub errors_part : File → List ℕ → List ℕ
 errors_part Input text = []
 errors_part Output text = []
@@ -100,18 +102,26 @@ pub record WaitingText : Type 0 where
   pub text : List ℕ
   pub outputs : Outputs
 
+-- a text that waits for a file, and these outputs
 abbrev pub waiting_text : File → List ℕ → Outputs → WaitingText
 waiting_text file text outputs = record { file = file; text = text; outputs = outputs }
 
--- The outputs have gained what leads from one outside to another.
+-- The outputs have gained what leads from one outside to another: bytes that are put, in this order.
 pub record GainsOutputs (before after : Outputs) (was now : Outside) : Type 0 where
-  pub output : PutsText before.output after.output was.output now.output
-  pub errors : PutsText before.errors after.errors was.errors now.errors
+  pub done : List Event
+  pub extends : ExtendsBy was done now
+  pub unread : readings_in done ≡ 0
+  pub output : Gains before.output.held after.output.held (output_in done)
+  pub errors : Gains before.errors.held after.errors.held (errors_in done)
 
--- They have gained some first part of it.
+-- They have gained the first of these bytes, and nothing of those behind them.
 pub record GainedPart (before after : Outputs) (was now : Outside) : Type 0 where
-  pub output : PutsPart before.output after.output was.output now.output
-  pub errors : PutsPart before.errors after.errors was.errors now.errors
+  pub done : List Event
+  pub due : List Event
+  pub are : now.history ≡ was.history ++ (done ++ due)
+  pub unread : readings_in done ≡ 0
+  pub output : Gains before.output.held after.output.held (output_in done)
+  pub errors : Gains before.errors.held after.errors.held (errors_in done)
 
 -- From an outside on, with what waits at the file put on it, something was done to the outside: it is as if what waits
 -- now were put on what the outputs have gained.

@@ -16,7 +16,7 @@ use icn_heap::Heap;
 use icn_value::{File, Val};
 use icn_vars::Stop;
 
-// The file that is the first argument, or the input. The error is 105.
+/// The file that is the first argument, or the input. The error is 105.
 pub fn file_arg(vals: &[Val]) -> Result<File, Stop>
     ensures found { (all : Extent) (setting : Setting) → IsFound all
         (file (arg_or (Std Input) (map (value_in all) vals.now) 0)) setting setting keys.file_of result }
@@ -25,7 +25,7 @@ pub fn file_arg(vals: &[Val]) -> Result<File, Stop>
     file_of(value_or(Val::Std(File::Input), arg(vals, 0)))
 }
 
-// The integer that an argument is or converts to, or another one. The error is 101.
+/// The integer that an argument is or converts to, or another one. The error is 101.
 pub fn integer_arg(heap: &Heap, default: i64, vals: &[Val], place: usize) -> Result<i64, Stop>
     requires { All (IsLive (extent_of heap.now)) vals.now }
     ensures found { (setting : Setting) → IsFound (extent_of heap.now) (integer (arg_or (Integer default)
@@ -35,7 +35,7 @@ pub fn integer_arg(heap: &Heap, default: i64, vals: &[Val], place: usize) -> Res
     integer_of(heap, value_or(Val::Integer(default), arg(vals, place)))
 }
 
-// How many bytes `reads` asks for. The errors are 101, and 205 about a number that is not above 0.
+/// How many bytes `reads` asks for. The errors are 101, and 205 about a number that is not above 0.
 pub fn count_arg(heap: &Heap, vals: &[Val]) -> Result<u64, Stop>
     requires { All (IsLive (extent_of heap.now)) vals.now }
     ensures found { (setting : Setting) → IsFound (extent_of heap.now)

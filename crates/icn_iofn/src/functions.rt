@@ -42,8 +42,8 @@ pub fn first<L: Locals, I: Source, O: Sink, E: Sink>(
     ensures { (names : Names)
         → Applies (function_row names func (map (item_in (extent_of w.old.heap)) args.now))
         (call_state w.old (L.items l.now) (call_streams (I.left input.old)
-        (I.faults input.old) (O.state out.old) (E.state err.old))) (call_state w.new (L.items l.now)
-        (call_streams (I.left input.new) (I.faults input.new) (O.state out.new) (E.state err.new))) result }
+        (I.counts input.old) (O.state out.old) (E.state err.old))) (call_state w.new (L.items l.now)
+        (call_streams (I.left input.new) (I.counts input.new) (O.state out.new) (E.state err.new))) result }
 {
     let vals = values_of(w, l, args)?;
     of_values(func, &vals, w, l, buffer, input, out, err)
@@ -66,8 +66,8 @@ fn of_values<L: Locals, I: Source, O: Sink, E: Sink>(
     ensures { (names : Names)
         → Applies (function_of names func (map (value_in (extent_of w.old.heap)) vals.now))
         (call_state w.old (L.items l.now) (call_streams (I.left input.old)
-        (I.faults input.old) (O.state out.old) (E.state err.old))) (call_state w.new (L.items l.now)
-        (call_streams (I.left input.new) (I.faults input.new) (O.state out.new) (E.state err.new))) result }
+        (I.counts input.old) (O.state out.old) (E.state err.old))) (call_state w.new (L.items l.now)
+        (call_streams (I.left input.new) (I.counts input.new) (O.state out.new) (E.state err.new))) result }
 {
     match func {
         Func::Exit => exit(&w.heap, vals),

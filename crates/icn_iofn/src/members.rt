@@ -6,7 +6,7 @@ ghost use Rattle.icn_value.specs.Members.{members_of};
 use icn_value::Cset;
 use std::alloc::AllocError;
 
-// Appends the members, ascending.
+/// Appends the members, ascending. The error is want of memory.
 pub fn push_members(cset: &Cset, buffer: &mut Vec<u8>) -> Result<(), AllocError>
     ensures { OnOk result (buffer.new.items ≡ buffer.old.items ++ members_of cset.now) }
 {

@@ -35,9 +35,9 @@ pub fn read<L: Locals, I: Source, O: Sink, E: Sink>(
     requires live { All (IsLive (extent_of w.old.heap)) vals.now }
     ensures row { Applies (rows.read_row (map (value_in (extent_of w.old.heap)) vals.now)) (call_state w.old
         (L.items l.now)
-        (call_streams (I.left input.old) (I.faults input.old) (O.state out.old) (E.state err.old)))
+        (call_streams (I.left input.old) (I.counts input.old) (O.state out.old) (E.state err.old)))
         (call_state w.new (L.items l.now)
-        (call_streams (I.left input.new) (I.faults input.new) (O.state out.new) (E.state err.new))) result }
+        (call_streams (I.left input.new) (I.counts input.new) (O.state out.new) (E.state err.new))) result }
     ensures settled { IsSettledWhereRead result (O.pending out.new) (E.pending err.new) }
 {
     let file = file_arg(vals)?;
@@ -59,9 +59,9 @@ pub fn reads<L: Locals, I: Source, O: Sink, E: Sink>(
     requires live { All (IsLive (extent_of w.old.heap)) vals.now }
     ensures row { Applies (rows.reads_row (map (value_in (extent_of w.old.heap)) vals.now)) (call_state w.old
         (L.items l.now)
-        (call_streams (I.left input.old) (I.faults input.old) (O.state out.old) (E.state err.old)))
+        (call_streams (I.left input.old) (I.counts input.old) (O.state out.old) (E.state err.old)))
         (call_state w.new (L.items l.now)
-        (call_streams (I.left input.new) (I.faults input.new) (O.state out.new) (E.state err.new))) result }
+        (call_streams (I.left input.new) (I.counts input.new) (O.state out.new) (E.state err.new))) result }
     ensures settled { IsSettledWhereRead result (O.pending out.new) (E.pending err.new) }
 {
     let file = file_arg(vals)?;
@@ -96,9 +96,9 @@ fn read_from<L: Locals, I: Source, O: Sink, E: Sink>(
     ensures row { Applies
         (read_from (asked_in ask) (keys.file_of file) (value_in (extent_of w.old.heap) named))
         (call_state w.old (L.items l.now)
-        (call_streams (I.left input.old) (I.faults input.old) (O.state out.old) (E.state err.old)))
+        (call_streams (I.left input.old) (I.counts input.old) (O.state out.old) (E.state err.old)))
         (call_state w.new (L.items l.now)
-        (call_streams (I.left input.new) (I.faults input.new) (O.state out.new) (E.state err.new))) result }
+        (call_streams (I.left input.new) (I.counts input.new) (O.state out.new) (E.state err.new))) result }
     ensures settled { IsSettledWhereRead result (O.pending out.new) (E.pending err.new) }
 {
     if file != File::Input {
@@ -119,9 +119,9 @@ fn read_input<L: Locals, I: Source, O: Sink, E: Sink>(
 ) -> Result<Outcome, Halt>
     requires { All (IsLive (extent_of w.old.heap)) (L.items l.now) }
     ensures row { Applies (reads_from (asked_in ask)) (call_state w.old (L.items l.now)
-        (call_streams (I.left input.old) (I.faults input.old) (O.state out.old) (E.state err.old)))
+        (call_streams (I.left input.old) (I.counts input.old) (O.state out.old) (E.state err.old)))
         (call_state w.new (L.items l.now)
-        (call_streams (I.left input.new) (I.faults input.new) (O.state out.new) (E.state err.new))) result }
+        (call_streams (I.left input.new) (I.counts input.new) (O.state out.new) (E.state err.new))) result }
     ensures settled { IsSettled result (O.pending out.new) (E.pending err.new) }
 {
     settle(out, err)?;
@@ -138,9 +138,9 @@ fn give_text<L: Locals, I: Source>(
 ) -> Result<Outcome, Halt>
     requires { All (IsLive (extent_of w.old.heap)) (L.items l.now) }
     ensures { (output errors : SinkState) → Applies (reads_from (asked_in ask)) (call_state w.old
-        (L.items l.now) (call_streams (I.left input.old) (I.faults input.old) output errors))
+        (L.items l.now) (call_streams (I.left input.old) (I.counts input.old) output errors))
         (call_state w.new (L.items l.now)
-        (call_streams (I.left input.new) (I.faults input.new) output errors)) result }
+        (call_streams (I.left input.new) (I.counts input.new) output errors)) result }
 {
     match read_text(ask, w, l, buffer, input)? {
         Some(text) => Ok(Outcome::Gives(Item::Val(Val::Text(text)))),

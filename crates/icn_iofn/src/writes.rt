@@ -1,6 +1,7 @@
 // Writing.
 ghost use Rattle.std.specs.Prelude.{◌≡◌, ℕ, List, Option, map};
 ghost use Rattle.std.specs.List.{All};
+ghost use Rattle.icn_host.specs.Sources.{SourceCounts};
 ghost use Rattle.icn_defs.specs.InputOutput as rows;
 ghost use Rattle.icn_heap.specs.Extents.{Extent, IsLive, value_in};
 ghost use Rattle.icn_heap.specs.Heaps.{extent_of};
@@ -29,10 +30,10 @@ pub fn write<L: Locals, O: Sink, E: Sink>(
 ) -> Result<Outcome, Halt>
     requires locals { All (IsLive (extent_of w.now.heap)) (L.items l.now) }
     requires live { All (IsLive (extent_of w.now.heap)) vals.now }
-    ensures { (left : Option (List ℕ)) (faults : ℕ)
+    ensures { (left : Option (List ℕ)) (counts : SourceCounts)
         → Applies (write_by ends (map (value_in (extent_of w.now.heap)) vals.now))
-        (call_state w.now (L.items l.now) (call_streams left faults (O.state out.old) (E.state err.old)))
-        (call_state w.now (L.items l.now) (call_streams left faults (O.state out.new) (E.state err.new)))
+        (call_state w.now (L.items l.now) (call_streams left counts (O.state out.old) (E.state err.old)))
+        (call_state w.now (L.items l.now) (call_streams left counts (O.state out.new) (E.state err.new)))
         result }
 {
     check_pieces(vals)?;
@@ -55,10 +56,10 @@ pub fn stop<L: Locals, O: Sink, E: Sink>(
 ) -> Result<Outcome, Halt>
     requires locals { All (IsLive (extent_of w.now.heap)) (L.items l.now) }
     requires live { All (IsLive (extent_of w.now.heap)) vals.now }
-    ensures { (left : Option (List ℕ)) (faults : ℕ)
+    ensures { (left : Option (List ℕ)) (counts : SourceCounts)
         → Applies (rows.stop_row (map (value_in (extent_of w.now.heap)) vals.now))
-        (call_state w.now (L.items l.now) (call_streams left faults (O.state out.old) (E.state err.old)))
-        (call_state w.now (L.items l.now) (call_streams left faults (O.state out.new) (E.state err.new)))
+        (call_state w.now (L.items l.now) (call_streams left counts (O.state out.old) (E.state err.old)))
+        (call_state w.now (L.items l.now) (call_streams left counts (O.state out.new) (E.state err.new)))
         result }
 {
     check_pieces(vals)?;

@@ -9,6 +9,7 @@ use Rattle.std.proofs.lemmas.List.{length-map}
 use Rattle.std.proofs.lemmas.List.Folds.{list_all-append, list_any-append}
 use Rattle.std.proofs.lemmas.List.Sums.{sum_by-cons}
 use Rattle.std.proofs.lemmas.Option.{none-some, same_Some}
+use Rattle.icn_profile.specs.Numbers.{number_limit}
 use Rattle.icn_text.specs.declared.func.Func.{Func}
 use Rattle.icn_code.specs.Codes.{Proc as ProcEntry, Tables}
 use Rattle.icn_code.specs.Rules as Rules
@@ -290,7 +291,7 @@ joined_kept decls procs J =
     (sym (list_all-append (has_text M.fields) own used) ∙ texts_there [] (own ++ used)) in
     let fielded : (names : List (List ℕ)) → list_all (has_text M.fields) names ≡ true → list_all (has_index M.fields) names ≡ true =
     λ names h. all_then (has_text M.fields) (has_index M.fields) (text_placed M.fields) names h in
-    let counts : Rules.are_counts Rules.number_limit T ≡ true =
+    let counts : Rules.are_counts number_limit T ≡ true =
     and_intro (and_intro (and_intro (and_intro (and_intro (and_intro
     (lt-ltb (length T.strings) 4294967296 (omega (arith, s1.0))) (lt-ltb (length T.csets) 4294967296 (omega (arith, n2, s2.0))))
     (lt-ltb (length T.integers) 4294967296 (omega (arith, s3.0)))) (le-leb _ _ (omega (arith, n4, f1.0))))

@@ -10,7 +10,7 @@ use Rattle.icn_unit.specs.PlainUnits.{PlainProc, PlainDecl, UnitRead}
 use Rattle.icn_link.specs.JoinableUnits.{is_joinable_decl, is_joinable_proc}
 use Rattle.icn_link.specs.declared.fault.LinkFault.{LinkFault}
 use Rattle.icn_link.specs.Joined.{joined_code, joined_of}
-use Rattle.icn_link.specs.LinkFaults.{IsFault, all_statics, first_fault, kind_counts, local_counts, missing, over, record_sizes, repeated_name, size_of, static_counts, table_sizes, too_large, too_large_of}
+use Rattle.icn_link.specs.LinkFaults.{IsFault, all_statics, first_fault, kind_counts, local_counts, missing_unit, over, record_sizes, repeated_name, size_of, static_counts, table_sizes, too_large, too_large_of}
 use Rattle.icn_link.specs.Mentions.{AllMentions, globals, all_mentions}
 use Rattle.icn_link.specs.Units.{all_decls, all_procs}
 use Rattle.icn_link.specs.Views.{Joinable}
@@ -178,16 +178,16 @@ sizes_same : (units : List UnitRead) (D : List PlainDecl) (P : List PlainProc) �
 sizes_same units D P d p = ap (λ (E : List PlainDecl). too_large_of E P) d ∙ ap (too_large_of (all_decls units)) p
 
 pub units_kept : {A : Type 0} (result : Result A LinkFault) (units : List UnitRead) (D : List PlainDecl) (P : List PlainProc) → D ≡ all_decls units
-    → P ≡ all_procs units → missing units ≡ None → repeated_name units ≡ None → OnOk result (too_large_of D P ≡ None) → OnOk result (first_fault units ≡ None)
+    → P ≡ all_procs units → missing_unit units ≡ None → repeated_name units ≡ None → OnOk result (too_large_of D P ≡ None) → OnOk result (first_fault units ≡ None)
 units_kept result units D P d p m r h =
-    later_kept result (missing units) (option_or (repeated_name units) (too_large units)) m
+    later_kept result (missing_unit units) (option_or (repeated_name units) (too_large units)) m
     (later_kept result (repeated_name units) (too_large units) r (list_kept result (too_large_of D P) (too_large units) (sizes_same units D P d p) h))
 
 pub units_fault : {A : Type 0} (result : Result A LinkFault) (units : List UnitRead) (D : List PlainDecl) (P : List PlainProc) → D ≡ all_decls units
-    → P ≡ all_procs units → missing units ≡ None → repeated_name units ≡ None → IfErr result (IsFault (too_large_of D P))
+    → P ≡ all_procs units → missing_unit units ≡ None → repeated_name units ≡ None → IfErr result (IsFault (too_large_of D P))
     → IfErr result (IsFault (first_fault units))
 units_fault result units D P d p m r h =
-    later_fault result (missing units) (option_or (repeated_name units) (too_large units)) m
+    later_fault result (missing_unit units) (option_or (repeated_name units) (too_large units)) m
     (later_fault result (repeated_name units) (too_large units) r (list_fault result (too_large_of D P) (too_large units) (sizes_same units D P d p) h))
 
 pub units_joined : (result : Result Code LinkFault) (units : List UnitRead) (D : List PlainDecl) (P : List PlainProc) → D ≡ all_decls units
@@ -196,10 +196,10 @@ pub units_joined : (result : Result Code LinkFault) (units : List UnitRead) (D :
 units_joined result units D P d p h =
     subst (λ (T : Tables). IfOk result (λ code. tables_of code ≡ T)) (ap (λ (E : List PlainDecl). joined_of E P) d ∙ ap (joined_of (all_decls units)) p) h
 
-pub missing_exit : (units : List UnitRead) (fault : LinkFault) → IsFault (missing units) fault → IsFault (first_fault units) fault
-missing_exit units fault h = first_fault_is (missing units) (option_or (repeated_name units) (too_large units)) fault h
+pub missing_exit : (units : List UnitRead) (fault : LinkFault) → IsFault (missing_unit units) fault → IsFault (first_fault units) fault
+missing_exit units fault h = first_fault_is (missing_unit units) (option_or (repeated_name units) (too_large units)) fault h
 
-pub repeated_exit : (units : List UnitRead) (fault : LinkFault) → missing units ≡ None → IsFault (repeated_name units) fault → IsFault (first_fault units) fault
+pub repeated_exit : (units : List UnitRead) (fault : LinkFault) → missing_unit units ≡ None → IsFault (repeated_name units) fault → IsFault (first_fault units) fault
 repeated_exit units fault m h =
-    later_fault_is (missing units) (option_or (repeated_name units) (too_large units)) fault m
+    later_fault_is (missing_unit units) (option_or (repeated_name units) (too_large units)) fault m
     (first_fault_is (repeated_name units) (too_large units) fault h)

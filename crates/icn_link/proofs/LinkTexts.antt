@@ -12,7 +12,7 @@ use Rattle.icn_unit.specs.UnitViews.{decl_seen}
 use Rattle.icn_link.specs.declared.fault.LinkFault.{LinkFault}
 use Rattle.icn_link.specs.declared.fault.LinkFault.TheVariants.{K2, NoMemory}
 use Rattle.icn_link.specs.FirstMentions.{with_text, with_texts}
-use Rattle.icn_link.specs.LinkFaults.{base_of, missing, missing_by, missing_fault, missing_from, missing_in, unit_names, IsFault}
+use Rattle.icn_link.specs.LinkFaults.{base_of, missing_unit, missing_by, missing_fault, missing_from, missing_in, unit_names, IsFault}
 use Rattle.icn_link.specs.Views.{texts_seen}
 use Rattle.icn_link.proofs.ReferenceTables.{held_text}
 
@@ -98,7 +98,7 @@ module _ (names others : List (List ℕ)) (same : (name : List ℕ) → list_any
       ∙ ap (option_or (option_map (missing_fault place) (missing_in others unit.decls))) (from_same (suc place) units)
 
 pub missing_same : (names : List (List ℕ)) (units : List UnitRead) → names ≡ with_texts [] (unit_names units)
-    → missing_from names 0 units ≡ missing units
+    → missing_from names 0 units ≡ missing_unit units
 missing_same names units is =
     ap (λ n. missing_from n 0 units) is
     ∙ from_same (with_texts [] (unit_names units)) (unit_names units) (λ name. among [] (unit_names units) name) 0 units

@@ -50,8 +50,8 @@ abbrev pub unit_names : List UnitRead → List (List ℕ)
 unit_names units = map (λ unit. unit.name) units
 
 -- the first declaration that links a unit which is not there
-abbrev pub missing : List UnitRead → Option LinkFault
-missing units = missing_from (unit_names units) 0 units
+abbrev pub missing_unit : List UnitRead → Option LinkFault
+missing_unit units = missing_from (unit_names units) 0 units
 
 -- Names that are procedure or record in two units
 
@@ -158,8 +158,8 @@ static_counts globals procs = map (λ proc. statics_in globals proc.names) procs
 abbrev pub all_statics : List (List ℕ) → List PlainProc → ℕ
 all_statics globals procs = sum_by (λ proc. statics_in globals proc.names) procs
 
--- the first fault, where there is one, else the second
 infixr 5 ◌orelse◌
+-- the first fault, where there is one, else the second
 abbrev pub ◌orelse◌ : Option LinkFault → Option LinkFault → Option LinkFault
 a orelse b = option_or a b
 
@@ -183,7 +183,7 @@ too_large units = too_large_of (all_decls units) (all_procs units)
 
 -- the first rule that units break
 abbrev pub first_fault : List UnitRead → Option LinkFault
-first_fault units = missing units orelse repeated_name units orelse too_large units
+first_fault units = missing_unit units orelse repeated_name units orelse too_large units
 
 -- A fault is this one, or want of memory.
 abbrev pub IsFault : Option LinkFault → LinkFault → Type 0

@@ -33,7 +33,7 @@ pub struct GatheredMentions<'a> {
     pub globals: IndexSet<&'a [u8]>,
 }
 
-/// What these declarations and procedures mention.
+/// What these declarations and procedures mention. The error is want of memory.
 pub fn gather<'a>(
     alloc: Global,
     decls: &[&'a UnitDecl],
@@ -422,7 +422,7 @@ fn enter_integer_used(found: &mut IndexSet<i64>, instr: &UnitInstr) -> Result<()
 
 // One thing
 
-/// Adds a text, if it is new.
+/// Adds a text, if it is new. The error is want of memory.
 pub fn enter<'a>(texts: &mut IndexSet<&'a [u8]>, text: &'a [u8]) -> Result<(), AllocError>
     ensures { OnOk result (texts_seen texts.new.keys ≡ with_text (texts_seen texts.old.keys) text.now) }
 {

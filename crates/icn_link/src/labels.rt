@@ -19,7 +19,7 @@ pub struct LabelAddresses {
     pub end: u32,
 }
 
-/// The addresses of the labels among instructions.
+/// The addresses of the labels among instructions. The error is want of memory.
 pub fn labels_of(alloc: Global, instrs: &[UnitInstr]) -> Result<LabelAddresses, AllocError>
     requires few { count_by is_instruction instrs.now ≤ most_instructions }
     ensures { IfOk result (λ labels. (label : ℕ) → address_in labels label ≡ label_address label instrs.now) }

@@ -7,7 +7,7 @@ ghost use Rattle.icn_link.specs.Views.{decls_seen, procs_seen};
 use icn_unit::{ProcCode, Unit, UnitDecl};
 use std::alloc::{AllocError, Global};
 
-/// The procedures of all units, in their order.
+/// The procedures of all units, in their order. The error is want of memory.
 pub fn procs_of<'a>(alloc: Global, units: &'a [Unit]) -> Result<Vec<&'a ProcCode>, AllocError>
     ensures { IfOk result (λ procs. procs_seen procs.items ≡ all_procs (units_seen units.now)) }
 {
@@ -28,7 +28,7 @@ fn put_procs<'a>(procs: &mut Vec<&'a ProcCode>, more: &'a [ProcCode]) -> Result<
     Ok(())
 }
 
-/// The declarations of all units, in their order.
+/// The declarations of all units, in their order. The error is want of memory.
 pub fn decls_of<'a>(alloc: Global, units: &'a [Unit]) -> Result<Vec<&'a UnitDecl>, AllocError>
     ensures { IfOk result (λ decls. decls_seen decls.items ≡ all_decls (units_seen units.now)) }
 {

@@ -4,7 +4,7 @@ ghost use Rattle.std.specs.Option.{option_map};
 ghost use Rattle.icn_unit.specs.UnitViews.{decl_seen};
 ghost use Rattle.icn_link.specs.declared.fault.LinkFault.TheVariants.{K2, NoMemory};
 ghost use Rattle.icn_link.specs.FirstMentions.{with_text, with_texts};
-ghost use Rattle.icn_link.specs.LinkFaults.{base_of, missing, missing_by, missing_fault, missing_from, missing_in, unit_names, IsFault};
+ghost use Rattle.icn_link.specs.LinkFaults.{base_of, missing_unit, missing_by, missing_fault, missing_from, missing_in, unit_names, IsFault};
 ghost use Rattle.icn_link.specs.Units.{units_seen};
 ghost use Rattle.icn_link.specs.Views.{texts_seen};
 
@@ -15,10 +15,11 @@ use icn_unit::{Unit, UnitDecl};
 use indexmap::IndexSet;
 use std::alloc::{AllocError, Global};
 
-/// Refuses units of which one links a unit that is none of them.
+/// Refuses units of which one links a unit that is none of them. The error is K2 with the first such unit and the base name
+/// that it links, or want of memory.
 pub fn check_links(alloc: Global, units: &[Unit]) -> Result<(), LinkFault>
-    ensures none { OnOk result (missing (units_seen units.now) ≡ None) }
-    ensures fault { IfErr result (IsFault (missing (units_seen units.now))) }
+    ensures none { OnOk result (missing_unit (units_seen units.now) ≡ None) }
+    ensures fault { IfErr result (IsFault (missing_unit (units_seen units.now))) }
 {
     let names = names_of(alloc, units)?;
     check_all(alloc, &names, units)

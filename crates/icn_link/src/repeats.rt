@@ -20,7 +20,8 @@ pub struct Owner<'a> {
     pub place: DeclPlace,
 }
 
-/// Refuses units in which a name is procedure or record twice.
+/// Refuses units in which a name is procedure or record twice. The error is K1 with the first declaration that repeats a
+/// name, or want of memory.
 pub fn check_owners(alloc: Global, units: &[Unit]) -> Result<(), LinkFault>
     ensures none { OnOk result (repeated_name (units_seen units.now) ≡ None) }
     ensures fault { IfErr result (IsFault (repeated_name (units_seen units.now))) }

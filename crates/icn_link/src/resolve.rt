@@ -10,7 +10,7 @@ use icn_code::Instr;
 use icn_unit::UnitInstr;
 use std::alloc::{AllocError, Global};
 
-/// The instructions of a procedure, where its names are these variables.
+/// The instructions of a procedure, where its names are these variables. The error is want of memory.
 pub fn resolve_instrs(
     alloc: Global,
     tables: &GatheredMentions<'_>,

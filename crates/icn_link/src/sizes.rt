@@ -18,7 +18,7 @@ use indexmap::IndexSet;
 
 const MOST_INSTRS: u64 = MOST_INSTRUCTIONS;
 
-/// Refuses a number above a bound.
+/// Refuses a number above a bound. The error is K3 with that number.
 pub fn check_count(count: u64, most: u64) -> Result<(), LinkFault>
     ensures none { OnOk result ((rest : List ℕ) → over most (count ∷ rest) ≡ over most rest) }
     ensures fault { IfErr result (λ fault. (rest : List ℕ) → over most (count ∷ rest) ≡ Some fault) }
@@ -29,7 +29,7 @@ pub fn check_count(count: u64, most: u64) -> Result<(), LinkFault>
     Ok(())
 }
 
-/// Refuses procedures of too many instructions.
+/// Refuses procedures of too many instructions. The error is K3 with how many all have together.
 pub fn check_instrs(procs: &[&ProcCode]) -> Result<(), LinkFault>
     ensures none { OnOk result (over most_instructions (sum_by size_of (procs_seen procs.now) ∷ []) ≡ None) }
     ensures fault { IfErr result
@@ -58,7 +58,7 @@ fn size_of(instrs: &[UnitInstr]) -> u64
         .count() as u64
 }
 
-/// Refuses tables of too many entries.
+/// Refuses tables of too many entries. The error is K3 with the first number of entries above the bound.
 pub fn check_tables(
     tables: &GatheredMentions<'_>,
     decls: &[&UnitDecl],
@@ -104,7 +104,7 @@ fn records_in(decls: &[&UnitDecl]) -> u64
     count
 }
 
-/// Refuses procedures of too many statics together.
+/// Refuses procedures of too many statics together. The error is K3 with that number.
 pub fn check_all_statics(globals: &IndexSet<&[u8]>, procs: &[&ProcCode]) -> Result<(), LinkFault>
     ensures none { OnOk result
         (over most_statics (all_statics (texts_seen globals.now.keys) (procs_seen procs.now) ∷ []) ≡ None) }
@@ -125,7 +125,7 @@ fn all_statics(globals: &IndexSet<&[u8]>, procs: &[&ProcCode]) -> u64
     count
 }
 
-/// Refuses too many fields, or too many records.
+/// Refuses too many fields, or too many records. The error is K3 with that number, of the fields first.
 pub fn check_kinds(tables: &GatheredMentions<'_>, decls: &[&UnitDecl]) -> Result<(), LinkFault>
     ensures none { OnOk result
         (over most_fields (kind_counts (gathered_seen tables.now) (decls_seen decls.now)) ≡ None) }
@@ -136,7 +136,7 @@ pub fn check_kinds(tables: &GatheredMentions<'_>, decls: &[&UnitDecl]) -> Result
     check_count(records_in(decls), MOST_FIELDS)
 }
 
-/// Refuses a record of too many fields.
+/// Refuses a record of too many fields. The error is K3 with that number, of the first such record.
 pub fn check_records(decls: &[&UnitDecl]) -> Result<(), LinkFault>
     ensures none { OnOk result (over most_fields (record_sizes (decls_seen decls.now)) ≡ None) }
     ensures fault { IfErr result
@@ -163,7 +163,8 @@ fn check_record(decl: &UnitDecl) -> Result<(), LinkFault>
     }
 }
 
-/// Refuses a procedure of too many parameters and other locals.
+/// Refuses a procedure of too many parameters and other locals. The error is K3 with that number, of the first such
+/// procedure.
 pub fn check_locals(globals: &IndexSet<&[u8]>, procs: &[&ProcCode]) -> Result<(), LinkFault>
     ensures none { OnOk result
         (over most_variables (local_counts (texts_seen globals.now.keys) (procs_seen procs.now)) ≡ None) }
@@ -177,7 +178,7 @@ pub fn check_locals(globals: &IndexSet<&[u8]>, procs: &[&ProcCode]) -> Result<()
     Ok(())
 }
 
-/// Refuses a procedure of too many statics.
+/// Refuses a procedure of too many statics. The error is K3 with that number, of the first such procedure.
 pub fn check_statics(globals: &IndexSet<&[u8]>, procs: &[&ProcCode]) -> Result<(), LinkFault>
     ensures none { OnOk result
         (over most_variables (static_counts (texts_seen globals.now.keys) (procs_seen procs.now)) ≡ None) }

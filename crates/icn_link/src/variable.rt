@@ -37,7 +37,7 @@ pub fn variable_of(globals: &IndexSet<&[u8]>, entry: &UnitName) -> VariableKind
     }
 }
 
-/// The instruction of each name of a procedure, in the order of the names.
+/// The instruction of each name of a procedure, in the order of the names. The error is want of memory.
 pub fn variables(
     alloc: Global,
     globals: &IndexSet<&[u8]>,

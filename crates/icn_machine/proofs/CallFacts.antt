@@ -10,6 +10,7 @@ use Rattle.icn_value.specs.declared.val.Val.TheVariants as Vals
 use Rattle.icn_value.specs.declared.item.Item.{Item as HeldItem}
 use Rattle.icn_value.specs.Store.{Names, list_at, outside_of, record_at}
 use Rattle.icn_value.specs.Values.{Value, Null, Integer, Text, Chars, Std, Procedure, ARecord, AList, ASet, ATable, ACoexp}
+use Rattle.law_rows.proofs.EachOfList.{each_of}
 use Rattle.icn_heap.specs.Extents.{Extent, value_in}
 use Rattle.icn_heap.specs.Heaps.{extent_of, heap_of}
 use Rattle.law_names.specs.NamedSettings.{ItemNamed, ListNamed, RecordNamed, ValueNamed, WorldNamed}
@@ -231,12 +232,12 @@ called_named law tables (AList n) m st is stack store =
     null_named law tables (map plain (list_at st.world.heap n).items) m st
     (plain_named (all_names tables) (list_at st.world.heap n).items (list_named (all_names tables) (slice_get st.world.heap.lists n)
     (C.each_get (ListNamed (all_names tables)) st.world.heap.lists n
-    (C.each_of (ListNamed (all_names tables)) st.world.heap.lists store.world.heap.lists)))) stack store
+    (each_of (ListNamed (all_names tables)) st.world.heap.lists store.world.heap.lists)))) stack store
 called_named law tables (ARecord n) m st is stack store =
     null_named law tables (map plain (record_at st.world.heap n).fields) m st
     (plain_named (all_names tables) (record_at st.world.heap n).fields (record_named (all_names tables) (slice_get st.world.heap.records n)
     (C.each_get (RecordNamed (all_names tables)) st.world.heap.records n
-    (C.each_of (RecordNamed (all_names tables)) st.world.heap.records store.world.heap.records)))) stack store
+    (each_of (RecordNamed (all_names tables)) st.world.heap.records store.world.heap.records)))) stack store
 called_named law tables Null m st is stack store = none_named (all_names tables) Null m st is stack store
 called_named law tables (Integer n) m st is stack store = none_named (all_names tables) (Integer n) m st is stack store
 called_named law tables (Text text) m st is stack store = none_named (all_names tables) (Text text) m st is stack store

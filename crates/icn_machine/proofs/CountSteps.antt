@@ -7,7 +7,7 @@ use Rattle.std.proofs.lemmas.Option.{same_Some}
 use Rattle.std.specs.Int.{w64}
 use Rattle.std.specs.Result.{result_ok}
 use Rattle.icn_text.specs.declared.arithmetic.Arith.TheVariants.{Overflow}
-use Rattle.icn_text.specs.IntegerArithmetic.{fitting, sum}
+use Rattle.icn_text.specs.IntegerArithmetic.{if_fits, sum}
 use Rattle.icn_value.specs.declared.item.Item.TheVariants as Items
 use Rattle.icn_value.specs.declared.residual.Residual.{Residual}
 use Rattle.icn_value.specs.declared.residual.Residual.TheVariants.{Counting}
@@ -16,7 +16,7 @@ use Rattle.icn_value.specs.Values as values
 use Rattle.icn_value.specs.Store.{Names, Setting}
 use Rattle.icn_defs.specs.Applying as rows
 use Rattle.icn_defs.specs.Arithmetic.{count_from, counting_again, counts_on}
-use Rattle.icn_defs.specs.Rows.{Outcome, Counting as RowCounting, passing, suspends}
+use Rattle.icn_defs.specs.Rows.{Outcome, Counting as RowCounting, fails_unless, suspends}
 use Rattle.icn_heap.specs.Extents.{Extent}
 use Rattle.icn_heap.specs.Heaps.{extent_of}
 use Rattle.icn_vars.specs.Outcomes.{outcome_in, residual_in}
@@ -97,8 +97,8 @@ count_ended m count off = fails_given (count_outcome count) m (failed_if (counts
 
 -- Going on
 
-fitting_sum : (m n : ℤ) → result_ok (sum m n) ≡ fitting (m +ℤ n)
-fitting_sum m n = by_found (fitting (m +ℤ n))
+fitting_sum : (m n : ℤ) → result_ok (sum m n) ≡ if_fits (m +ℤ n)
+fitting_sum m n = by_found (if_fits (m +ℤ n))
   where
     by_found : (found : Option ℤ) → result_ok (ok_or found Overflow) ≡ found
     by_found (Some k) = refl
@@ -109,7 +109,7 @@ counted : (count : Count) (all : Extent) (seen : Setting)
     → count_from count.last count.step (Some count.given) seen ≡ outcome_in all (count_outcome count) seen
 counted count all seen = by_end (counts_on count.step count.last count.given)
   where
-    by_end : (b : Bool) → passing b (suspends (values.Val (values.Integer count.given)) (RowCounting count.given count.last count.step)) seen
+    by_end : (b : Bool) → fails_unless b (suspends (values.Val (values.Integer count.given)) (RowCounting count.given count.last count.step)) seen
         ≡ outcome_in all (count_if b count) seen
     by_end true = refl
     by_end false = refl

@@ -42,8 +42,8 @@ use Rattle.icn_instructions.specs.Ranges.{IsInRange}
 use Rattle.icn_machine.specs.Performing.{PerformsOn}
 use Rattle.icn_machine.specs.AfterInstruction.{stage_result}
 use Rattle.icn_machine.specs.declared.stepping.AfterStep.{AfterStep}
-use Rattle.icn_machine.specs.Stepping.{Advances, AlwaysOver, EndsWhole, GoesOn, IsDoing, IsReady, LacksNothing, advances, goes_on, is_failing, is_whole, stays}
-use Rattle.icn_machine.proofs.AdvanceSteps.{advances_then}
+use Rattle.icn_machine.specs.Stepping.{Advances, AlwaysOver, EndsWhole, GoesOn, IsDoing, IsFailing, IsReady, LacksNothing, advances, goes_on, is_failing, is_whole, stays}
+use Rattle.icn_machine.proofs.AdvanceSteps.{Passes, advances_then}
 use Rattle.icn_machine.proofs.NextSteps.{always_doing, kept_running, read_instr, step_does}
 
 -- The next place
@@ -213,16 +213,16 @@ calls_as instr j e h k = h (subst MayCall e k)
 
 pub staged_err : {K : Type 0} (tables : Tables) (m : Machine K) (stage : RunState) (a : CallStreams) (n : Machine K) (b : CallStreams) (halt : Halt)
     (result : Result AfterStep Halt)
-    → IsErrAnd result (λ h. h ≡ halt) → GoesOn tables m stage a n b (Err halt)
-    → GoesOn tables m stage a n b (stage_result result)
-staged_err tables m stage a n b halt (Err h) e p = subst (λ (x : Halt). GoesOn tables m stage a n b (Err x)) (sym e) p
+    → IsErrAnd result (λ h. h ≡ halt) → GoesOn IsFailing tables m stage a n b (Err halt)
+    → GoesOn IsFailing tables m stage a n b (stage_result result)
+staged_err tables m stage a n b halt (Err h) e p = subst (λ (x : Halt). GoesOn IsFailing tables m stage a n b (Err x)) (sym e) p
 staged_err tables m stage a n b halt (Ok s) e p = absurd e
 
 pub advanced_err : {K : Type 0} (tables : Tables) (m : Machine K) (stage : RunState) (a : CallStreams) (n : Machine K) (b : CallStreams) (halt : Halt)
     (result : Result AfterStep Halt)
-    → IsErrAnd result (λ h. h ≡ halt) → Advances tables m stage a n b (Err halt)
-    → Advances tables m stage a n b (stage_result result)
-advanced_err tables m stage a n b halt (Err h) e p = subst (λ (x : Halt). Advances tables m stage a n b (Err x)) (sym e) p
+    → IsErrAnd result (λ h. h ≡ halt) → Advances IsFailing tables m stage a n b (Err halt)
+    → Advances IsFailing tables m stage a n b (stage_result result)
+advanced_err tables m stage a n b halt (Err h) e p = subst (λ (x : Halt). Advances IsFailing tables m stage a n b (Err x)) (sym e) p
 advanced_err tables m stage a n b halt (Ok s) e p = absurd e
 
 pub err_memory : (halt : Halt) (result : Result AfterStep Halt) → IsErrAnd result (λ h. h ≡ halt) → EndsWhole (Err halt) → result ≢ Err Halts.NoMemory
@@ -239,10 +239,11 @@ err_memory halt (Err h) e w = by h (subst (λ (x : Halt). EndsWhole (Err x)) (sy
 -- failing behind an instruction
 pub then_fails : {K : Type 0} (tables : Tables) (m : Machine K) (stage : RunState) (a : CallStreams) (n : Machine K) (next : RunState) (b : CallStreams)
     (k : Machine K) (c : CallStreams) (result : Result RunState Halt)
-    → goes_on next ≡ true
-    → Advances tables m stage a n b (Ok next) → GoesOn tables n next b k c result → Advances tables m stage a k c result
-then_fails tables m stage a n next b k c result goes p (advances q) = advances_then tables m stage a n next b k c result goes p q
-then_fails {K} tables m stage a n next b k c result goes p (stays e h f) =
-    subst (λ (x : Machine K). Advances tables m stage a x c result) (sym e)
-    (subst (λ (x : CallStreams). Advances tables m stage a n x result) (sym h)
-    (subst (λ (x : Result RunState Halt). Advances tables m stage a n b x) (sym f) p))
+    → goes_on next ≡ true → Passes IsFailing tables n next
+    → Advances IsFailing tables m stage a n b (Ok next) → GoesOn IsFailing tables n next b k c result → Advances IsFailing tables m stage a k c result
+then_fails tables m stage a n next b k c result goes passes p (advances q) =
+    advances_then IsFailing tables m stage a n next b k c result goes passes p q
+then_fails {K} tables m stage a n next b k c result goes passes p (stays e h f) =
+    subst (λ (x : Machine K). Advances IsFailing tables m stage a x c result) (sym e)
+    (subst (λ (x : CallStreams). Advances IsFailing tables m stage a n x result) (sym h)
+    (subst (λ (x : Result RunState Halt). Advances IsFailing tables m stage a n b x) (sym f) p))

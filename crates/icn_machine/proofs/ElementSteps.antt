@@ -28,7 +28,8 @@ use Rattle.icn_code.specs.Codes.{Tables}
 use Rattle.icn_run.specs.Rows as rows
 use Rattle.icn_run.specs.Stacks.{Frames, flat}
 use Rattle.icn_run.specs.Step.{State, Store, applied_to_elements, elements_called, errs, invoke_value, plain, with_value}
-use Rattle.law_steps.proofs.CallsNamed.{IfThere, each_get, each_of}
+use Rattle.law_rows.proofs.EachOfList.{each_of}
+use Rattle.law_steps.proofs.CallsNamed.{IfThere, each_get}
 use Rattle.icn_streams.specs.Handed.{CallStreams}
 use Rattle.icn_control.specs.StackAndWorld.{HaltsWith, StandsWith}
 use Rattle.icn_control.specs.StackViews.{stack_in}

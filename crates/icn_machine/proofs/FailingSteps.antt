@@ -21,7 +21,7 @@ use Rattle.icn_control.specs.declared.machine.RunState.{RunState}
 use Rattle.icn_control.specs.declared.machine.RunState.TheVariants as RunStates
 use Rattle.icn_control.proofs.Halts.{unless_ended}
 use Rattle.icn_machine.specs.Performing.{PerformsOn}
-use Rattle.icn_machine.specs.Stepping.{Advances, FailsFurther, IsKept, IsKeptAt, IsReady, IsReadyToFail, IsTurn, KeepsState, MakesTurn}
+use Rattle.icn_machine.specs.Stepping.{Advances, FailsFurther, IsFailing, IsKept, IsKeptAt, IsReady, IsReadyToFail, IsTurn, KeepsState, MakesTurn}
 use Rattle.icn_machine.proofs.AdvanceSteps.{SettlesOn, quiet_step, performed_step}
 use Rattle.icn_machine.proofs.FailFalls.{Further, fails_further, hops_further}
 use Rattle.icn_machine.proofs.KeptSteps.{kept_at, kept_failing, kept_hopping, kept_over, next_lacks_nothing}
@@ -92,7 +92,7 @@ failed_further tables m n RunStates.Failing b l =
 
 -- where it neither reads nor puts
 pub failed_quietly : {K : Type 0} (tables : Tables) (m n : Machine K) (h : CallStreams) (stage : RunState)
-    → ((outside : Outside) → StandsAt tables outside (failed tables m outside) n stage) → Advances tables m RunStates.Failing h n h (Ok stage)
+    → ((outside : Outside) → StandsAt tables outside (failed tables m outside) n stage) → Advances IsFailing tables m RunStates.Failing h n h (Ok stage)
 failed_quietly tables m n h stage f =
     quiet_step tables m RunStates.Failing h n stage refl
     (λ was state at. subst (λ (s : State Frames Frames). StandsAt tables was (step flat tables s) n stage) (sym at) (f was))
@@ -141,7 +141,7 @@ resumed_erring tables names sizes m before k after answer kept p sound stack =
 -- and where its error is settled
 pub failed_performing : {K : Type 0} (tables : Tables) (m : Machine K) (before : CallStreams) (n : Machine K) (after : CallStreams)
     (result : Result RunState Halt)
-    → SettlesOn tables (failed tables m) n before after result → Advances tables m RunStates.Failing before n after result
+    → SettlesOn tables (failed tables m) n before after result → Advances IsFailing tables m RunStates.Failing before n after result
 failed_performing tables m before n after result p =
     performed_step tables (failed tables m) m RunStates.Failing before n after result (λ was state at. ap (step flat tables) at) p
 
@@ -165,7 +165,7 @@ hopped tables m outside old = hop flat tables old (store_seen tables outside m)
 
 pub hopped_quietly : {K : Type 0} (tables : Tables) (m n : Machine K) (h : CallStreams) (stage : RunState)
     → ((outside : Outside) (old : Frames) → StandsAt tables outside (hopped tables m outside old) n stage)
-    → Advances tables m RunStates.Hopping h n h (Ok stage)
+    → Advances IsFailing tables m RunStates.Hopping h n h (Ok stage)
 hopped_quietly tables m n h stage f =
     quiet_step tables m RunStates.Hopping h n stage refl
     (λ was state at. subst (λ (s : State Frames Frames). StandsAt tables was (step flat tables s) n stage) (sym at.1) (f was at.0))

@@ -16,6 +16,7 @@ pub mod OperandCalls
 pub mod OperateSteps
 pub mod PerformEvents
 pub mod PerformSteps
+pub mod PlainCallSteps
 pub mod PlainOperands
 pub mod PlainOperationSteps
 pub mod SettleSteps

@@ -6,39 +6,40 @@ use Rattle.icn_vars.specs.declared.outcome.Halt.{Halt}
 use Rattle.icn_value.specs.declared.limits.Limits.{Limits}
 use Rattle.icn_code.specs.Codes.{Tables}
 use Rattle.icn_streams.specs.Handed.{CallStreams}
+use Rattle.icn_run.specs.Stacks.{Frames}
+use Rattle.icn_run.specs.Step.{State}
 use Rattle.icn_control.specs.Machines.{stack_seen}
 use Rattle.icn_control.specs.declared.machine.Machine.{Machine}
 use Rattle.icn_control.specs.declared.machine.RunState.{RunState}
 use Rattle.icn_control.specs.declared.machine.RunState.TheVariants as RunStates
 use Rattle.icn_machine.specs.Stepping.{Advances, FailsFurther, GoesOn, IsTurn, MakesTurn, advances, fails_within, goes_on, is_failing, stays}
-use Rattle.icn_machine.proofs.AdvanceSteps.{advances_then}
+use Rattle.icn_machine.proofs.AdvanceSteps.{Passes, advances_then}
 
 -- Some steps after none or some
 
-pub goes_then : {K : Type 0} (tables : Tables) (m : Machine K) (stage : RunState) (a : CallStreams) (n : Machine K) (next : RunState) (b : CallStreams)
-    (k : Machine K)
-    (c : CallStreams) (result : Result RunState Halt)
-    → goes_on next ≡ true
-    → GoesOn tables m stage a n b (Ok next) → Advances tables n next b k c result → Advances tables m stage a k c result
-goes_then tables m stage a n next b k c result goes (advances p) q = advances_then tables m stage a n next b k c result goes p q
-goes_then {K} tables m stage a n next b k c result goes (stays e h r) q =
-    subst (λ (x : Machine K). Advances tables x stage a k c result) e
-    (subst (λ (x : CallStreams). Advances tables n stage x k c result) h
-    (subst (λ (x : RunState). Advances tables n x b k c result) (stage_same next stage r) q))
+pub goes_then : {K : Type 0} (Is : State Frames Frames → Type 0) (tables : Tables) (m : Machine K) (stage : RunState) (a : CallStreams) (n : Machine K)
+    (next : RunState) (b : CallStreams) (k : Machine K) (c : CallStreams) (result : Result RunState Halt)
+    → goes_on next ≡ true → Passes Is tables n next
+    → GoesOn Is tables m stage a n b (Ok next) → Advances Is tables n next b k c result → Advances Is tables m stage a k c result
+goes_then Is tables m stage a n next b k c result goes passes (advances p) q = advances_then Is tables m stage a n next b k c result goes passes p q
+goes_then {K} Is tables m stage a n next b k c result goes passes (stays e h r) q =
+    subst (λ (x : Machine K). Advances Is tables x stage a k c result) e
+    (subst (λ (x : CallStreams). Advances Is tables n stage x k c result) h
+    (subst (λ (x : RunState). Advances Is tables n x b k c result) (stage_same next stage r) q))
   where
     stage_same : (s t : RunState) → ◌≡◌ {A = Result RunState Halt} (Ok s) (Ok t) → s ≡ t
     stage_same s t e = cc
 
-pub goes_goes : {K : Type 0} (tables : Tables) (m : Machine K) (stage : RunState) (a : CallStreams) (n : Machine K) (next : RunState) (b : CallStreams)
-    (k : Machine K)
-    (c : CallStreams) (result : Result RunState Halt)
-    → goes_on next ≡ true
-    → GoesOn tables m stage a n b (Ok next) → GoesOn tables n next b k c result → GoesOn tables m stage a k c result
-goes_goes tables m stage a n next b k c result goes p (advances q) = advances (goes_then tables m stage a n next b k c result goes p q)
-goes_goes {K} tables m stage a n next b k c result goes p (stays e h r) =
-    subst (λ (x : Machine K). GoesOn tables m stage a x c result) (sym e)
-    (subst (λ (x : CallStreams). GoesOn tables m stage a n x result) (sym h)
-    (subst (λ (x : Result RunState Halt). GoesOn tables m stage a n b x) (sym r) p))
+pub goes_goes : {K : Type 0} (Is : State Frames Frames → Type 0) (tables : Tables) (m : Machine K) (stage : RunState) (a : CallStreams) (n : Machine K)
+    (next : RunState) (b : CallStreams) (k : Machine K) (c : CallStreams) (result : Result RunState Halt)
+    → goes_on next ≡ true → Passes Is tables n next
+    → GoesOn Is tables m stage a n b (Ok next) → GoesOn Is tables n next b k c result → GoesOn Is tables m stage a k c result
+goes_goes Is tables m stage a n next b k c result goes passes p (advances q) =
+    advances (goes_then Is tables m stage a n next b k c result goes passes p q)
+goes_goes {K} Is tables m stage a n next b k c result goes passes p (stays e h r) =
+    subst (λ (x : Machine K). GoesOn Is tables m stage a x c result) (sym e)
+    (subst (λ (x : CallStreams). GoesOn Is tables m stage a n x result) (sym h)
+    (subst (λ (x : Result RunState Halt). GoesOn Is tables m stage a n b x) (sym r) p))
 
 -- In one turn
 
@@ -122,21 +123,22 @@ failing_goes RunStates.AtBound e = cc
 -- One turn of a loop, where it goes on and where an error leaves it
 
 -- one turn of the loop, and what the rest comes to
-pub loop_goes_on : {K : Type 0} (tables : Tables) (m : Machine K) (stage : RunState) (a : CallStreams) (n : Machine K) (next due : RunState) (b : CallStreams)
-    (k : Machine K) (c : CallStreams) (result : Result RunState Halt)
-    → next ≡ due → goes_on due ≡ true
-    → GoesOn tables m stage a n b (Ok next) → GoesOn tables n due b k c result → GoesOn tables m stage a k c result
-loop_goes_on tables m stage a n next due b k c result e goes p q =
-    goes_goes tables m stage a n due b k c result goes (subst (λ (s : RunState). GoesOn tables m stage a n b (Ok s)) e p) q
+pub loop_goes_on : {K : Type 0} (Is : State Frames Frames → Type 0) (tables : Tables) (m : Machine K) (stage : RunState) (a : CallStreams) (n : Machine K)
+    (next due : RunState) (b : CallStreams) (k : Machine K) (c : CallStreams) (result : Result RunState Halt)
+    → next ≡ due → goes_on due ≡ true → Passes Is tables n due
+    → GoesOn Is tables m stage a n b (Ok next) → GoesOn Is tables n due b k c result → GoesOn Is tables m stage a k c result
+loop_goes_on Is tables m stage a n next due b k c result e goes passes p q =
+    goes_goes Is tables m stage a n due b k c result goes passes (subst (λ (s : RunState). GoesOn Is tables m stage a n b (Ok s)) e p) q
 
 -- one turn of the loop, and the halt of the rest
-pub loop_halts : {K : Type 0} (tables : Tables) (m : Machine K) (stage : RunState) (a : CallStreams) (n : Machine K) (next due : RunState) (b : CallStreams)
-    (k : Machine K) (c : CallStreams) (halt : Halt) (result : Result RunState Halt)
-    → next ≡ due → goes_on due ≡ true
-    → GoesOn tables m stage a n b (Ok next) → GoesOn tables n due b k c (Err halt) → IsErrAnd result (λ h. h ≡ halt) → GoesOn tables m stage a k c result
-loop_halts tables m stage a n next due b k c halt (Err h) e goes p q r =
-    subst (λ (x : Halt). GoesOn tables m stage a k c (Err x)) (sym r) (loop_goes_on tables m stage a n next due b k c (Err halt) e goes p q)
-loop_halts tables m stage a n next due b k c halt (Ok s) e goes p q r = absurd r
+pub loop_halts : {K : Type 0} (Is : State Frames Frames → Type 0) (tables : Tables) (m : Machine K) (stage : RunState) (a : CallStreams) (n : Machine K)
+    (next due : RunState) (b : CallStreams) (k : Machine K) (c : CallStreams) (halt : Halt) (result : Result RunState Halt)
+    → next ≡ due → goes_on due ≡ true → Passes Is tables n due
+    → GoesOn Is tables m stage a n b (Ok next) → GoesOn Is tables n due b k c (Err halt) → IsErrAnd result (λ h. h ≡ halt)
+    → GoesOn Is tables m stage a k c result
+loop_halts Is tables m stage a n next due b k c halt (Err h) e goes passes p q r =
+    subst (λ (x : Halt). GoesOn Is tables m stage a k c (Err x)) (sym r) (loop_goes_on Is tables m stage a n next due b k c (Err halt) e goes passes p q)
+loop_halts Is tables m stage a n next due b k c halt (Ok s) e goes passes p q r = absurd r
 
 -- an error has no value of which anything is to be shown
 pub if_ok_of_error : {A : Type 0} (result : Result A Halt) (Q : Halt → Type 0) (P : A → Type 0) → IsErrAnd result Q → IfOk result P

@@ -41,7 +41,7 @@ use Rattle.icn_instructions.specs.declared.groups.InstrGroup.TheVariants as Grou
 use Rattle.icn_instructions.proofs.LackSteps.{one_there, take_there}
 use Rattle.icn_machine.specs.NamedWorlds.{coexps_seen}
 use Rattle.icn_machine.specs.Performing.{LeavesNamed, PerformsOn, UnlessOver}
-use Rattle.icn_machine.specs.Stepping.{Advances, AlwaysOver, IsDoing, IsKept, IsReady, IsReadyToFail, KeepsState, LacksNothing, applies_op, is_applied, is_whole}
+use Rattle.icn_machine.specs.Stepping.{Advances, AlwaysOver, IsDoing, IsFailing, IsKept, IsReady, IsReadyToFail, KeepsState, LacksNothing, applies_op, is_applied, is_whole}
 use Rattle.icn_machine.proofs.AdvanceSteps.{SettlesOn, performed_step}
 use Rattle.icn_machine.proofs.KeptSteps.{always_next, kept_at, kept_over, next_lacks_nothing}
 use Rattle.icn_machine.proofs.SettleSteps.{fit_errs, named_errs}
@@ -268,7 +268,7 @@ called_keeps names tables m n instr j result e i d left more sized was now comes
 pub next_step : {K : Type 0} (tables : Tables) (m k : Machine K) (instr : Instr) (before : CallStreams) (n : Machine K) (after : CallStreams)
     (result : Result RunState Halt)
     → ((outside : Outside) → step flat tables (running (stack_seen m) (store_seen tables outside m)) ≡ does tables outside instr k)
-    → SettlesOn tables (λ o. does tables o instr k) n before after result → Advances tables m RunStates.Running before n after result
+    → SettlesOn tables (λ o. does tables o instr k) n before after result → Advances IsFailing tables m RunStates.Running before n after result
 next_step tables m k instr before n after result e p =
     performed_step tables (λ o. does tables o instr k) m RunStates.Running before n after result (λ was state at. ap (step flat tables) at ∙ e was) p
 

@@ -1,10 +1,8 @@
 -- Rows that a machine performs as instructions, and as what was left is resumed.
-use Rattle.std.proofs.Common.{◌≡◌, ℕ, zero, suc, ◌+◌, Bool, true, false, nat_lt, List, [], ◌∷◌, ◌++◌, length, map, Option, Some, None, Result, Ok, Err, refl, sym, ap, ◌∙◌, subst, arith}
+use Rattle.std.proofs.Common.{◌≡◌, ℕ, zero, suc, ◌+◌, Bool, true, false, nat_lt, List, [], ◌∷◌, length, map, Option, Some, None, Result, Ok, Err, refl, sym, ap, ◌∙◌, subst, arith}
 use Rattle.std.proofs.lemmas.Option.{same_Some}
 use Rattle.std.specs.Prelude.{if◌then◌else◌, IsSome}
 use Rattle.std.specs.Option.{option_and_then, option_map}
-use Rattle.icn_host.specs.Sinks.{SinkState}
-use Rattle.icn_host.proofs.SinkSteps.{gains_nothing}
 use Rattle.icn_text.specs.declared.op.Op.{Op}
 use Rattle.icn_text.specs.declared.op.Op.TheVariants as Ops
 use Rattle.icn_value.specs.declared.item.Item.{Item}
@@ -16,6 +14,7 @@ use Rattle.icn_defs.specs.Arities.{arity}
 use Rattle.icn_defs.specs.Rows.{Row, Outcome, Fails, Gives, Suspends, Error, Ends}
 use Rattle.icn_defs.specs.StepRows as step_rows
 use Rattle.icn_defs.specs.StepRows.{Operation}
+use Rattle.law_rows.proofs.EachOfList.{Each}
 use Rattle.icn_heap.specs.Extents.{Extent, value_in}
 use Rattle.icn_heap.specs.Heaps.{extent_of, heap_of}
 use Rattle.law_names.specs.NamedSettings.{ItemNamed}
@@ -30,8 +29,9 @@ use Rattle.icn_coexp.specs.Transfers.{CoexpTable}
 use Rattle.law_frames.proofs.CallsRead.{pop_read}
 use Rattle.icn_code.specs.declared.instr.Instr.TheVariants as Instrs
 use Rattle.icn_code.specs.Codes.{Tables}
+use Rattle.icn_streams.proofs.CallSequences.{follows_all}
 use Rattle.icn_streams.proofs.IdleCalls.{leaves_streams_refl}
-use Rattle.icn_streams.specs.Handed.{CallStreams, Follows, KeepsAllCounts, PutsAdded, uncounted}
+use Rattle.icn_streams.specs.Handed.{CallStreams, KeepsAllCounts, uncounted}
 use Rattle.icn_run.specs.Calls as calls
 use Rattle.icn_run.specs.Rows as run_rows
 use Rattle.icn_run.specs.Stacks.{Frames, flat}
@@ -60,16 +60,6 @@ use Rattle.icn_machine.proofs.PerformEvents.{performs_as}
 
 -- Where nothing was read or put
 
-nothing_more : (xs : List ℕ) → xs ≡ xs ++ []
-nothing_more [] = refl
-nothing_more (x ∷ xs) = ap (λ (s : List ℕ). x ∷ s) (nothing_more xs)
-
-puts_nothing : (sink : SinkState) (was : List ℕ) → PutsAdded sink sink was was
-puts_nothing sink was = record { text = []; is = nothing_more was; gains = gains_nothing sink.held }
-
-follows_same : (b : CallStreams) (was : Outside) → b.left ≡ Some was.left → Follows b b was was
-follows_same b was told = record { left = told; output = puts_nothing b.output was.output; errors = puts_nothing b.errors was.errors }
-
 counts_same : (b : CallStreams) → KeepsAllCounts b b
 counts_same b = record { faults = refl; output = record { faults = refl; wants = refl }; errors = record { faults = refl; wants = refl } }
 
@@ -77,10 +67,10 @@ counts_same b = record { faults = refl; output = record { faults = refl; wants =
 pub performs_still : {A : Type 0} (leads : Outside → State Frames Frames) (C : Outside → Outside → Result A Halt → Type 0) (b : CallStreams) (x : A)
     → ((was : Outside) → C was was (Ok x)) → Performs leads C b b (Ok x)
 performs_still leads C b x h = record {
-  answers = λ was told. record { now = was; follows = follows_same b was told; is = h was };
+  answers = λ was told. record { now = was; follows = follows_all b was told; is = h was };
   had = [];
   has = [];
-  meant = λ was left. record { now = was; follows = follows_same (with_left [] b) was (ap (λ (xs : List ℕ). Some xs) (sym left)); is = h was };
+  meant = λ was left. record { now = was; follows = follows_all (with_left [] b) was (ap (λ (xs : List ℕ). Some xs) (sym left)); is = h was };
   caused = counts_same b;
 }
 
@@ -282,7 +272,7 @@ taken_as n o m k l items xs e same kept value =
 
 -- what is taken, and the stack without it, name only what has a name
 pub record TakesNamed (names : Names) (all : Extent) (items : List Item) (k : FlatStack) : Type 0 where
-  pub items_named : named.Each (ItemNamed names) (map (item_in all) items)
+  pub items_named : Each (ItemNamed names) (map (item_in all) items)
   pub rest : named.NamedStack names (stack_in all k)
 
 popped_named : (names : Names) (all : Extent) (m : FlatStack) (popped : Item × FlatStack) → held.pop m ≡ Some popped → named.NamedStack names (stack_in all m)
@@ -293,7 +283,7 @@ popped_named names all m popped e h =
     (named.pop names (stack_in all m) h)
 
 named_onto : (names : Names) (all : Extent) (n : ℕ) (m k : FlatStack) (onto items : List Item) → taken_onto n m onto ≡ Some (items, k)
-    → named.Each (ItemNamed names) (map (item_in all) onto) → named.NamedStack names (stack_in all m) → TakesNamed names all items k
+    → Each (ItemNamed names) (map (item_in all) onto) → named.NamedStack names (stack_in all m) → TakesNamed names all items k
 named_onto names all zero m k onto items e xs h =
     let here : List Item × FlatStack = (onto, m) in
     let there : TakesNamed names all onto m = record { items_named = xs; rest = h } in
@@ -302,7 +292,7 @@ named_onto names all (suc n) m k onto items e xs h = by_pop (held.pop m) refl e 
   where
     by_pop : (o : Option (Item × FlatStack)) → held.pop m ≡ o
         → option_and_then (λ (popped : Item × FlatStack). taken_onto n popped.1 (popped.0 ∷ onto)) o ≡ Some (items, k)
-        → ((m k : FlatStack) (onto items : List Item) → taken_onto n m onto ≡ Some (items, k) → named.Each (ItemNamed names) (map (item_in all) onto)
+        → ((m k : FlatStack) (onto items : List Item) → taken_onto n m onto ≡ Some (items, k) → Each (ItemNamed names) (map (item_in all) onto)
         → named.NamedStack names (stack_in all m) → TakesNamed names all items k)
         → TakesNamed names all items k
     by_pop None p q f = cc

@@ -1,18 +1,19 @@
 -- Rows on a stack in a world, as steps.
-use Rattle.std.proofs.Common.{◌≡◌, ℕ, zero, suc, List, [], ◌∷◌, ◌++◌, length, map, take, Option, Some, None, Result, Ok, Err, refl, sym, ap, ◌∙◌, subst}
+use Rattle.std.proofs.Common.{◌≡◌, ℕ, suc, List, [], ◌∷◌, length, map, Option, Some, None, Result, Ok, Err, refl, sym, ap, ◌∙◌, subst}
 use Rattle.std.specs.Prelude.{IfErr, IsErrAnd}
 use Rattle.std.specs.Option.{option_map}
 use Rattle.std.specs.List.{All}
-use Rattle.std.specs.Io.KnownBytes.{Appends}
 use Rattle.std.proofs.lemmas.List.Elements.{All-head, All-tail}
-use Rattle.icn_host.specs.Sinks.{SinkState}
 use Rattle.icn_value.specs.declared.val.Val.{Val}
 use Rattle.icn_value.specs.Values.{Value, Item}
-use Rattle.icn_value.specs.Store.{Heap, Names, Outside, Setting, World as StoreWorld, outside_of}
-use Rattle.icn_defs.specs.Errors.{with_kept}
+use Rattle.icn_value.specs.Store.{ErrorByte, Event, Heap, Names, Outside, Setting, World as StoreWorld, outside_of}
+use Rattle.icn_defs.specs.Errors.{error_report, with_kept}
+use Rattle.icn_defs.specs.Interruptions.{ExtendsBy}
+use Rattle.icn_defs.proofs.Interruptions.{between_longer, extends_by_errors, extends_itself, reading_longer}
 use Rattle.icn_defs.specs.Rows.{Row, Outcome, Fails, Gives, Suspends, Error, Ends}
 use Rattle.icn_defs.specs.Applying.{function_of}
 use Rattle.icn_defs.specs.StepRows as step_rows
+use Rattle.law_rows.proofs.EachOfList.{all_of, each_of}
 use Rattle.icn_heap.specs.Extents.{Extent, IsLive, value_in}
 use Rattle.icn_heap.specs.Heaps.{extent_of}
 use Rattle.law_names.specs.RowsNamed.{OutcomeNamed}
@@ -34,7 +35,7 @@ use Rattle.law_frames.proofs.CallsRead.{locals_read, set_locals_read}
 use Rattle.icn_code.specs.Codes.{Tables}
 use Rattle.icn_streams.specs.Answers.{Answers, CausedBy, Comes, Stops, StopsReading, StopsPutting, call_state, outside_after, idle, reading, putting}
 use Rattle.icn_streams.specs.Applies.{Applies}
-use Rattle.icn_streams.specs.Handed.{CallStreams, Follows, PutsPart, uncounted}
+use Rattle.icn_streams.specs.Handed.{CallStreams, Follows, uncounted}
 use Rattle.icn_apply.specs.Applicable.{applied_of}
 use Rattle.icn_apply.specs.NamesAfter.{AnswerNamed}
 use Rattle.icn_apply.specs.SizesAfter.{AnswerKeepsSizes, WorldsKeepSizes}
@@ -108,66 +109,21 @@ pub locals_named : (names : Names) (all : Extent) (m : FlatStack) → StackNamed
     → All (ValueNamed names) (map (value_in all) (held.locals m))
 locals_named names all m h =
     subst (λ (values : List Value). All (ValueNamed names) values) (locals_read (reading_of all) m)
-    (named.all_of (ValueNamed names) (flat.locals (stack_in all m)) (named.locals names (stack_in all m) (named.stack_in names (stack_in all m) h)))
+    (all_of (ValueNamed names) (flat.locals (stack_in all m)) (named.locals names (stack_in all m) (named.stack_in names (stack_in all m) h)))
 
 -- What a state's outside is
 
-readings_in : (oc : Outcome) (M : Frames) (st : Store Frames) (was : Outside) → (outside_in was (outcome flat oc M st)).readings ≡ (outside_after oc).readings
-readings_in (Fails seen) M st was = refl
-readings_in (Gives item seen) M st was = refl
-readings_in (Suspends item rest seen) M st was = refl
-readings_in (Error n value seen) M st was =
-    at_error (λ (s : State Frames Frames). (outside_in was s).readings ≡ seen.outside.readings) n value (flat.set_locals seen.locals M)
-    (with_at seen st) refl refl
-readings_in (Ends n seen) M st was = refl
-
-output_in : (oc : Outcome) (M : Frames) (st : Store Frames) (was : Outside) → (outside_in was (outcome flat oc M st)).output ≡ (outside_after oc).output
-output_in (Fails seen) M st was = refl
-output_in (Gives item seen) M st was = refl
-output_in (Suspends item rest seen) M st was = refl
-output_in (Error n value seen) M st was =
-    at_error (λ (s : State Frames Frames). (outside_in was s).output ≡ seen.outside.output) n value (flat.set_locals seen.locals M) (with_at seen st) refl refl
-output_in (Ends n seen) M st was = refl
-
-nil_right : (xs : List ℕ) → xs ≡ xs ++ []
-nil_right [] = refl
-nil_right (x ∷ xs) = ap (λ (s : List ℕ). x ∷ s) (nil_right xs)
-
--- the report of an error may stand behind what the row puts
-errors_in : (oc : Outcome) (M : Frames) (st : Store Frames) (was : Outside)
-    → (more : List ℕ) × ((outside_in was (outcome flat oc M st)).errors ≡ (outside_after oc).errors ++ more)
-errors_in (Fails seen) M st was = ([], nil_right seen.outside.errors)
-errors_in (Gives item seen) M st was = ([], nil_right seen.outside.errors)
-errors_in (Suspends item rest seen) M st was = ([], nil_right seen.outside.errors)
-errors_in (Error n value seen) M st was =
-    at_error (λ (s : State Frames Frames). (more : List ℕ) × ((outside_in was s).errors ≡ seen.outside.errors ++ more)) n value
-    (flat.set_locals seen.locals M) (with_at seen st) (_, refl) ([], nil_right seen.outside.errors)
-errors_in (Ends n seen) M st was = ([], nil_right seen.outside.errors)
-
-none_taken : (k : ℕ) (none : List ℕ) → none ≡ [] → [] ≡ take k none
-none_taken zero none e = refl
-none_taken (suc k) none e = sym (ap (take (suc k)) e)
-
-take_longer : (k : ℕ) (text more : List ℕ) → (n : ℕ) × (take n (text ++ more) ≡ take k text)
-take_longer k [] more = (zero, none_taken k [] refl)
-take_longer zero (x ∷ text) more = (zero, refl)
-take_longer (suc k) (x ∷ text) more =
-    let rest = take_longer k text more in
-    (suc rest.0, ap (λ (s : List ℕ). x ∷ s) rest.1)
-
-joined : (xs ys zs : List ℕ) → (xs ++ ys) ++ zs ≡ xs ++ (ys ++ zs)
-joined [] ys zs = refl
-joined (x ∷ xs) ys zs = ap (λ (s : List ℕ). x ∷ s) (joined xs ys zs)
-
--- a first part of what was put is one of what was put with more behind it
-puts_longer : (before after : SinkState) (was now later more : List ℕ) → later ≡ now ++ more → PutsPart before after was now → PutsPart before after was later
-puts_longer before after was now later more e p =
-    let longer = take_longer p.gains.count p.text more in
-    record {
-      text = p.text ++ more;
-      is = e ∙ ap (λ (s : List ℕ). s ++ more) p.is ∙ joined was p.text more;
-      gains = record { count = longer.0; appends = subst (λ (s : List ℕ). Appends before.held after.held s) (sym longer.1) p.gains.appends };
-    }
+-- behind what a row does the report of an error may stand
+behind_row : (oc : Outcome) (M : Frames) (st : Store Frames) (was : Outside)
+    → (more : List Event) × ExtendsBy (outside_after oc) more (outside_in was (outcome flat oc M st))
+behind_row (Fails seen) M st was = ([], extends_itself seen.outside)
+behind_row (Gives item seen) M st was = ([], extends_itself seen.outside)
+behind_row (Suspends item rest seen) M st was = ([], extends_itself seen.outside)
+behind_row (Error n value seen) M st was =
+    let report : List ℕ = error_report st.names seen.world.heap n value in
+    at_error (λ (s : State Frames Frames). (more : List Event) × ExtendsBy seen.outside more (outside_in was s)) n value
+    (flat.set_locals seen.locals M) (with_at seen st) (map ErrorByte report, extends_by_errors report seen.outside) ([], extends_itself seen.outside)
+behind_row (Ends n seen) M st was = ([], extends_itself seen.outside)
 
 -- Answers
 
@@ -216,30 +172,15 @@ tells_ok w v m k n row st was b a oc stage same s g c =
 
 reads_part : (w v : World) (m : FlatStack) (row : Row) (st : Store Frames) (was : Outside) (b a : CallStreams) → st.world ≡ world_of w
     → StopsReading row (setting_of was w (held.locals m)) b a → BreaksReading (row_on row w m st was) was b a
-reads_part w v m row st was b a same r = record {
-  asked = r.asked;
-  made = ap (λ (x : State Frames Frames). (outside_in was x).readings) (state_is row w m st was same)
-      ∙ readings_in (row (setting_of was w (held.locals m))) (stack_in (extent_of w.heap) m) (over_outside was st) was ∙ r.made;
-  left = r.left;
-  output = r.output;
-  errors = r.errors;
-}
+reads_part w v m row st was b a same r =
+    let more = behind_row (row (setting_of was w (held.locals m))) (stack_in (extent_of w.heap) m) (over_outside was st) was in
+    subst (λ (x : State Frames Frames). BreaksReading x was b a) (sym (state_is row w m st was same)) (reading_longer more.1 r)
 
 puts_part : (w v : World) (m : FlatStack) (row : Row) (st : Store Frames) (was : Outside) (b a : CallStreams) → st.world ≡ world_of w
     → StopsPutting row (setting_of was w (held.locals m)) b a → BreaksPutting (row_on row w m st was) was b a
 puts_part w v m row st was b a same p =
-    let oc : Outcome = row (setting_of was w (held.locals m)) in
-    let M : Frames = stack_in (extent_of w.heap) m in
-    let out : (outside_in was (row_on row w m st was)).output ≡ (outside_after oc).output
-    = ap (λ (x : State Frames Frames). (outside_in was x).output) (state_is row w m st was same) ∙ output_in oc M (over_outside was st) was in
-    let more = errors_in oc M (over_outside was st) was in
-    let errs : (outside_in was (row_on row w m st was)).errors ≡ (outside_after oc).errors ++ more.0
-    = ap (λ (x : State Frames Frames). (outside_in was x).errors) (state_is row w m st was same) ∙ more.1 in
-    record {
-      left = p.left;
-      output = subst (λ (s : List ℕ). PutsPart b.output a.output was.output s) (sym out) p.output;
-      errors = puts_longer b.errors a.errors was.errors (outside_after oc).errors (outside_in was (row_on row w m st was)).errors more.0 errs p.errors;
-    }
+    let more = behind_row (row (setting_of was w (held.locals m))) (stack_in (extent_of w.heap) m) (over_outside was st) was in
+    subst (λ (x : State Frames Frames). BreaksPutting x was b a) (sym (state_is row w m st was same)) (between_longer more.1 p)
 
 breaks : (w v : World) (m : FlatStack) (row : Row) (st : Store Frames) (was : Outside) (b a : CallStreams) → st.world ≡ world_of w
     → Stops row (setting_of was w (held.locals m)) b a → BreaksOff (row_on row w m st was) was b a
@@ -406,7 +347,7 @@ stack_set names w v m k outside s h seen =
     let M : Frames = stack_in (extent_of w.heap) m in
     subst (λ (x : Frames). StackNamed names x) s.same
     (named.stack_out names (flat.set_locals values M)
-    (named.set_locals names values M (named.each_of (ValueNamed names) values seen.locals) (named.stack_in names M h)))
+    (named.set_locals names values M (each_of (ValueNamed names) values seen.locals) (named.stack_in names M h)))
 
 set_named : (names : Names) (w v : World) (m k : FlatStack) (oc : HeldOutcome) → Sets w v m k → StackNamed names (stack_in (extent_of w.heap) m)
     → OutcomeNamed names (outcome_in (extent_of v.heap) oc (setting_of (outside_of []) v (held.locals k)))

@@ -22,9 +22,10 @@ use Rattle.icn_defs.specs.Arguments.{number}
 use Rattle.icn_defs.specs.Arities.{arity}
 use Rattle.icn_defs.specs.Arithmetic.{arithmetic_row, number_comparison_row}
 use Rattle.icn_defs.specs.ReadAndAssign.{assigns, the_value, the_variable}
-use Rattle.icn_defs.specs.Rows.{Outcome, Row, Fails, Gives, gives, gives_value, number_or_error, passing}
+use Rattle.icn_defs.specs.Rows.{Outcome, Row, Fails, Gives, gives, gives_value, number_or_error, fails_unless}
 use Rattle.icn_defs.specs.StepRows as step_rows
 use Rattle.icn_defs.specs.Variables.{assign_row}
+use Rattle.law_rows.proofs.EachOfList.{Each, all_of, each_of, each_set}
 use Rattle.icn_heap.specs.Extents.{Extent, IsLive, value_in}
 use Rattle.law_names.specs.NamedSettings.{ItemNamed, ValueNamed}
 use Rattle.icn_vars.specs.Worlds.{Reach, item_in}
@@ -99,19 +100,19 @@ computed_row op all k st x y a b r hx hy e = cc
 comparison_runs : (test : ℤ → ℤ → Bool) (all : Extent) (k : FlatStack) (st : Store Frames) (x y : Item) (a b : ℤ) (met : Bool)
     → HoldsInteger (held.locals k) x a → HoldsInteger (held.locals k) y b → Some (test a b) ≡ Some met
     → number_comparison_row test (item_in all x) (item_in all y) (here flat (stack_in all k) st)
-    ≡ passing met (gives_value (values.Integer b)) (here flat (stack_in all k) st)
+    ≡ fails_unless met (gives_value (values.Integer b)) (here flat (stack_in all k) st)
 comparison_runs test all k st x y a b met hx hy e =
     let at : Setting = here flat (stack_in all k) st in
     let second : Value → Value → Row
-    = λ v w. number v (λ m. number w (λ n. passing (test m n) (gives_value (values.Integer n)))) in
+    = λ v w. number v (λ m. number w (λ n. fails_unless (test m n) (gives_value (values.Integer n)))) in
     found all k st x a (λ v. the_value (item_in all y) (second v)) hx
     ∙ found all k st y b (second (values.Integer a)) hy
-    ∙ ap (λ (t : Bool). passing t (gives_value (values.Integer b)) at) (same_Some (test a b) met e)
+    ∙ ap (λ (t : Bool). fails_unless t (gives_value (values.Integer b)) at) (same_Some (test a b) met e)
 
 compared_row : (op : Op) (all : Extent) (k : FlatStack) (st : Store Frames) (x y : Item) (a b : ℤ) (met : Bool) → HoldsInteger (held.locals k) x a
     → HoldsInteger (held.locals k) y b → is_met op (int_cmp a b) ≡ Some met
     → operation_row op (item_in all x ∷ item_in all y ∷ []) (here flat (stack_in all k) st)
-    ≡ passing met (gives_value (values.Integer b)) (here flat (stack_in all k) st)
+    ≡ fails_unless met (gives_value (values.Integer b)) (here flat (stack_in all k) st)
 compared_row Ops.Less all k st x y a b met hx hy e = comparison_runs (λ m n. is_lt (int_cmp m n)) all k st x y a b met hx hy e
 compared_row Ops.LessOrEqual all k st x y a b met hx hy e = comparison_runs (λ m n. is_le (int_cmp m n)) all k st x y a b met hx hy e
 compared_row Ops.Equal all k st x y a b met hx hy e = comparison_runs (λ m n. is_eq (int_cmp m n)) all k st x y a b met hx hy e
@@ -273,8 +274,8 @@ map_set f [] i v = refl
 map_set f (x ∷ xs) zero v = refl
 map_set {A} {B} f (x ∷ xs) (suc i) v = ap (λ (s : List B). f x ∷ s) (map_set f xs i v)
 
-all_set : (P : Val → Type 0) (vs : List Val) (i : ℕ) (v : Val) → named.Each P vs → P v → named.Each P (slice_set vs i v)
-all_set P vs i v a p = named.each_set P vs i v a p
+all_set : (P : Val → Type 0) (vs : List Val) (i : ℕ) (v : Val) → Each P vs → P v → Each P (slice_set vs i v)
+all_set P vs i v a p = each_set P vs i v a p
 
 assigned_row : (all : Extent) (k : FlatStack) (st : Store Frames) (x y : Item) (index : ℕ) (n : ℤ) → x ≡ local_item index
     → HoldsInteger (held.locals k) y n
@@ -299,17 +300,17 @@ set_live : (t : Tables) (reach : Reach) (k l : FlatStack) (index : ℕ) (n : ℤ
     → l ≡ held.set_locals (slice_set (held.locals k) index (Vals.Integer n)) k → IsLiveStack t reach k → IsLiveStack t reach l
 set_live t reach k l index n e s =
     let vs : List Val = slice_set (held.locals k) index (Vals.Integer n) in
-    let each : named.Each (IsLive reach.extent) (held.locals k) = named.each_of (IsLive reach.extent) (held.locals k) (live_locals t reach k s) in
-    let set : named.Each (IsLive reach.extent) vs = all_set (IsLive reach.extent) (held.locals k) index (Vals.Integer n) each (record { live = tt }) in
-    subst (λ (x : FlatStack). IsLiveStack t reach x) (sym e) (live_from t reach vs k.registers.base k (named.all_of (IsLive reach.extent) vs set) s)
+    let each : Each (IsLive reach.extent) (held.locals k) = each_of (IsLive reach.extent) (held.locals k) (live_locals t reach k s) in
+    let set : Each (IsLive reach.extent) vs = all_set (IsLive reach.extent) (held.locals k) index (Vals.Integer n) each (record { live = tt }) in
+    subst (λ (x : FlatStack). IsLiveStack t reach x) (sym e) (live_from t reach vs k.registers.base k (all_of (IsLive reach.extent) vs set) s)
 
 set_named : (names : Names) (all : Extent) (k l : FlatStack) (index : ℕ) (n : ℤ)
     → l ≡ held.set_locals (slice_set (held.locals k) index (Vals.Integer n)) k → named.NamedStack names (stack_in all k)
     → named.NamedStack names (stack_in all l)
 set_named names all k l index n e h =
     let vs : List Value = slice_set (flat.locals (stack_in all k)) index (values.Integer n) in
-    let set : named.Each (ValueNamed names) vs
-    = named.each_set (ValueNamed names) (flat.locals (stack_in all k)) index (values.Integer n) (named.locals names (stack_in all k) h) tt in
+    let set : Each (ValueNamed names) vs
+    = each_set (ValueNamed names) (flat.locals (stack_in all k)) index (values.Integer n) (named.locals names (stack_in all k) h) tt in
     subst (λ (x : Frames). named.NamedStack names x) (locals_set all k l index n e) (named.set_locals names vs (stack_in all k) set h)
 
 -- a local was assigned an integer

@@ -1,10 +1,10 @@
 -- What an instruction that may read or put comes to, and what it leaves where a fault or want of memory breaks it off.
 use Rattle.std.specs.Prelude.{◌≡◌, ℕ, List, Some, Result, Ok, Err}
-use Rattle.icn_value.specs.Store.{Request, Outside, with_reading}
-use Rattle.icn_defs.specs.Interruptions.{LosesPart, asked_of}
+use Rattle.icn_value.specs.Store.{Outside}
+use Rattle.icn_defs.specs.Interruptions.{BreaksBetween, BreaksReading as ReadingBreaks}
 use Rattle.icn_vars.specs.declared.outcome.Halt.{Halt}
 use Rattle.icn_vars.specs.declared.outcome.Halt.TheVariants as Halts
-use Rattle.icn_streams.specs.Handed.{CallStreams, Follows, LeavesSink, LeavesStreams, PutsPart, KeepsAllCounts, ReadingFails, WritingFails, WantsMemory}
+use Rattle.icn_streams.specs.Handed.{CallStreams, Follows, LeavesStreams, KeepsAllCounts, ReadingFails, WritingFails, WantsMemory, streams_of}
 use Rattle.icn_run.specs.Stacks.{Frames}
 use Rattle.icn_run.specs.Step.{State, running, failing, hopping, over, stuck}
 
@@ -23,24 +23,17 @@ pub record Tells {A : Type 0} (Comes : Outside → Result A Halt → Type 0) (wa
   pub follows : Follows before after was now
   pub is : Comes now result
 
--- A step that leads to this state reads once, and was broken off in that reading or behind it: some first part of what it reads was taken, and nothing
--- was put.
-pub record BreaksReading (state : State Frames Frames) (was : Outside)
-    (before after : CallStreams) : Type 0 where
-  pub asked : Request
-  pub made : (outside_in was state).readings ≡ (with_reading asked was).readings
-  pub left : LosesPart was.left (asked_of asked was.left) after.left
-  pub output : LeavesSink before.output after.output
-  pub errors : LeavesSink before.errors after.errors
+-- A step that leads to this state was broken off in a reading.
+abbrev pub BreaksReading : State Frames Frames → Outside → CallStreams → CallStreams → Type 0
+BreaksReading state was before after =
+    ReadingBreaks was (outside_in was state) (streams_of before) (streams_of after)
 
--- It was broken off as it put: each output has gained some first part of what the step puts there, and the input is as it was.
-pub record BreaksPutting (state : State Frames Frames) (was : Outside)
-    (before after : CallStreams) : Type 0 where
-  pub left : after.left ≡ before.left
-  pub output : PutsPart before.output after.output was.output (outside_in was state).output
-  pub errors : PutsPart before.errors after.errors was.errors (outside_in was state).errors
+-- It was broken off between two of the events that it does.
+abbrev pub BreaksPutting : State Frames Frames → Outside → CallStreams → CallStreams → Type 0
+BreaksPutting state was before after =
+    BreaksBetween was (outside_in was state) (streams_of before) (streams_of after)
 
--- It was broken off before it read or put anything, or as it read, or as it put, or behind all that it reads and puts.
+-- It was broken off before it did anything, or in a reading, or between two events, or behind all that it does.
 pub data BreaksOff (state : State Frames Frames) (was : Outside) (before after : CallStreams) : Type 0 where
   idle : LeavesStreams before after → BreaksOff state was before after
   reading : BreaksReading state was before after → BreaksOff state was before after

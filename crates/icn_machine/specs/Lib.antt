@@ -9,3 +9,4 @@ pub mod AfterInstruction
 pub mod Starting
 pub mod PlainOperations
 pub mod Counts
+pub mod PlainCalls

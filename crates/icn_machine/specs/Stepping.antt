@@ -1,7 +1,8 @@
 -- What some steps of the run of a code come to, on a machine.
-use Rattle.std.specs.Prelude.{◌≡◌, ◌≢◌, ◌⊎◌, ◌<◌, ◌==◌, ℕ, suc, length, Bool, true, false, List, [], ◌∷◌, Some, IsSome, Result, Ok, Err, ⊤}
-use Rattle.icn_host.specs.Counts.{one_more}
-use Rattle.icn_value.specs.Store.{Outside, outside_of}
+use Rattle.std.specs.Prelude.{◌≡◌, ◌≢◌, ◌⊎◌, ◌<◌, ◌==◌, ℕ, zero, suc, length, Bool, true, false, List, [], ◌∷◌, ◌++◌, Some, IsSome, Result, Ok, Err, ⊤}
+use Rattle.icn_host.specs.Counts.{raised}
+use Rattle.icn_host.specs.Sinks.{Gains}
+use Rattle.icn_value.specs.Store.{Event, Outside, errors_in, outside_of, output_in, readings_in}
 use Rattle.icn_vars.specs.declared.outcome.Halt.{Halt}
 use Rattle.icn_vars.specs.declared.outcome.Halt.TheVariants as Halts
 use Rattle.icn_code.specs.Codes.{Tables}
@@ -11,11 +12,11 @@ use Rattle.icn_code.specs.declared.instr.Instr.{Instr}
 use Rattle.icn_code.specs.declared.instr.Instr.TheVariants as Instrs
 use Rattle.icn_frames.specs.Stacks as held
 use Rattle.icn_run.specs.Stacks.{Frames, flat}
-use Rattle.icn_run.specs.Step.{State, running, failing, hopping, over, stuck, steps, all_names, instruction_at}
+use Rattle.icn_run.specs.Step.{State, running, failing, hopping, over, stuck, step, steps, all_names, instruction_at}
 use Rattle.law_steps.specs.StateNames.{StackNamed, StateNamed, StoreNamed}
 use Rattle.law_steps.specs.KeepingSizes.{StateFits, StoreFits}
-use Rattle.icn_run.specs.AnyOutside.{run_over}
-use Rattle.icn_streams.specs.Handed.{CallStreams, Follows, FailsOnce, KeepsAllCounts, KeepsFaultCounts, WantsMemory}
+use Rattle.icn_run.specs.AnyOutside.{over_outside, run_over}
+use Rattle.icn_streams.specs.Handed.{CallStreams, Follows, FailsOnce, KeepsAllCounts, KeepsFaultCounts, WantsMemory, failed_once, faults_of}
 use Rattle.icn_run.specs.InstructionNeeds.{HasCaseMark, HasVariables}
 use Rattle.icn_instructions.specs.Ranges.{IsInRange}
 use Rattle.icn_control.specs.Machines.{EndsAt, HaltsAt, HasStack, IsSoundMachine, SettlesAt, StandsAt, does, stack_of, stack_seen, store_seen}
@@ -111,13 +112,68 @@ pub record IsReady {K : Type 0} (tables : Tables) (m : Machine K) (stage : RunSt
   pub stack : HasStack m stage
   pub kept : IsKeptAt tables m stage
 
+-- States between two steps
+
+-- the code fails here, or a hop is due
+abbrev pub IsFailing : State Frames Frames → Type 0
+IsFailing (running m st) = ⊥
+IsFailing (failing m st) = ⊤
+IsFailing (hopping m st) = ⊤
+IsFailing (over ending outside) = ⊥
+IsFailing stuck = ⊥
+
+-- any state
+abbrev pub IsAny : State Frames Frames → Type 0
+IsAny state = ⊤
+
+-- so many states are such, from this one on, each a step behind the one before
+abbrev pub AreAll : (State Frames Frames → Type 0) → Tables → ℕ → State Frames Frames → Type 0
+AreAll Is tables zero state = ⊤
+AreAll Is tables (suc count) state = Is state × AreAll Is tables count (step flat tables state)
+
+-- the same where the outside is another before each step: a state for each of these
+abbrev pub AreAllOver : (State Frames Frames → Type 0) → Tables → List Outside → State Frames Frames → Type 0
+AreAllOver Is tables [] state = ⊤
+AreAllOver Is tables (outside ∷ later) state =
+    Is state × AreAllOver Is tables later (step flat tables (over_outside outside state))
+
+-- before each of these steps the outside has the history of the state, and an input that may be another
+abbrev pub AreReadings : Tables → List Outside → State Frames Frames → Type 0
+AreReadings tables [] state = ⊤
+AreReadings tables (outside ∷ later) state = (outside.history ≡ (outside_at state).history)
+    × AreReadings tables later (step flat tables (over_outside outside state))
+
 -- What some steps come to
 
--- So many steps are done whole, and what was handed follows them; then what was answered is so of one step more.
-pub record Leads {K : Type 0} (tables : Tables) (state : State Frames Frames) (was : Outside)
-    (before : CallStreams) (n : Machine K) (after : CallStreams)
-    (result : Result RunState Halt) : Type 0 where
+-- The history has become longer by some events: each output has gained what these put there, and the input was called once
+-- for each reading, whatever it gave.
+pub record GainsEvents (was now : List Event) (before after : CallStreams) : Type 0 where
+  pub done : List Event
+  pub history : now ≡ was ++ done
+  pub calls : after.counts.calls ≡ raised before.counts.calls (readings_in done)
+  pub output : Gains before.output.held after.output.held (output_in done)
+  pub errors : Gains before.errors.held after.errors.held (errors_in done)
+
+-- some bytes were put on the error output
+abbrev pub GainsSome : CallStreams → CallStreams → Type 0
+GainsSome before after = (own : List ℕ) × Gains before.errors.held after.errors.held own
+
+-- what is gained where the run goes on or is over, and where a fault or want of memory breaks it off
+abbrev pub GainsBy : Result RunState Halt → List Event → List Event → CallStreams → CallStreams → Type 0
+GainsBy (Ok stage) was now before after = GainsEvents was now before after
+GainsBy (Err (Halts.Error number offending)) was now before after = GainsEvents was now before after
+GainsBy (Err (Halts.Ends status)) was now before after = GainsEvents was now before after
+GainsBy (Err Halts.ReadFault) was now before after = GainsSome before after
+GainsBy (Err Halts.WriteFault) was now before after = GainsSome before after
+GainsBy (Err Halts.NoMemory) was now before after = GainsSome before after
+
+-- So many steps are done whole, each to a state that is one of these, and what was handed follows them; then what was
+-- answered is so of one step more.
+pub record Leads {K : Type 0} (Is : State Frames Frames → Type 0) (tables : Tables)
+    (state : State Frames Frames) (was : Outside) (before : CallStreams) (n : Machine K)
+    (after : CallStreams) (result : Result RunState Halt) : Type 0 where
   pub count : ℕ
+  pub through : AreAll Is tables count (step flat tables state)
   pub between : CallStreams
   pub follows : Follows before between was (outside_at (steps flat tables count state))
   pub last : AnswersStep (λ now answer. SettlesAt tables now (steps flat tables (suc count) state) n answer)
@@ -134,25 +190,30 @@ StandsBy tables outside state n (Err Halts.ReadFault) = ⊤
 StandsBy tables outside state n (Err Halts.WriteFault) = ⊤
 StandsBy tables outside state n (Err Halts.NoMemory) = ⊤
 
--- Steps lead there, one at least, each over some outside.
-pub record LeadsOver {K : Type 0} (tables : Tables) (state : State Frames Frames) (n : Machine K)
+-- Steps lead there, one at least, each over some input, and each but the last to a state that is one of these; what was handed
+-- has gained what they do.
+pub record LeadsOver {K : Type 0} (Is : State Frames Frames → Type 0) (tables : Tables)
+    (state : State Frames Frames) (before : CallStreams) (n : Machine K) (after : CallStreams)
     (result : Result RunState Halt) : Type 0 where
   pub first : Outside
   pub later : List Outside
+  pub through : AreAllOver Is tables later (step flat tables (over_outside first state))
+  pub readings : AreReadings tables (first ∷ later) state
   pub now : Outside
   pub is : StandsBy tables now (run_over tables (first ∷ later) state) n result
+  pub gains : GainsBy result (outside_at state).history now.history before after
 
 -- the input has failed, once, and nothing else
 pub record InputFails (before after : CallStreams) : Type 0 where
-  pub faults : after.faults ≡ one_more before.faults
+  pub faults : faults_of after.counts ≡ failed_once (faults_of before.counts)
   pub output : KeepsFaultCounts before.output after.output
   pub errors : KeepsFaultCounts before.errors after.errors
 
 -- one of the outputs has failed, once, and nothing else
 pub data OutputFails (before after : CallStreams) : Type 0 where
-  output_fails : after.faults ≡ before.faults → FailsOnce before.output after.output
+  output_fails : faults_of after.counts ≡ faults_of before.counts → FailsOnce before.output after.output
       → KeepsFaultCounts before.errors after.errors → OutputFails before after
-  errors_fail : after.faults ≡ before.faults → KeepsFaultCounts before.output after.output
+  errors_fail : faults_of after.counts ≡ faults_of before.counts → KeepsFaultCounts before.output after.output
       → FailsOnce before.errors after.errors → OutputFails before after
 
 -- A fault is answered where that object has failed for the first time; where it is not, nothing has failed.
@@ -164,14 +225,16 @@ IsFirstFault (Err Halts.ReadFault) before after = InputFails before after
 IsFirstFault (Err Halts.WriteFault) before after = OutputFails before after
 IsFirstFault (Err Halts.NoMemory) before after = WantsMemory before after
 
--- From where a machine stands, steps lead to what was answered: over the outside that the input tells, if it does, and over some input in any case.
-pub record Advances {K : Type 0} (tables : Tables) (m : Machine K) (stage : RunState) (before : CallStreams)
-    (n : Machine K) (after : CallStreams) (result : Result RunState Halt) : Type 0 where
+-- From where a machine stands, steps lead to what was answered, each but the last to a state that is one of these: over the outside that the input
+-- tells, if it does, and over some input in any case.
+pub record Advances {K : Type 0} (Is : State Frames Frames → Type 0) (tables : Tables) (m : Machine K)
+    (stage : RunState) (before : CallStreams) (n : Machine K) (after : CallStreams)
+    (result : Result RunState Halt) : Type 0 where
   pub answers : (was : Outside) (state : State Frames Frames) → IsAt tables was state m stage
       → before.left ≡ Some was.left
-      → Leads tables state was before n after result
+      → Leads Is tables state was before n after result
   pub meant : (was : Outside) (state : State Frames Frames) → IsAt tables was state m stage
-      → LeadsOver tables state n result
+      → LeadsOver Is tables state before n after result
   pub caused : IsFirstFault result before after
 
 -- An instruction is being done: the place is that of the next one, nothing lacks, and all that holds of the state of the run is so still.
@@ -201,11 +264,12 @@ IsReadyToFail tables m (Err Halts.ReadFault) = ⊤
 IsReadyToFail tables m (Err Halts.WriteFault) = ⊤
 IsReadyToFail tables m (Err Halts.NoMemory) = ⊤
 
--- whether an instruction performs an operation, calls something or takes a field
+-- each operation but the one that refreshes a co-expression
 abbrev pub applies_op : Op → Bool
 applies_op Ops.Refresh = false
 applies_op op = true
 
+-- whether an instruction performs such an operation, calls something or takes a field
 abbrev pub is_applied : Instr → Bool
 is_applied (Instrs.Op op) = applies_op op
 is_applied (Instrs.Field place) = true
@@ -233,10 +297,11 @@ EndsWhole (Err Halts.WriteFault) = ⊤
 EndsWhole (Err Halts.NoMemory) = ⊥
 
 -- No step was done, or some steps lead to what was answered.
-pub data GoesOn {K : Type 0} (tables : Tables) (m : Machine K) (stage : RunState) (before : CallStreams)
-    (n : Machine K) (after : CallStreams) (result : Result RunState Halt) : Type 0 where
-  stays : n ≡ m → after ≡ before → result ≡ Ok stage → GoesOn tables m stage before n after result
-  advances : Advances tables m stage before n after result → GoesOn tables m stage before n after result
+pub data GoesOn {K : Type 0} (Is : State Frames Frames → Type 0) (tables : Tables) (m : Machine K)
+    (stage : RunState) (before : CallStreams) (n : Machine K) (after : CallStreams)
+    (result : Result RunState Halt) : Type 0 where
+  stays : n ≡ m → after ≡ before → result ≡ Ok stage → GoesOn Is tables m stage before n after result
+  advances : Advances Is tables m stage before n after result → GoesOn Is tables m stage before n after result
 
 -- Failing
 

@@ -5,7 +5,7 @@ ghost use Rattle.icn_run.specs.Step.{all_names};
 ghost use Rattle.icn_streams.specs.Handed.{CallStreams, call_streams};
 ghost use Rattle.icn_control.specs.Soundness.{KeepsLimits};
 ghost use Rattle.icn_control.specs.declared.machine.RunState.TheVariants as RunStates;
-ghost use Rattle.icn_machine.specs.Stepping.{Advances, FailsFurther, GoesOn, IsReady, MakesTurn, fails_within, is_failing};
+ghost use Rattle.icn_machine.specs.Stepping.{Advances, FailsFurther, GoesOn, IsFailing, IsReady, MakesTurn, fails_within, is_failing};
 
 use crate::errors::settle;
 use crate::operations::resume;
@@ -30,9 +30,9 @@ fn fail_next<K: Stack<Cell> + Drop, N: Names, I: Source, O: Sink, E: Sink>(
     requires ready { (tables : Tables)
         × ((all_names tables ≡ N.known names.now) × IsReady tables m.old RunStates.Failing) }
     ensures steps { (tables : Tables) → all_names tables ≡ N.known names.now
-        → IsReady tables m.old RunStates.Failing → Advances tables m.old RunStates.Failing
-        (call_streams (I.left input.old) (I.faults input.old) (O.state out.old) (E.state err.old)) m.new
-        (call_streams (I.left input.new) (I.faults input.new) (O.state out.new) (E.state err.new)) result }
+        → IsReady tables m.old RunStates.Failing → Advances IsFailing tables m.old RunStates.Failing
+        (call_streams (I.left input.old) (I.counts input.old) (O.state out.old) (E.state err.old)) m.new
+        (call_streams (I.left input.new) (I.counts input.new) (O.state out.new) (E.state err.new)) result }
     ensures ready { (tables : Tables) → all_names tables ≡ N.known names.now
         → IsReady tables m.old RunStates.Failing → IfOk result (IsReady tables m.new) }
     ensures further { IfOk result (FailsFurther m.old m.new) }
@@ -66,7 +66,7 @@ fn fails_within(stage: RunState, now: u64, turns: u64) -> bool
     }
 }
 
-// Whether failing or a hop is due.
+/// Whether failing or a hop is due.
 pub fn is_failing(stage: RunState) -> bool
     ensures { result ≡ is_failing stage }
 {
@@ -91,9 +91,9 @@ fn fail_to_turn<K: Stack<Cell> + Drop, N: Names, I: Source, O: Sink, E: Sink>(
     requires ready { (tables : Tables)
         × ((all_names tables ≡ N.known names.now) × IsReady tables m.old RunStates.Failing) }
     ensures steps { (tables : Tables) → all_names tables ≡ N.known names.now
-        → IsReady tables m.old RunStates.Failing → GoesOn tables m.old RunStates.Failing
-        (call_streams (I.left input.old) (I.faults input.old) (O.state out.old) (E.state err.old)) m.new
-        (call_streams (I.left input.new) (I.faults input.new) (O.state out.new) (E.state err.new)) result }
+        → IsReady tables m.old RunStates.Failing → GoesOn IsFailing tables m.old RunStates.Failing
+        (call_streams (I.left input.old) (I.counts input.old) (O.state out.old) (E.state err.old)) m.new
+        (call_streams (I.left input.new) (I.counts input.new) (O.state out.new) (E.state err.new)) result }
     ensures ready { (tables : Tables) → all_names tables ≡ N.known names.now
         → IsReady tables m.old RunStates.Failing → IfOk result (IsReady tables m.new) }
     ensures turn { IfOk result (MakesTurn m.old m.new) }
@@ -111,7 +111,7 @@ fn fail_to_turn<K: Stack<Cell> + Drop, N: Names, I: Source, O: Sink, E: Sink>(
 fn hop_next<K: Stack<Cell> + Drop>(m: &mut Machine<K>) -> RunState
     requires ready { (tables : Tables) × IsReady tables m.old RunStates.Hopping }
     ensures steps { (tables : Tables) (h : CallStreams) → IsReady tables m.old RunStates.Hopping
-        → Advances tables m.old RunStates.Hopping h m.new h (Ok result) }
+        → Advances IsFailing tables m.old RunStates.Hopping h m.new h (Ok result) }
     ensures ready { (tables : Tables) → IsReady tables m.old RunStates.Hopping → IsReady tables m.new result }
     ensures turn { MakesTurn m.old m.new result }
     ensures limits { m.new.limits ≡ m.old.limits }
@@ -134,9 +134,9 @@ fn fail_turn<K: Stack<Cell> + Drop, N: Names, I: Source, O: Sink, E: Sink>(
     requires ready { (tables : Tables)
         × ((all_names tables ≡ N.known names.now) × IsReady tables m.old stage) }
     ensures steps { (tables : Tables) → all_names tables ≡ N.known names.now → IsReady tables m.old stage
-        → GoesOn tables m.old stage
-        (call_streams (I.left input.old) (I.faults input.old) (O.state out.old) (E.state err.old)) m.new
-        (call_streams (I.left input.new) (I.faults input.new) (O.state out.new) (E.state err.new)) result }
+        → GoesOn IsFailing tables m.old stage
+        (call_streams (I.left input.old) (I.counts input.old) (O.state out.old) (E.state err.old)) m.new
+        (call_streams (I.left input.new) (I.counts input.new) (O.state out.new) (E.state err.new)) result }
     ensures ready { (tables : Tables) → all_names tables ≡ N.known names.now → IsReady tables m.old stage
         → IfOk result (IsReady tables m.new) }
     ensures turn { IfOk result (MakesTurn m.old m.new) }
@@ -169,9 +169,9 @@ pub fn fail_through<K: Stack<Cell> + Drop, N: Names, I: Source, O: Sink, E: Sink
     requires ready { (tables : Tables)
         × ((all_names tables ≡ N.known names.now) × IsReady tables m.old from) }
     ensures steps { (tables : Tables) → all_names tables ≡ N.known names.now → IsReady tables m.old from
-        → GoesOn tables m.old from
-        (call_streams (I.left input.old) (I.faults input.old) (O.state out.old) (E.state err.old)) m.new
-        (call_streams (I.left input.new) (I.faults input.new) (O.state out.new) (E.state err.new)) result }
+        → GoesOn IsFailing tables m.old from
+        (call_streams (I.left input.old) (I.counts input.old) (O.state out.old) (E.state err.old)) m.new
+        (call_streams (I.left input.new) (I.counts input.new) (O.state out.new) (E.state err.new)) result }
     ensures ready { (tables : Tables) → all_names tables ≡ N.known names.now → IsReady tables m.old from
         → IfOk result (IsReady tables m.new) }
     ensures fails_no_more { IfOk result (λ stage. is_failing stage ≡ false) }

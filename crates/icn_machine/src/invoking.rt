@@ -27,6 +27,7 @@ ghost use Rattle.icn_machine.specs.NamedWorlds.{AreNamed, HoldsNamed, MachineNam
 
 use crate::elements::elements_of;
 use crate::performing::perform;
+use crate::plain_calls::call_in_place;
 use icn_apply::Applied;
 use icn_calls::function_of;
 use icn_code::Code;
@@ -69,8 +70,8 @@ pub fn call_value<K: Stack<Cell> + Drop, N: Names, I: Source, O: Sink, E: Sink>(
         (λ st. invoke_value calls (tables_of code.now)
         (value_in (extent_of world.old.heap) callee) (map (item_in (extent_of world.old.heap)) items.now)
         (stack_in (extent_of world.old.heap) frames.old.flat) st) world.old (call_streams (I.left input.old)
-        (I.faults input.old) (O.state out.old) (E.state err.old)) world.new frames.new.flat
-        (call_streams (I.left input.new) (I.faults input.new) (O.state out.new) (E.state err.new)) result }
+        (I.counts input.old) (O.state out.old) (E.state err.old)) world.new frames.new.flat
+        (call_streams (I.left input.new) (I.counts input.new) (O.state out.new) (E.state err.new)) result }
     ensures live { IsLiveStack (tables_of code.now) (reach_of world.old []) frames.old.flat
         → UnlessEnded result (IsLiveStack (tables_of code.now) (reach_of world.new []) frames.new.flat) }
     ensures leaves { LeavesWorld world.old world.new result }
@@ -120,8 +121,8 @@ fn call_first<K: Stack<Cell> + Drop, N: Names, I: Source, O: Sink, E: Sink>(
     ensures step { PerformsEvent (all_names (tables_of code.now))
         (λ st. invoked_with calls (tables_of code.now) (map (item_in (extent_of world.old.heap)) items.now)
         (stack_in (extent_of world.old.heap) frames.old.flat) st) world.old (call_streams (I.left input.old)
-        (I.faults input.old) (O.state out.old) (E.state err.old)) world.new frames.new.flat
-        (call_streams (I.left input.new) (I.faults input.new) (O.state out.new) (E.state err.new)) result }
+        (I.counts input.old) (O.state out.old) (E.state err.old)) world.new frames.new.flat
+        (call_streams (I.left input.new) (I.counts input.new) (O.state out.new) (E.state err.new)) result }
     ensures live { IsLiveStack (tables_of code.now) (reach_of world.old []) frames.old.flat
         → UnlessEnded result (IsLiveStack (tables_of code.now) (reach_of world.new []) frames.new.flat) }
     ensures leaves { LeavesWorld world.old world.new result }
@@ -140,7 +141,8 @@ fn call_first<K: Stack<Cell> + Drop, N: Names, I: Source, O: Sink, E: Sink>(
     )
 }
 
-/// Calls the operand below so many others with these, as a turn; all of them must be there. The rooms for operands, for values
+/// Calls the operand below so many others with these, as a turn; all of them must be there. A
+/// procedure that slots tell is called in place. The rooms for operands, for values
 /// and for what is read and put are used again, whatever they hold.
 ///
 /// # Errors
@@ -164,8 +166,54 @@ pub fn invoke<K: Stack<Cell> + Drop, N: Names, I: Source, O: Sink, E: Sink>(
     requires named { MachineNamed (N.known names.now) m.old }
     ensures step { PerformsOn (tables_of code.now)
         (λ outside. does (tables_of code.now) outside (Instrs.Invoke count) m.old) m.new
-        (call_streams (I.left input.old) (I.faults input.old) (O.state out.old) (E.state err.old))
-        (call_streams (I.left input.new) (I.faults input.new) (O.state out.new) (E.state err.new)) result }
+        (call_streams (I.left input.old) (I.counts input.old) (O.state out.old) (E.state err.old))
+        (call_streams (I.left input.new) (I.counts input.new) (O.state out.new) (E.state err.new)) result }
+    ensures sound { IsSoundMachine (tables_of code.now) m.old
+        → UnlessEnded result (IsSoundMachine (tables_of code.now) m.new) }
+    ensures within { KeepsLimits m.old m.new result }
+    ensures stack { HasItsStack m.new result }
+    ensures named { LeavesNamed (N.known names.now) m.new.world (stack_of m.new) result }
+    ensures coexps_named { All (CoexpNamed (N.known names.now)) (coexps_seen m.old)
+        → All (CoexpNamed (N.known names.now)) (coexps_seen m.new) }
+    ensures sized { FitSizes (field_count (tables_of code.now)) (heap_of m.old.world.heap)
+        → UnlessOver m.new.world result (FitSizes (field_count (tables_of code.now))
+        (heap_of m.new.world.heap)) }
+{
+    if m.turns >= m.limits.turns {
+        return Ok(RunState::AtBound);
+    }
+    let Ok(done) = call_in_place(m.stacks.frames(), &m.world, code, &m.limits, count) else {
+        return Err(Halt::NoMemory);
+    };
+    if done {
+        m.turns += 1;
+        return Ok(RunState::Running);
+    }
+    invoke_by_value(m, code, count, items, vals, names, buffer, input, out, err)
+}
+
+// Calls it by its value, whatever it is.
+#[inline(never)]
+fn invoke_by_value<K: Stack<Cell> + Drop, N: Names, I: Source, O: Sink, E: Sink>(
+    m: &mut Machine<K>,
+    code: &Code,
+    count: u32,
+    items: &mut Vec<Item>,
+    vals: &mut Vec<Val>,
+    names: &N,
+    buffer: &mut Vec<u8>,
+    input: &mut I,
+    out: &mut O,
+    err: &mut E,
+) -> Result<RunState, Halt>
+    requires known { N.known names.now ≡ all_names (tables_of code.now) }
+    requires stands { IsRunnable m.old }
+    requires operands { IsSome (take_operands (suc count) (stack_of m.old)) }
+    requires named { MachineNamed (N.known names.now) m.old }
+    ensures step { PerformsOn (tables_of code.now)
+        (λ outside. does (tables_of code.now) outside (Instrs.Invoke count) m.old) m.new
+        (call_streams (I.left input.old) (I.counts input.old) (O.state out.old) (E.state err.old))
+        (call_streams (I.left input.new) (I.counts input.new) (O.state out.new) (E.state err.new)) result }
     ensures sound { IsSoundMachine (tables_of code.now) m.old
         → UnlessEnded result (IsSoundMachine (tables_of code.now) m.new) }
     ensures within { KeepsLimits m.old m.new result }
@@ -227,9 +275,9 @@ fn call_with_elements<K: Stack<Cell> + Drop, N: Names, I: Source, O: Sink, E: Si
     ensures step { PerformsEvent (all_names (tables_of code.now)) (λ st. applied_to_elements calls
         (tables_of code.now) (item_in (extent_of world.old.heap) callee ∷ item_in (extent_of world.old.heap)
         from ∷ []) (stack_in (extent_of world.old.heap) frames.old.flat) st) world.old
-        (call_streams (I.left input.old) (I.faults input.old) (O.state out.old) (E.state err.old))
+        (call_streams (I.left input.old) (I.counts input.old) (O.state out.old) (E.state err.old))
         world.new frames.new.flat
-        (call_streams (I.left input.new) (I.faults input.new) (O.state out.new) (E.state err.new)) result }
+        (call_streams (I.left input.new) (I.counts input.new) (O.state out.new) (E.state err.new)) result }
     ensures live { IsLiveStack (tables_of code.now) (reach_of world.old []) frames.old.flat
         → UnlessEnded result (IsLiveStack (tables_of code.now) (reach_of world.new []) frames.new.flat) }
     ensures leaves { LeavesWorld world.old world.new result }
@@ -271,8 +319,8 @@ pub fn appl<K: Stack<Cell> + Drop, N: Names, I: Source, O: Sink, E: Sink>(
     requires named { MachineNamed (N.known names.now) m.old }
     ensures step { PerformsOn (tables_of code.now)
         (λ outside. does (tables_of code.now) outside Instrs.Appl m.old) m.new
-        (call_streams (I.left input.old) (I.faults input.old) (O.state out.old) (E.state err.old))
-        (call_streams (I.left input.new) (I.faults input.new) (O.state out.new) (E.state err.new)) result }
+        (call_streams (I.left input.old) (I.counts input.old) (O.state out.old) (E.state err.old))
+        (call_streams (I.left input.new) (I.counts input.new) (O.state out.new) (E.state err.new)) result }
     ensures sound { IsSoundMachine (tables_of code.now) m.old
         → UnlessEnded result (IsSoundMachine (tables_of code.now) m.new) }
     ensures within { KeepsLimits m.old m.new result }

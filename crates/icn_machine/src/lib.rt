@@ -11,6 +11,7 @@ mod invoking;
 mod operations;
 mod own_locals;
 mod performing;
+mod plain_calls;
 mod plain_operations;
 mod starting;
 mod stepping;

@@ -50,8 +50,8 @@ pub fn operate<K: Stack<Cell> + Drop, N: Names, I: Source, O: Sink, E: Sink>(
     requires named { MachineNamed (N.known names.now) m.old }
     ensures step { (tables : Tables) → all_names tables ≡ N.known names.now
         → PerformsOn tables (λ outside. does tables outside (Instrs.Op op) m.old) m.new
-        (call_streams (I.left input.old) (I.faults input.old) (O.state out.old) (E.state err.old))
-        (call_streams (I.left input.new) (I.faults input.new) (O.state out.new) (E.state err.new)) result }
+        (call_streams (I.left input.old) (I.counts input.old) (O.state out.old) (E.state err.old))
+        (call_streams (I.left input.new) (I.counts input.new) (O.state out.new) (E.state err.new)) result }
     ensures keeps { StaysSound m.old m.new result }
     ensures named { LeavesNamed (N.known names.now) m.new.world (stack_of m.new) result }
 {
@@ -87,8 +87,8 @@ fn operate_by_row<K: Stack<Cell> + Drop, N: Names, I: Source, O: Sink, E: Sink>(
     requires named { MachineNamed (N.known names.now) m.old }
     ensures step { (tables : Tables) → all_names tables ≡ N.known names.now
         → PerformsOn tables (λ outside. does tables outside (Instrs.Op op) m.old) m.new
-        (call_streams (I.left input.old) (I.faults input.old) (O.state out.old) (E.state err.old))
-        (call_streams (I.left input.new) (I.faults input.new) (O.state out.new) (E.state err.new)) result }
+        (call_streams (I.left input.old) (I.counts input.old) (O.state out.old) (E.state err.old))
+        (call_streams (I.left input.new) (I.counts input.new) (O.state out.new) (E.state err.new)) result }
     ensures keeps { StaysSound m.old m.new result }
     ensures named { LeavesNamed (N.known names.now) m.new.world (stack_of m.new) result }
 {
@@ -126,8 +126,8 @@ pub fn resume<K: Stack<Cell> + Drop, N: Names, I: Source, O: Sink, E: Sink>(
     requires rest_named { ResidualNamed (N.known names.now) (residual_in (extent m.old) rest) }
     ensures step { (tables : Tables) → PerformsOn tables (λ outside. resume_by calls tables
         (Operation (residual_in (extent m.old) rest)) (stack_seen m.old) (store_seen tables outside m.old))
-        m.new (call_streams (I.left input.old) (I.faults input.old) (O.state out.old) (E.state err.old))
-        (call_streams (I.left input.new) (I.faults input.new) (O.state out.new) (E.state err.new)) result }
+        m.new (call_streams (I.left input.old) (I.counts input.old) (O.state out.old) (E.state err.old))
+        (call_streams (I.left input.new) (I.counts input.new) (O.state out.new) (E.state err.new)) result }
     ensures keeps { StaysSound m.old m.new result }
     ensures named { LeavesNamed (N.known names.now) m.new.world (stack_of m.new) result }
 {

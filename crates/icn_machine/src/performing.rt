@@ -60,9 +60,9 @@ pub fn perform<K: Stack<Cell> + Drop, N: Names, I: Source, O: Sink, E: Sink>(
     requires given { AreNamed (N.known names.now) world.old frames.old.flat items.now }
     ensures row { PerformsRow (step_rows.apply (N.known names.now) (applied_of what)
         (map (item_in (extent_of world.old.heap)) items.now)) world.old frames.old.flat
-        (call_streams (I.left input.old) (I.faults input.old) (O.state out.old) (E.state err.old))
+        (call_streams (I.left input.old) (I.counts input.old) (O.state out.old) (E.state err.old))
         world.new frames.new.flat
-        (call_streams (I.left input.new) (I.faults input.new) (O.state out.new) (E.state err.new)) result }
+        (call_streams (I.left input.new) (I.counts input.new) (O.state out.new) (E.state err.new)) result }
     ensures live { (tables : Tables) → IsLiveStack tables (reach_of world.old []) frames.old.flat
         → UnlessEnded result (IsLiveStack tables (reach_of world.new []) frames.new.flat) }
     ensures leaves { LeavesWorld world.old world.new result }
@@ -95,9 +95,9 @@ fn perform_in<K: Stack<Cell> + Drop, N: Names, I: Source, O: Sink, E: Sink>(
     ensures applies { Applies (step_rows.apply (N.known names.now)
         (applied_of what) (map (item_in (extent_of world.old.heap)) items.now))
         (call_state world.old (flat.locals frames.old.flat)
-        (call_streams (I.left input.old) (I.faults input.old) (O.state out.old) (E.state err.old)))
+        (call_streams (I.left input.old) (I.counts input.old) (O.state out.old) (E.state err.old)))
         (call_state world.new (flat.locals frames.new.flat)
-        (call_streams (I.left input.new) (I.faults input.new) (O.state out.new) (E.state err.new))) result }
+        (call_streams (I.left input.new) (I.counts input.new) (O.state out.new) (E.state err.new))) result }
     ensures named { AnswerNamed (N.known names.now) world.new (flat.locals frames.new.flat) result }
     ensures sized { AnswerKeepsSizes world.old world.new result }
     ensures stack { flat.set_locals (flat.locals frames.new.flat) frames.old.flat ≡ frames.new.flat }
@@ -129,9 +129,9 @@ fn perform_lent<'a, K: Stack<Cell> + Drop, B: Earlier, N: Names, I: Source, O: S
     ensures applies { Applies (step_rows.apply (N.known names.now)
         (applied_of what) (map (item_in (extent_of world.old.heap)) items.now))
         (call_state world.old (flat.locals frames.old.flat)
-        (call_streams (I.left input.old) (I.faults input.old) (O.state out.old) (E.state err.old)))
+        (call_streams (I.left input.old) (I.counts input.old) (O.state out.old) (E.state err.old)))
         (call_state world.new (flat.locals result.1.now.flat)
-        (call_streams (I.left input.new) (I.faults input.new) (O.state out.new) (E.state err.new))) result.0 }
+        (call_streams (I.left input.new) (I.counts input.new) (O.state out.new) (E.state err.new))) result.0 }
     ensures named { AnswerNamed (N.known names.now) world.new (flat.locals result.1.now.flat) result.0 }
     ensures sized { AnswerKeepsSizes world.old world.new result.0 }
     ensures stack { flat.set_locals (flat.locals result.1.now.flat) frames.old.flat ≡ result.1.now.flat }
@@ -162,8 +162,8 @@ pub fn perform_again<K: Stack<Cell> + Drop, N: Names, I: Source, O: Sink, E: Sin
     requires rest_named { ResidualNamed (N.known names.now) (residual_in (extent_of world.old.heap) rest) }
     ensures row { PerformsRow (rows.again (residual_in (extent_of world.old.heap) rest))
         world.old frames.old.flat (call_streams (I.left input.old)
-        (I.faults input.old) (O.state out.old) (E.state err.old)) world.new frames.new.flat
-        (call_streams (I.left input.new) (I.faults input.new) (O.state out.new) (E.state err.new)) result }
+        (I.counts input.old) (O.state out.old) (E.state err.old)) world.new frames.new.flat
+        (call_streams (I.left input.new) (I.counts input.new) (O.state out.new) (E.state err.new)) result }
     ensures live { (tables : Tables) → IsLiveStack tables (reach_of world.old []) frames.old.flat
         → UnlessEnded result (IsLiveStack tables (reach_of world.new []) frames.new.flat) }
     ensures leaves { LeavesWorld world.old world.new result }
@@ -219,9 +219,9 @@ fn again_in<K: Stack<Cell> + Drop, N: Names, I: Source, O: Sink, E: Sink>(
     requires rest_named { ResidualNamed (N.known names.now) (residual_in (extent_of world.old.heap) rest) }
     ensures applies { Applies (rows.again (residual_in (extent_of world.old.heap) rest))
         (call_state world.old (flat.locals frames.old.flat)
-        (call_streams (I.left input.old) (I.faults input.old) (O.state out.old) (E.state err.old)))
+        (call_streams (I.left input.old) (I.counts input.old) (O.state out.old) (E.state err.old)))
         (call_state world.new (flat.locals frames.new.flat)
-        (call_streams (I.left input.new) (I.faults input.new) (O.state out.new) (E.state err.new))) result }
+        (call_streams (I.left input.new) (I.counts input.new) (O.state out.new) (E.state err.new))) result }
     ensures named { AnswerNamed (N.known names.now) world.new (flat.locals frames.new.flat) result }
     ensures sized { AnswerKeepsSizes world.old world.new result }
     ensures stack { flat.set_locals (flat.locals frames.new.flat) frames.old.flat ≡ frames.new.flat }
@@ -252,9 +252,9 @@ fn again_lent<'a, K: Stack<Cell> + Drop, B: Earlier, N: Names, I: Source, O: Sin
     ensures same_reference { result.1.ghost_name ≡ frames.entry.ghost_name }
     ensures applies { Applies (rows.again (residual_in (extent_of world.old.heap) rest))
         (call_state world.old (flat.locals frames.old.flat)
-        (call_streams (I.left input.old) (I.faults input.old) (O.state out.old) (E.state err.old)))
+        (call_streams (I.left input.old) (I.counts input.old) (O.state out.old) (E.state err.old)))
         (call_state world.new (flat.locals result.1.now.flat)
-        (call_streams (I.left input.new) (I.faults input.new) (O.state out.new) (E.state err.new))) result.0 }
+        (call_streams (I.left input.new) (I.counts input.new) (O.state out.new) (E.state err.new))) result.0 }
     ensures named { AnswerNamed (N.known names.now) world.new (flat.locals result.1.now.flat) result.0 }
     ensures sized { AnswerKeepsSizes world.old world.new result.0 }
     ensures stack { flat.set_locals (flat.locals result.1.now.flat) frames.old.flat ≡ result.1.now.flat }

@@ -106,7 +106,7 @@ fn put_slots<K: Stack<Cell> + Drop>(frames: &mut Frames<K>, slots: (Cell, Cell))
     put_slot(frames, slots.1);
 }
 
-// What was computed, if it was.
+/// What was computed, if it was.
 #[inline(always)]
 pub fn computed(found: Result<i64, Arith>) -> Option<i64>
     ensures { result ≡ result_ok found }

@@ -69,8 +69,9 @@ fn procedure_at(start: Start) -> Option<u32>
     }
 }
 
-// The procedure of a place.
-fn proc_at(code: &Code, place: u32) -> Option<&LinkedProcedure>
+/// The procedure of a place.
+#[inline(always)]
+pub fn proc_at(code: &Code, place: u32) -> Option<&LinkedProcedure>
     ensures { option_map (λ proc. proc_of proc.now) result ≡ slice_get (tables_of code.now).procs place }
 {
     code.procs.get(place as usize)

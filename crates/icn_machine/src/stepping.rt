@@ -13,7 +13,7 @@ ghost use Rattle.icn_control.specs.Soundness.{KeepsLimits};
 ghost use Rattle.icn_control.specs.declared.machine.RunState.TheVariants as RunStates;
 ghost use Rattle.icn_instructions.specs.FirstStatics.{AreFirstStatics};
 ghost use Rattle.icn_machine.specs.Performing.{PerformsOn};
-ghost use Rattle.icn_machine.specs.Stepping.{Advances, EndsWhole, GoesOn, IsDoing, IsReady, IsReadyToFail, is_applied, is_failing, is_whole};
+ghost use Rattle.icn_machine.specs.Stepping.{Advances, EndsWhole, GoesOn, IsDoing, IsFailing, IsReady, IsReadyToFail, is_applied, is_failing, is_whole};
 ghost use Rattle.icn_machine.specs.AfterInstruction.{stage_of, stage_result};
 
 use crate::errors::settle;
@@ -119,8 +119,8 @@ fn do_applied<K: Stack<Cell> + Drop, N: Names, I: Source, O: Sink, E: Sink>(
     requires known { N.known names.now ≡ all_names (tables_of code.now) }
     requires doing { IsDoing (tables_of code.now) m.old instr }
     ensures step { PerformsOn (tables_of code.now) (λ outside. does (tables_of code.now) outside instr m.old)
-        m.new (call_streams (I.left input.old) (I.faults input.old) (O.state out.old) (E.state err.old))
-        (call_streams (I.left input.new) (I.faults input.new) (O.state out.new) (E.state err.new)) result }
+        m.new (call_streams (I.left input.old) (I.counts input.old) (O.state out.old) (E.state err.old))
+        (call_streams (I.left input.new) (I.counts input.new) (O.state out.new) (E.state err.new)) result }
     ensures ready { IfOk result (IsReady (tables_of code.now) m.new) }
     ensures erring { IsReadyToFail (tables_of code.now) m.new result }
     ensures within { KeepsLimits m.old m.new result }
@@ -176,9 +176,9 @@ fn do_next<K: Stack<Cell> + Drop, N: Names, I: Source, O: Sink, E: Sink>(
     requires firsts { AreFirstStatics (tables_of code.now) firsts.now }
     requires known { N.known names.now ≡ all_names (tables_of code.now) }
     requires ready { IsReady (tables_of code.now) m.old RunStates.Running }
-    ensures steps { Advances (tables_of code.now) m.old RunStates.Running
-        (call_streams (I.left input.old) (I.faults input.old) (O.state out.old) (E.state err.old)) m.new
-        (call_streams (I.left input.new) (I.faults input.new) (O.state out.new) (E.state err.new)) result }
+    ensures steps { Advances IsFailing (tables_of code.now) m.old RunStates.Running
+        (call_streams (I.left input.old) (I.counts input.old) (O.state out.old) (E.state err.old)) m.new
+        (call_streams (I.left input.new) (I.counts input.new) (O.state out.new) (E.state err.new)) result }
     ensures ready { IfOk result (IsReady (tables_of code.now) m.new) }
     ensures whole { (instr : InstrSeen)
         → instruction_at calls (tables_of code.now) (stack_seen m.old) ≡ Some instr → is_whole instr ≡ true
@@ -221,9 +221,9 @@ fn fail_to_next<K: Stack<Cell> + Drop, N: Names, I: Source, O: Sink, E: Sink>(
 ) -> Result<AfterStep, Halt>
     requires known { N.known names.now ≡ all_names (tables_of code.now) }
     requires ready { IsReady (tables_of code.now) m.old from }
-    ensures steps { GoesOn (tables_of code.now) m.old from
-        (call_streams (I.left input.old) (I.faults input.old) (O.state out.old) (E.state err.old)) m.new
-        (call_streams (I.left input.new) (I.faults input.new) (O.state out.new) (E.state err.new))
+    ensures steps { GoesOn IsFailing (tables_of code.now) m.old from
+        (call_streams (I.left input.old) (I.counts input.old) (O.state out.old) (E.state err.old)) m.new
+        (call_streams (I.left input.new) (I.counts input.new) (O.state out.new) (E.state err.new))
         (stage_result result) }
     ensures ready { IfOk result (λ stepped. IsReady (tables_of code.now) m.new (stage_of stepped)) }
     ensures within { KeepsLimits m.old m.new result }
@@ -246,9 +246,9 @@ fn step_named<K: Stack<Cell> + Drop, N: Names, I: Source, O: Sink, E: Sink>(
     requires firsts { AreFirstStatics (tables_of code.now) firsts.now }
     requires known { N.known names.now ≡ all_names (tables_of code.now) }
     requires ready { IsReady (tables_of code.now) m.old RunStates.Running }
-    ensures steps { Advances (tables_of code.now) m.old RunStates.Running
-        (call_streams (I.left input.old) (I.faults input.old) (O.state out.old) (E.state err.old)) m.new
-        (call_streams (I.left input.new) (I.faults input.new) (O.state out.new) (E.state err.new))
+    ensures steps { Advances IsFailing (tables_of code.now) m.old RunStates.Running
+        (call_streams (I.left input.old) (I.counts input.old) (O.state out.old) (E.state err.old)) m.new
+        (call_streams (I.left input.new) (I.counts input.new) (O.state out.new) (E.state err.new))
         (stage_result result) }
     ensures ready { IfOk result (λ stepped. IsReady (tables_of code.now) m.new (stage_of stepped)) }
     ensures no_memory { (instr : InstrSeen)
@@ -280,9 +280,9 @@ pub fn step<K: Stack<Cell> + Drop, I: Source, O: Sink, E: Sink>(
     err: &mut E,
 ) -> Result<AfterStep, Halt>
     requires ready { IsReady (tables_of code.now.code) m.old RunStates.Running }
-    ensures steps { Advances (tables_of code.now.code) m.old RunStates.Running
-        (call_streams (I.left input.old) (I.faults input.old) (O.state out.old) (E.state err.old)) m.new
-        (call_streams (I.left input.new) (I.faults input.new) (O.state out.new) (E.state err.new))
+    ensures steps { Advances IsFailing (tables_of code.now.code) m.old RunStates.Running
+        (call_streams (I.left input.old) (I.counts input.old) (O.state out.old) (E.state err.old)) m.new
+        (call_streams (I.left input.new) (I.counts input.new) (O.state out.new) (E.state err.new))
         (stage_result result) }
     ensures ready { IfOk result (λ stepped. IsReady (tables_of code.now.code) m.new (stage_of stepped)) }
     ensures no_memory { (instr : InstrSeen)

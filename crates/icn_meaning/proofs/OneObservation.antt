@@ -1,5 +1,5 @@
 -- A program has at most one observation.
-use Rattle.std.proofs.Common.{◌≡◌, Some}
+use Rattle.std.proofs.Common.{◌≡◌}
 use Rattle.icn_defs.specs.Running.{Launch}
 use Rattle.icn_defs.proofs.OneObservation.{Lasts, observed_once}
 use Rattle.icn_meaning.specs.Program.{Program}

@@ -1,15 +1,17 @@
 -- What is applied to operands, and how procedures are called and left.
-use Rattle.std.specs.Prelude.{ℕ, zero, suc, ◌-◌, nat_le, Bool, true, false, List, [], ◌∷◌, ◌++◌, length, drop, reverse, replicate, Option, Some, None, slice_get, slice_index_or, slice_set, ℤ}
+use Rattle.std.specs.Prelude.{ℕ, zero, suc, ◌-◌, ◌==◌, nat_le, Bool, true, false, List, [], ◌∷◌, ◌++◌, length, drop, reverse, replicate, Option, Some, None, slice_get, slice_index_or, slice_set, ℤ}
+use Rattle.icn_text.specs.declared.op.Op.{Op}
 use Rattle.icn_text.specs.declared.op.Op.TheVariants.{Refresh}
 use Rattle.icn_tree.specs.Trees.{Trees, MaybeTree, NoTrees, More, Initial, Initially}
-use Rattle.icn_value.specs.Values.{Value, Null, Integer, Text, Procedure, ARecord, AList, Item, Val, Var, Whole, Field}
+use Rattle.icn_value.specs.Values.{Value, Null, Procedure, ARecord, AList, Item, Val, Var, Whole, Field}
 use Rattle.icn_value.specs.Store.{list_at, record_at}
-use Rattle.icn_defs.specs.Conversions.{integer_of, place_of as position_of}
+use Rattle.icn_defs.specs.Arities.{arity}
+use Rattle.icn_defs.specs.Conversions.{position_of}
 use Rattle.icn_defs.specs.Running.{number_of}
 use Rattle.icn_defs.specs.StepRows.{Operation, Function, apply, list_row, record_row}
 use Rattle.icn_meaning.specs.Program.{Program, Routine, Constructor, Callee, IsRoutine, IsKind, IsFunction, IsNothing, callee_of, index_of}
 use Rattle.icn_meaning.specs.Contexts.{Application, Operating, Calling, Spreading, Collecting, Taking, Activating, frame_of, activation_of, Works, ◌and_then◌, Choices, ◌or_else◌, Args, Back, Surroundings, InCall, InScan, InLoop, Store, Evaluation, eval, succeed, fail, lost}
-use Rattle.icn_meaning.specs.Turns.{turn, errs, setting_in, answer, with_made, value, values, outgoing}
+use Rattle.icn_meaning.specs.Turns.{turn, errs, setting_in, answer, with_made, value, values, with_outgoing}
 use Rattle.icn_meaning.specs.Scanning.{restore_pair, exchanged_oldest}
 use Rattle.icn_meaning.specs.Actions.{rest}
 use Rattle.icn_meaning.specs.Coexpressions.{refresh, activate}
@@ -125,13 +127,19 @@ take_field program name v k r st = errs 107 (Some v) r st
 abbrev pub make_list : List Value → ℕ → Works → Choices → Store → Evaluation
 make_list vs a k r st = with_made (list_row vs (setting_in a st)) a r st (λ v st. succeed (Val v) k r st)
 
+-- an operation is applied to these items, where these are all of its operands; with another number of them no program comes
+-- here
+abbrev pub apply_op : Bool → Op → List Item → Surroundings → Works → Choices → Store → Evaluation
+apply_op false o xs s k r st = lost
+apply_op true Refresh (x ∷ xs) s k r st =
+    value x (activation_of s) r st (λ v. refresh v (activation_of s) k r st)
+apply_op true o xs s k r st =
+    answer (apply st.names (Operation o) xs (setting_in (activation_of s) st)) (activation_of s) k r st
+
 -- What is applied, to these items, in its turn. No form has fewer operands than it is applied to.
 abbrev pub apply_form : Program → Application → List Item → Surroundings → Works → Choices → Store
     → Evaluation
-apply_form program (Operating Refresh) (x ∷ xs) s k r st =
-    value x (activation_of s) r st (λ v. refresh v (activation_of s) k r st)
-apply_form program (Operating o) xs s k r st =
-    answer (apply st.names (Operation o) xs (setting_in (activation_of s) st)) (activation_of s) k r st
+apply_form program (Operating o) xs s k r st = apply_op (length xs == arity o) o xs s k r st
 apply_form program Calling [] s k r st = lost
 apply_form program Calling (x ∷ xs) s k r st =
     value x (activation_of s) r st (λ v. invoke program v xs s k r st)
@@ -163,7 +171,7 @@ return_item x (InLoop s k r a rn) st = return_item x s st
 
 -- the procedure gives a result and ends
 abbrev pub return : Item → Surroundings → Choices → Store → Evaluation
-return x s r st = outgoing x (activation_of s) r st (λ x. return_item x s st)
+return x s r st = with_outgoing x (activation_of s) r st (λ x. return_item x s st)
 
 -- the call gives this result, and goes on where that is resumed
 abbrev pub suspend_call : Item → MaybeTree → Surroundings → Surroundings → Choices → Store → Evaluation
@@ -173,4 +181,4 @@ suspend_call x b s (InLoop around k r0 a rn) r st = suspend_call x b s around r 
 
 -- the procedure gives a result and may be resumed
 abbrev pub suspend : Item → MaybeTree → Surroundings → Choices → Store → Evaluation
-suspend x b s r st = outgoing x (activation_of s) r st (λ x. suspend_call x b s s r (exchanged_oldest s st))
+suspend x b s r st = with_outgoing x (activation_of s) r st (λ x. suspend_call x b s s r (exchanged_oldest s st))

@@ -3,6 +3,7 @@ use Rattle.std.specs.Prelude.{ℕ, pos, false, List, [], ◌∷◌, ◌++◌, le
 use Rattle.icn_text.specs.Keywords.{keyword_name}
 use Rattle.icn_text.specs.declared.keyword.Keyword.{Keyword as KeywordName}
 use Rattle.icn_text.specs.declared.keyword.TheConstants.Keyword.{ALL as keywords}
+use Rattle.icn_text.specs.declared.op.Op.{Op}
 use Rattle.icn_text.specs.declared.op.Op.TheVariants.{Subscript as SubscriptOp, ToBy}
 use Rattle.icn_tree.specs.declared.token.Operator.{Operator}
 use Rattle.icn_tree.specs.declared.token.Operator.TheVariants.{Ampersand, Question, Bar, Backslash, At, Bang}
@@ -114,11 +115,16 @@ loops Loops.Until loop c b s k r st = eval c (inside loop s k r) (Cut r Fails an
     (Do (Body b (inside loop s k r) (Pass loop s k)) or_else r) st
 loops Loops.Every loop e b s k r st = eval e (InLoop s k r Fails r) (Each b s k r and_then Nothing) r st
 
+-- an operation is applied to these operands; where an operator is none in its place, no program has it
+abbrev pub operate : Program → Option Op → Trees → Surroundings → Works → Choices → Store → Evaluation
+operate program (Some op) es s k r st = operands program (Operating op) [] es s k r st
+operate program None es s k r st = lost
+
 -- an operator before its operand
 abbrev pub before : Program → Operator → Tree → Surroundings → Works → Choices → Store → Evaluation
 before program Bar e s k r st = repeat_alternation e s (length st.flags) k r st
 before program At e s k r st = operands program Activating [] (More Empty (More e NoTrees)) s k r st
-before program o e s k r st = operands program (Operating (prefix_op o)) [] (More e NoTrees) s k r st
+before program o e s k r st = operate program (prefix_op o) (More e NoTrees) s k r st
 
 -- an operator between two operands
 abbrev pub between : Program → Operator → Tree → Tree → Surroundings → Works → Choices → Store → Evaluation
@@ -128,8 +134,7 @@ between program Bar a b s k r st = eval a s k (Do (Go b s k) or_else r) st
 between program Backslash a b s k r st = eval b s (Limit a s and_then k) r st
 between program At a b s k r st = operands program Activating [] (More a (More b NoTrees)) s k r st
 between program Bang a b s k r st = operands program Spreading [] (More a (More b NoTrees)) s k r st
-between program o a b s k r st =
-    operands program (Operating (infix_op o)) [] (More a (More b NoTrees)) s k r st
+between program o a b s k r st = operate program (infix_op o) (More a (More b NoTrees)) s k r st
 
 -- what the evaluation of an expression goes on as
 abbrev pub on_eval : Program → Tree → Surroundings → Works → Choices → Store → Evaluation

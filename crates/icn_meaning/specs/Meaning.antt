@@ -4,7 +4,7 @@ use Rattle.icn_tree.specs.Trees.{Empty}
 pub use Rattle.icn_defs.specs.Running.{Observation}
 use Rattle.icn_defs.specs.Running.{Launch, first_world, words_row, after_steps, Observes}
 use Rattle.icn_meaning.specs.Program.{Program, Routine, routine_names, index_of, names_of}
-use Rattle.icn_meaning.specs.Contexts.{Nothing, NoChoice, Active, Store, Evaluation, eval, succeed, fail, hop, over, lost, Ending}
+use Rattle.icn_meaning.specs.Contexts.{Nothing, NoChoice, Active, Store, Evaluation, eval, succeed, fail, hop, over, lost}
 use Rattle.icn_meaning.specs.Turns.{errs, setting_in, with_made}
 use Rattle.icn_meaning.specs.Coexpressions.{pass_failure}
 use Rattle.icn_meaning.specs.Calls.{call}

@@ -1,5 +1,6 @@
 -- What each work does with a result.
 use Rattle.std.specs.Prelude.{ℕ, zero, suc, pos, negsuc, ℤ, pred, true, [], ◌∷◌, ◌++◌, length, Option, Some, None, slice_index_or, slice_set}
+use Rattle.icn_text.specs.declared.op.Op.{Op}
 use Rattle.icn_text.specs.declared.op.Op.TheVariants.{Assign}
 use Rattle.icn_tree.specs.declared.token.Operator.{Operator}
 use Rattle.icn_tree.specs.declared.token.Operator.TheVariants.{Ampersand, Question, At}
@@ -7,9 +8,9 @@ use Rattle.icn_tree.specs.Trees.{Tree, MaybeTree, Clauses, Absent, Present, NoTr
 use Rattle.icn_value.specs.Values.{Value, Text, Item}
 use Rattle.icn_defs.specs.Conversions.{integer_of}
 use Rattle.icn_defs.specs.StepRows.{text_row}
-use Rattle.icn_meaning.specs.Operators.{infix_op}
+use Rattle.icn_meaning.specs.Operators.{update_op}
 use Rattle.icn_meaning.specs.Program.{Program}
-use Rattle.icn_meaning.specs.Contexts.{Operating, Activating, activation_of, Works, Nothing, ◌and_then◌, Choices, ◌or_else◌, Args, Then, Cut, Raise, Limit, Count, Scan, Leave, Update, Each, Select, Returning, Suspending, Result, Restore, Reenter, Fails, Try, Surroundings, InScan, InLoop, Store, Evaluation, eval, succeed, fail, over, Done}
+use Rattle.icn_meaning.specs.Contexts.{Operating, Activating, activation_of, Works, Nothing, ◌and_then◌, Choices, ◌or_else◌, Args, Then, Cut, Raise, Limit, Count, Scan, Leave, Update, Each, Select, Returning, Suspending, Result, Restore, Reenter, Fails, Try, Surroundings, InScan, InLoop, Store, Evaluation, eval, succeed, fail, over, lost, Done}
 use Rattle.icn_meaning.specs.Turns.{errs, setting_in, with_made, value}
 use Rattle.icn_meaning.specs.Scanning.{new_cell, enter_scan, exchange_pairs}
 use Rattle.icn_meaning.specs.Actions.{act}
@@ -29,8 +30,8 @@ limit (Some (negsuc n)) v e s k r st = errs 205 (Some v) r st
 limit None v e s k r st = errs 101 (Some v) r st
 
 -- how many results a limit leaves after one more
-abbrev pub remaining : ℕ → Store → ℕ
-remaining c st = pred (slice_index_or st.limits c zero)
+abbrev pub results_left : ℕ → Store → ℕ
+results_left c st = pred (slice_index_or st.limits c zero)
 
 -- with the last result that is allowed the choices of the limited expression are gone
 abbrev pub count_by : ℕ → Item → Works → Choices → Choices → Store → Evaluation
@@ -40,7 +41,7 @@ count_by (suc n) x k r0 r st = succeed x k r st
 -- a result of a limited expression is counted
 abbrev pub count_down : ℕ → Item → Works → Choices → Choices → Store → Evaluation
 count_down c x k r0 r st =
-    count_by (remaining c st) x k r0 r (record st { limits = slice_set st.limits c (remaining c st) })
+    count_by (results_left c st) x k r0 r (record st { limits = slice_set st.limits c (results_left c st) })
 
 -- a scan of this text, which saves the pair in the cell p
 abbrev pub scan_in : ℕ → Value → Tree → Surroundings → Works → Choices → Store → Evaluation
@@ -54,6 +55,12 @@ scan x e s k r st =
     value x (activation_of s) r st (λ v. with_made (text_row v (setting_in (activation_of s) st))
     (activation_of s) r st (λ text st. scan_in (new_cell st) text e s k r st))
 
+-- `x op:= y`, with x there and this operation; where the operator is none, no program has it
+abbrev pub update_by : Option Op → Item → Tree → Surroundings → Works → Choices → Store → Evaluation
+update_by (Some op) x y s k r st = eval y s (Args (Operating op) (x ∷ []) NoTrees s
+    and_then Args (Operating Assign) (x ∷ []) NoTrees s and_then k) r st
+update_by None x y s k r st = lost
+
 -- `x op:= y`, with x there
 abbrev pub update : Operator → Item → Tree → Surroundings → Works → Choices → Store → Evaluation
 update Ampersand x y s k r st = eval y s (Args (Operating Assign) (x ∷ []) NoTrees s and_then k) r st
@@ -61,8 +68,7 @@ update Question x y s k r st =
     succeed x (Scan y s and_then Args (Operating Assign) (x ∷ []) NoTrees s and_then k) r st
 update At x y s k r st = eval y s
     (Args Activating (x ∷ []) NoTrees s and_then Args (Operating Assign) (x ∷ []) NoTrees s and_then k) r st
-update o x y s k r st = eval y s (Args (Operating (infix_op o)) (x ∷ []) NoTrees s
-    and_then Args (Operating Assign) (x ∷ []) NoTrees s and_then k) r st
+update o x y s k r st = update_by (update_op o) x y s k r st
 
 -- a result of the control expression of `every`, around which are s, k and r0
 abbrev pub each : MaybeTree → Surroundings → Works → Choices → Choices → Store → Evaluation

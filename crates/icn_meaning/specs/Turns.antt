@@ -73,8 +73,8 @@ values [] a r st go = go []
 values (x ∷ xs) a r st go = value x a r st (λ v. values xs a r st (λ vs. go (v ∷ vs)))
 
 -- what leaves an activation: a local of it, or a substring of one, is dereferenced; another variable stays one
-abbrev pub outgoing : Item → ℕ → Choices → Store → (Item → Evaluation) → Evaluation
-outgoing (Var (Whole (Local n))) a r st go = value (Var (Whole (Local n))) a r st (λ v. go (Val v))
-outgoing (Var (Part (Local n) place size)) a r st go =
+abbrev pub with_outgoing : Item → ℕ → Choices → Store → (Item → Evaluation) → Evaluation
+with_outgoing (Var (Whole (Local n))) a r st go = value (Var (Whole (Local n))) a r st (λ v. go (Val v))
+with_outgoing (Var (Part (Local n) place size)) a r st go =
     value (Var (Part (Local n) place size)) a r st (λ v. go (Val v))
-outgoing x a r st go = go x
+with_outgoing x a r st go = go x

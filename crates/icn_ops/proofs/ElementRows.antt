@@ -8,7 +8,7 @@ use Rattle.icn_defs.specs.Calls.{GoesOn}
 use Rattle.icn_defs.specs.Conversions.{held_text}
 use Rattle.icn_defs.specs.Elements.{element_item, field_item, key_item, list_items_from, part_of, record_fields_from, set_members_from, table_values_from, text_bytes_from, variable_bytes_from}
 use Rattle.icn_defs.specs.ReadAndAssign.{reads}
-use Rattle.icn_defs.specs.Rows.{Row, Fails, Suspends, Error, TextBytes, VariableBytes, ListItems, SetMembers, TableValues, RecordFields, thing_or_failure, passing, present, suspends}
+use Rattle.icn_defs.specs.Rows.{Row, Fails, Suspends, Error, TextBytes, VariableBytes, ListItems, SetMembers, TableValues, RecordFields, thing_or_failure, fails_unless, present, suspends}
 
 pub get_past : {A : Type 0} (xs : List A) (place : ℕ) → length xs ≤ place → slice_get xs place ≡ None
 get_past [] place past = refl
@@ -38,28 +38,28 @@ text_end text place s past =
 module _ (variable : Variable) (place : ℕ) (s : Setting) where
   rest : Value → Row
   rest value = present (held_text value) 103 (Some value)
-      (λ text. passing (nat_lt place (length text)) (suspends (Var (part_of variable (place + 1) 1)) (VariableBytes variable (place + 1))))
+      (λ text. fails_unless (nat_lt place (length text)) (suspends (Var (part_of variable (place + 1) 1)) (VariableBytes variable (place + 1))))
 
   pub variable_byte : (value : Value) (text : List ℕ) → GoesOn (reads variable) s value s → value ≡ Text text → place < length text
       → variable_bytes_from variable place s ≡ Suspends (Var (part_of variable (place + 1) 1)) (VariableBytes variable (place + 1)) s
   unfolding rest
   variable_byte value text read is there =
       read rest ∙ (ap (λ v. rest v s) is
-      ∙ ap (λ t. passing t (suspends (Var (part_of variable (place + 1) 1)) (VariableBytes variable (place + 1))) s) (lt-ltb place (length text) there))
+      ∙ ap (λ t. fails_unless t (suspends (Var (part_of variable (place + 1) 1)) (VariableBytes variable (place + 1))) s) (lt-ltb place (length text) there))
 
   pub variable_end : (value : Value) (text : List ℕ) → GoesOn (reads variable) s value s → value ≡ Text text → length text ≤ place
       → variable_bytes_from variable place s ≡ Fails s
   unfolding rest
   variable_end value text read is past =
       read rest ∙ (ap (λ v. rest v s) is
-      ∙ ap (λ t. passing t (suspends (Var (part_of variable (place + 1) 1)) (VariableBytes variable (place + 1))) s) (le-ltb place (length text) past))
+      ∙ ap (λ t. fails_unless t (suspends (Var (part_of variable (place + 1) 1)) (VariableBytes variable (place + 1))) s) (le-ltb place (length text) past))
 
   pub variable_other : (value : Value) → GoesOn (reads variable) s value s → held_text value ≡ None
       → variable_bytes_from variable place s ≡ Error 103 (Some value) s
   unfolding rest
   variable_other value read none =
       read rest ∙ ap (λ text. present text 103 (Some value)
-      (λ text. passing (nat_lt place (length text)) (suspends (Var (part_of variable (place + 1) 1)) (VariableBytes variable (place + 1)))) s) none
+      (λ text. fails_unless (nat_lt place (length text)) (suspends (Var (part_of variable (place + 1) 1)) (VariableBytes variable (place + 1)))) s) none
 
 -- Structures
 
@@ -67,12 +67,12 @@ pub list_item : (id place : ℕ) (item : Item) (s : Setting) → place < length 
     → item ≡ element_item id (list_at s.world.heap id) place
     → list_items_from id place s ≡ Suspends item (ListItems id (place + 1)) s
 list_item id place item s there is =
-    ap (λ t. passing t (suspends (element_item id (list_at s.world.heap id) place) (ListItems id (place + 1))) s)
+    ap (λ t. fails_unless t (suspends (element_item id (list_at s.world.heap id) place) (ListItems id (place + 1))) s)
     (lt-ltb place (length (list_at s.world.heap id).items) there)
     ∙ ap (λ one. Suspends one (ListItems id (place + 1)) s) (sym is)
 
 pub list_end : (id place : ℕ) (s : Setting) → length (list_at s.world.heap id).items ≤ place → list_items_from id place s ≡ Fails s
-list_end id place s past = ap (λ t. passing t (suspends (element_item id (list_at s.world.heap id) place) (ListItems id (place + 1))) s)
+list_end id place s past = ap (λ t. fails_unless t (suspends (element_item id (list_at s.world.heap id) place) (ListItems id (place + 1))) s)
     (le-ltb place (length (list_at s.world.heap id).items) past)
 
 pub set_member : (id place : ℕ) (value : Value) (s : Setting) → slice_get (set_at s.world.heap id) place ≡ Some value
@@ -92,8 +92,8 @@ table_end id place s is = ap (λ one. thing_or_failure one (λ (pair : Value × 
 pub record_field : (id place : ℕ) (s : Setting) → place < length (record_at s.world.heap id).fields
     → record_fields_from id place s ≡ Suspends (field_item id place) (RecordFields id (place + 1)) s
 record_field id place s there =
-    ap (λ t. passing t (suspends (field_item id place) (RecordFields id (place + 1))) s) (lt-ltb place (length (record_at s.world.heap id).fields) there)
+    ap (λ t. fails_unless t (suspends (field_item id place) (RecordFields id (place + 1))) s) (lt-ltb place (length (record_at s.world.heap id).fields) there)
 
 pub record_end : (id place : ℕ) (s : Setting) → length (record_at s.world.heap id).fields ≤ place → record_fields_from id place s ≡ Fails s
 record_end id place s past =
-    ap (λ t. passing t (suspends (field_item id place) (RecordFields id (place + 1))) s) (le-ltb place (length (record_at s.world.heap id).fields) past)
+    ap (λ t. fails_unless t (suspends (field_item id place) (RecordFields id (place + 1))) s) (le-ltb place (length (record_at s.world.heap id).fields) past)

@@ -3,25 +3,25 @@ use Rattle.std.proofs.Common.{◌≡◌, ◌∙◌, sym, ap, ℕ, ◌≤◌, ℤ
 use Rattle.std.proofs.lemmas.Bool.{le-leb}
 use Rattle.icn_value.specs.Values.{Value, Variable, Item}
 use Rattle.icn_value.specs.Store.{Setting}
-use Rattle.icn_defs.specs.Conversions.{place_of}
+use Rattle.icn_defs.specs.Conversions.{position_of}
 use Rattle.icn_defs.specs.Elements.{part_item, text_variable}
-use Rattle.icn_defs.specs.Rows.{Row, Outcome, Gives, thing_or_failure, gives, passing}
-use Rattle.icn_defs.specs.Variables.{element_place, places}
+use Rattle.icn_defs.specs.Rows.{Row, Outcome, Gives, thing_or_failure, gives, fails_unless}
+use Rattle.icn_defs.specs.Variables.{element_position, places}
 
 -- Elements
 
-pub element_found : (n : ℤ) (size place : ℕ) (next : ℕ → Row) (s : Setting) → Some place ≡ place_of n size → place ≤ size
-    → element_place n size next s ≡ next place s
+pub element_found : (n : ℤ) (size place : ℕ) (next : ℕ → Row) (s : Setting) → Some place ≡ position_of n size → place ≤ size
+    → element_position n size next s ≡ next place s
 element_found n size place next s is within =
-    ap (λ one. thing_or_failure one (λ p. passing (nat_le p size) (next p)) s) (sym is) ∙ ap (λ t. passing t (next place) s) (le-leb place size within)
+    ap (λ one. thing_or_failure one (λ p. fails_unless (nat_le p size) (next p)) s) (sym is) ∙ ap (λ t. fails_unless t (next place) s) (le-leb place size within)
 
 -- Integers and sizes as they are held
 
 -- the place of an element depends on the integer and the size alone
 pub element_held : (n n' : ℤ) (size size' : ℕ) (next : ℕ → Row) (s : Setting) (outcome : Outcome) → n' ≡ n → size' ≡ size
-    → element_place n' size' next s ≡ outcome
-    → element_place n size next s ≡ outcome
-element_held n n' size size' next s outcome same same' is = sym (ap (λ k. element_place k size' next s) same ∙ ap (λ k. element_place n k next s) same') ∙ is
+    → element_position n' size' next s ≡ outcome
+    → element_position n size next s ≡ outcome
+element_held n n' size size' next s outcome same same' is = sym (ap (λ k. element_position k size' next s) same ∙ ap (λ k. element_position n k next s) same') ∙ is
 
 pub places_held : (m m' n n' : ℤ) (size size' : ℕ) (next : ℕ × ℕ → Row) (s : Setting) (outcome : Outcome) → m' ≡ m → n' ≡ n → size' ≡ size
     → places m' n' size' next s ≡ outcome

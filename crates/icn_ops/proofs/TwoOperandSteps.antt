@@ -5,7 +5,7 @@ use Rattle.std.specs.Int.{w64}
 use Rattle.std.specs.Result.{result_ok}
 use Rattle.std.specs.Prelude.{IfOk, neg_ℤ, ok_or, ◌+ℤ◌, ◌-ℤ◌}
 use Rattle.std.proofs.lemmas.Int.{ints, to_z-of_z}
-use Rattle.icn_text.specs.IntegerArithmetic.{difference, fitting, sum, within_64_bits}
+use Rattle.icn_text.specs.IntegerArithmetic.{difference, if_fits, sum, within_64_bits}
 use Rattle.icn_text.specs.declared.arithmetic.Arith.TheVariants.{Overflow}
 use Rattle.icn_value.proofs.Bits.{members_by}
 use Rattle.icn_value.proofs.CsetMembers.{members_pass}
@@ -18,7 +18,7 @@ use Rattle.icn_value.specs.Store.{Setting}
 use Rattle.icn_defs.specs.Arguments.{string}
 use Rattle.icn_defs.specs.Calls.{GoesOn}
 use Rattle.icn_defs.specs.ReadAndAssign.{the_value}
-use Rattle.icn_defs.specs.Rows.{Outcome, costs_text, costs_texts, passing}
+use Rattle.icn_defs.specs.Rows.{Outcome, costs_text, costs_texts, fails_unless}
 use Rattle.icn_defs.specs.Scanning.{stands, tabs_to}
 use Rattle.icn_heap.specs.Extents.{Extent, text_in}
 use Rattle.icn_vars.specs.declared.stop.Stop.{Stop}
@@ -96,8 +96,8 @@ pub held_size : (n : ℕ) → n < 2 ^ 63 → to_z w64 n ≡ pos n
 held_size n small = grind (arith, ints)
 
 -- the result of a sum, if it has one, is a sum that fits
-pub fitting_sum : (m n : ℤ) → result_ok (sum m n) ≡ fitting (m +ℤ n)
-fitting_sum m n = by (fitting (m +ℤ n))
+pub fitting_sum : (m n : ℤ) → result_ok (sum m n) ≡ if_fits (m +ℤ n)
+fitting_sum m n = by (if_fits (m +ℤ n))
   where
     by : (found : Option ℤ) → result_ok (ok_or found Overflow) ≡ found
     by (Some k) = refl
@@ -107,8 +107,8 @@ fitting_sum m n = by (fitting (m +ℤ n))
 pub moved : (wanted bytes subject held : List ℕ) (place : ℕ) (t : Bool) (setting : Setting) (outcome : Outcome) → bytes ≡ wanted → held ≡ subject
     → t ≡ stands bytes held place (length held + 1) → t ≡ true
     → tabs_to (place + length bytes) setting ≡ outcome
-    → passing (stands wanted subject place (length subject + 1)) (tabs_to (place + length wanted)) setting ≡ outcome
+    → fails_unless (stands wanted subject place (length subject + 1)) (tabs_to (place + length wanted)) setting ≡ outcome
 moved wanted bytes subject held place t setting outcome same same' found met is =
     let stands_so : stands wanted subject place (length subject + 1) ≡ true =
     sym (ap (λ x. stands x held place (length held + 1)) same ∙ ap (λ y. stands wanted y place (length y + 1)) same') ∙ (sym found ∙ met) in
-    ap (λ x. passing x (tabs_to (place + length wanted)) setting) stands_so ∙ (ap (λ (x : List ℕ). tabs_to (place + length x) setting) (sym same) ∙ is)
+    ap (λ x. fails_unless x (tabs_to (place + length wanted)) setting) stands_so ∙ (ap (λ (x : List ℕ). tabs_to (place + length x) setting) (sym same) ∙ is)

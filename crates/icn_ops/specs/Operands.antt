@@ -12,7 +12,7 @@ use Rattle.icn_value.specs.Values.{Value, Integer, Item}
 use Rattle.icn_defs.specs.Arguments.{integer, list, number, string}
 use Rattle.icn_defs.specs.Conversions.{cset_of}
 use Rattle.icn_defs.specs.ReadAndAssign.{the_value}
-use Rattle.icn_defs.specs.Rows.{◌>>=◌, ◌>>◌, Row, Finds, number_or_error, costs_text, costs_texts, gives_value, here, passing, present}
+use Rattle.icn_defs.specs.Rows.{◌>>=◌, ◌>>◌, Row, Finds, number_or_error, costs_text, costs_texts, gives_value, here, fails_unless, present}
 use Rattle.icn_defs.specs.Scanning.{stands, tabs_to}
 use Rattle.icn_heap.specs.Extents.{Extent, text_in, value_in}
 
@@ -86,7 +86,7 @@ abbrev pub matches_here : List ℕ → Row
 matches_here wanted = do
   setting ← here
   let place = setting.world.position
-  passing (stands wanted setting.world.subject place (length setting.world.subject + 1))
+  fails_unless (stands wanted setting.world.subject place (length setting.world.subject + 1))
   tabs_to (place + length wanted)
 
 -- the values of three operands

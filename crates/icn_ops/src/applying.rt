@@ -48,9 +48,10 @@ pub fn first<L: Locals, I: Source, O: Sink, E: Sink>(
     requires locals { All (IsLive (extent_of w.old.heap)) (L.items l.old) }
     requires args { All (IsLiveItem (reach_of w.old (L.items l.old))) args.now }
     ensures { Applies (operation_row op (map (item_in (extent_of w.old.heap)) args.now)) (call_state w.old
-        (L.items l.old) (call_streams (I.left input.old) (I.faults input.old) (O.state out.old) (E.state err.old)))
+        (L.items l.old)
+        (call_streams (I.left input.old) (I.counts input.old) (O.state out.old) (E.state err.old)))
         (call_state w.new (L.items l.new)
-        (call_streams (I.left input.new) (I.faults input.new) (O.state out.new) (E.state err.new))) result }
+        (call_streams (I.left input.new) (I.counts input.new) (O.state out.new) (E.state err.new))) result }
 {
     if wants_values(op) {
         return apply_to_values(op, args, w, l);
@@ -77,9 +78,9 @@ pub fn again<L: Locals, I: Source, O: Sink, E: Sink>(
     requires locals { All (IsLive (extent_of w.old.heap)) (L.items l.old) }
     requires rest { IsLiveResidual (reach_of w.old (L.items l.old)) rest }
     ensures { Applies (again (residual_in (extent_of w.old.heap) rest)) (call_state w.old (L.items l.old)
-        (call_streams (I.left input.old) (I.faults input.old) (O.state out.old) (E.state err.old)))
+        (call_streams (I.left input.old) (I.counts input.old) (O.state out.old) (E.state err.old)))
         (call_state w.new (L.items l.new)
-        (call_streams (I.left input.new) (I.faults input.new) (O.state out.new) (E.state err.new))) result }
+        (call_streams (I.left input.new) (I.counts input.new) (O.state out.new) (E.state err.new))) result }
 {
     match rest {
         Residual::InputLines => lines_again(w, l, buffer, input, out, err),
@@ -104,9 +105,9 @@ fn apply_to_one<L: Locals, I: Source, O: Sink, E: Sink>(
     requires first { IsLiveItem (reach_of w.old (L.items l.old)) x }
     ensures { Applies (operation_on op (item_in (extent_of w.old.heap) x) (ValItem Null) (ValItem Null))
         (call_state w.old (L.items l.old)
-        (call_streams (I.left input.old) (I.faults input.old) (O.state out.old) (E.state err.old)))
+        (call_streams (I.left input.old) (I.counts input.old) (O.state out.old) (E.state err.old)))
         (call_state w.new (L.items l.new)
-        (call_streams (I.left input.new) (I.faults input.new) (O.state out.new) (E.state err.new))) result }
+        (call_streams (I.left input.new) (I.counts input.new) (O.state out.new) (E.state err.new))) result }
 {
     match op {
         Op::Elements => elements_row(w, l, x, buffer, input, out, err),

@@ -9,7 +9,7 @@ ghost use Rattle.icn_vars.specs.Outcomes.{IsLiveAnswer};
 ghost use Rattle.icn_vars.specs.Worlds.{IsLiveItem, KeepsItems, Reach, item_in, reach_of};
 ghost use Rattle.icn_args.specs.RowWords.{Answers};
 ghost use Rattle.std.specs.Prelude.{◌≡◌};
-ghost use Rattle.icn_defs.specs.Rows.{gives_value, passing};
+ghost use Rattle.icn_defs.specs.Rows.{gives_value, fails_unless};
 ghost use Rattle.icn_vars.specs.Outcomes.{IsLiveOutcome, outcome_in};
 
 use crate::operands::{compared_numbers, compared_texts, two_values};
@@ -20,7 +20,7 @@ use icn_vars::{Halt, Locals, Outcome, World};
 // A value where a test is met; it fails elsewhere.
 fn value_if(test: bool, val: Val) -> Outcome
     ensures row { (all : Extent) (setting : Setting)
-        → passing test (gives_value (value_in all val)) setting ≡ outcome_in all result setting }
+        → fails_unless test (gives_value (value_in all val)) setting ≡ outcome_in all result setting }
     ensures live { (reach : Reach) → IsLive reach.extent val → IsLiveOutcome reach result }
 {
     if test {

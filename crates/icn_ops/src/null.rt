@@ -1,7 +1,7 @@
 // Null values, sizes, and values of variables.
 ghost use Rattle.std.specs.Prelude.{◌≡◌};
 ghost use Rattle.icn_value.specs.Store.{Setting};
-ghost use Rattle.icn_defs.specs.Rows.{gives, passing};
+ghost use Rattle.icn_defs.specs.Rows.{gives, fails_unless};
 ghost use Rattle.icn_defs.specs.Operations.{dereference_row, is_not_null_row, is_null_row, size_row};
 ghost use Rattle.std.specs.List.{All};
 ghost use Rattle.icn_heap.specs.Extents.{Extent, IsLive};
@@ -17,7 +17,7 @@ use icn_vars::{Halt, Locals, Outcome, World, deref};
 /// An item where a test is met; it fails elsewhere.
 pub fn item_if(test: bool, item: Item) -> Outcome
     ensures row { (all : Extent) (setting : Setting)
-        → passing test (gives (item_in all item)) setting ≡ outcome_in all result setting }
+        → fails_unless test (gives (item_in all item)) setting ≡ outcome_in all result setting }
     ensures live { (reach : Reach) → IsLiveItem reach item → IsLiveOutcome reach result }
 {
     if test {

@@ -14,7 +14,7 @@ use crate::operands::two_values;
 use crate::parts::{
     element_item, field_count, field_item, list_count, part_item, text_holder, text_length,
 };
-use crate::positions::element_place;
+use crate::positions::element_position;
 use icn_args::{integer_of, text_of};
 use icn_value::{Item, Root, Val, VarRef};
 use icn_vars::{Halt, Locals, Outcome, World};
@@ -95,7 +95,7 @@ fn text_subscript<L: Locals>(
 {
     let n = integer_of(&w.heap, at)?;
     let text = text_of(w, l, val)?;
-    match element_place(n, text_length(&w.heap, text)) {
+    match element_position(n, text_length(&w.heap, text)) {
         Some(place) => {
             let holder = text_holder(x, val);
             Ok(Outcome::Gives(part_item(w, l, holder, text, place, 1)))
@@ -114,7 +114,7 @@ fn list_subscript<L: Locals>(w: &World, l: &L, x: Item, list: u32, at: Val) -> R
     ensures live { IsLiveAnswer (reach_of w.now (L.items l.now)) result }
 {
     let n = integer_of(&w.heap, at)?;
-    match element_place(n, list_count(&w.heap, list)) {
+    match element_position(n, list_count(&w.heap, list)) {
         Some(place) => Ok(Outcome::Gives(element_item(w, l, list, place - 1))),
         None => Ok(Outcome::Fails),
     }
@@ -136,7 +136,7 @@ fn record_subscript<L: Locals>(
     ensures live { IsLiveAnswer (reach_of w.now (L.items l.now)) result }
 {
     let n = integer_of(&w.heap, at)?;
-    match element_place(n, field_count(&w.heap, rec)) {
+    match element_position(n, field_count(&w.heap, rec)) {
         Some(place) => Ok(Outcome::Gives(field_item(w, l, rec, place - 1))),
         None => Ok(Outcome::Fails),
     }

@@ -168,7 +168,8 @@ pub fn reversible_swap_row<L: Locals>(
     }
 }
 
-/// `x <-> y` resumed: the old values are assigned back, the left one first, and it fails.
+/// `x <-> y` resumed: the old values are assigned back, the left one first, and it fails. It takes no memory where both are whole
+/// variables, and none is a key of a table.
 pub fn undo_exchange_again<L: Locals>(
     w: &mut World,
     l: &mut L,
@@ -184,6 +185,9 @@ pub fn undo_exchange_again<L: Locals>(
     ensures row { Answers w.old (L.items l.old) w.new (L.items l.new) (undo_exchange_again (mover_of mover)
         (variable_in (extent_of w.old.heap) left) (variable_in (extent_of w.old.heap) right)
         (value_in (extent_of w.old.heap) old_left) (value_in (extent_of w.old.heap) old_right)) result }
+    ensures memory { mover ≡ Mover.Neither → takes_no_memory (variable_in (extent_of w.old.heap) left) ≡ true
+        → takes_no_memory (variable_in (extent_of w.old.heap) right) ≡ true
+        → IfErr result (λ halt. halt ≢ NoMemory) }
     ensures live { IsLiveAnswer (reach_of w.new (L.items l.new)) result }
     ensures locals { All (IsLive (extent_of w.new.heap)) (L.items l.new) }
     ensures kept { KeepsItems (reach_of w.old (L.items l.old)) (reach_of w.new (L.items l.new)) }

@@ -43,9 +43,9 @@ pub fn elements_row<L: Locals, I: Source, O: Sink, E: Sink>(
     requires locals { All (IsLive (extent_of w.old.heap)) (L.items l.now) }
     requires first { IsLiveItem (reach_of w.old (L.items l.now)) x }
     ensures { Applies (elements_row (item_in (extent_of w.old.heap) x)) (call_state w.old (L.items l.now)
-        (call_streams (I.left input.old) (I.faults input.old) (O.state out.old) (E.state err.old)))
+        (call_streams (I.left input.old) (I.counts input.old) (O.state out.old) (E.state err.old)))
         (call_state w.new (L.items l.now)
-        (call_streams (I.left input.new) (I.faults input.new) (O.state out.new) (E.state err.new))) result }
+        (call_streams (I.left input.new) (I.counts input.new) (O.state out.new) (E.state err.new))) result }
 {
     let val = deref(w, l, x)?;
     match val {

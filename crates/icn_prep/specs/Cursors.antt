@@ -10,8 +10,10 @@ pub record Cursor : Type 0 where
   pub taken : Bool
   pub conditionals : List Conditional
 
+-- the first line of this file, with no conditional open
 abbrev pub start_of : ℕ → Cursor
 start_of file = record { file = file; line = 1; taken = true; conditionals = [] }
 
+-- the line behind this one
 abbrev pub next_line : Cursor → Cursor
 next_line cursor = record cursor { line = cursor.line + 1 }

@@ -12,10 +12,12 @@ use Rattle.icn_prep.specs.Words.{first_word, behind_word, trim, trimmed_start}
 abbrev pub is_pair_end : ℕ → Bool
 is_pair_end b = (b == 40) || (b == 41) || (b == 60) || (b == 62)
 
+-- the bytes begin with one of these
 abbrev pub begins_pair_end : List ℕ → Bool
 begins_pair_end [] = false
 begins_pair_end (b ∷ rest) = is_pair_end b
 
+-- the bytes begin with a `$` that spells no brace or bracket
 abbrev pub begins_directive : List ℕ → Bool
 begins_directive [] = false
 begins_directive (b ∷ rest) = (b == 36) && not (begins_pair_end rest)
@@ -29,6 +31,7 @@ is_directive (Escape quote) line = false
 is_directive (Control quote) line = false
 is_directive Comment line = false
 
+-- what comes next stands in a comment
 abbrev pub is_comment : LiteralState → Bool
 is_comment Comment = true
 is_comment Outside = false

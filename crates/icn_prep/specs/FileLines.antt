@@ -1,6 +1,7 @@
 -- The lines of a file.
 use Rattle.std.specs.Prelude.{ℕ, Bool, false, List, [], ◌∷◌, if◌then◌else◌, ◌==◌, ◌&&◌}
 
+-- the bytes begin with this one
 abbrev pub begins_with : ℕ → List ℕ → Bool
 begins_with byte [] = false
 begins_with byte (b ∷ rest) = b == byte

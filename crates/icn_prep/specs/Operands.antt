@@ -8,6 +8,7 @@ use Rattle.icn_tree.specs.Characters.{is_digit, is_blank}
 use Rattle.icn_tree.specs.TokenBounds.{is_name}
 use Rattle.icn_prep.specs.Words.{first_word, behind_word, trim, trimmed_start}
 
+-- nothing stands there
 abbrev pub is_empty : List ℕ → Bool
 is_empty [] = true
 is_empty (b ∷ rest) = false
@@ -64,6 +65,7 @@ abbrev pub number_with : ℕ → Option (List ℕ) → Option (ℕ × Option (Li
 number_with number None = None
 number_with number (Some name) = Some (number, Some name)
 
+-- the same, by what stands behind the number
 abbrev pub number_and_name : ℕ → List ℕ → Option (ℕ × Option (List ℕ))
 number_and_name number rest =
     if is_empty rest then Some (number, None) else number_with number (text_in_quotes rest)

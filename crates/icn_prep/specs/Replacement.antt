@@ -25,6 +25,7 @@ begins_word (Escape quote) b = false
 begins_word (Control quote) b = false
 begins_word Comment b = false
 
+-- a word that is not replaced
 abbrev pub as_it_stands : List ℕ → ReplacedText
 as_it_stands word = record { bytes = word; state = Outside }
 

@@ -36,6 +36,7 @@ pub record LineState : Type 0 where
 abbrev pub first_state : LineState
 first_state = record { names = []; lines = []; texts = no_texts; literal = Outside }
 
+-- what reading has come to, or why it has ended
 abbrev pub Preprocessed : Type 0
 Preprocessed = Result LineState PrepFault
 
@@ -87,6 +88,7 @@ define_again s cursor name text None =
 define_again s cursor name text (Some old) =
     if bytes_eq old text then pass_line s cursor (next_line cursor) else refuse s cursor P5
 
+-- $define by its operand, a name with its text: P2 where it has another form
 abbrev pub define_line : LineState → Cursor → Option (List ℕ × List ℕ) → Step
 define_line s cursor None = refuse s cursor P2
 define_line s cursor (Some named) = define_again s cursor named.0 named.1 (s.texts.text_of named.0)
@@ -129,6 +131,7 @@ renumber s cursor number (Some name) =
     pass_line (record s { names = s.names ++ name ∷ [] }) cursor
     (record cursor { file = length s.names; line = number })
 
+-- $line by its operand, a number and perhaps a name: P2 where it has another form
 abbrev pub line_line : LineState → Cursor → Option (ℕ × Option (List ℕ)) → Step
 line_line s cursor None = refuse s cursor P2
 line_line s cursor (Some numbered) = renumber s cursor numbered.0 numbered.1
@@ -195,6 +198,7 @@ abbrev pub too_deep : List ℕ → LineState → Cursor → Option (List ℕ) �
 too_deep name s cursor None = refuse s cursor P6
 too_deep name s cursor (Some bytes) = refuse s cursor P7
 
+-- the lines of an included file come next: P6 where it is not there
 abbrev pub include_found : IncludeStep → List ℕ → LineState → Cursor → Option (List ℕ) → Preprocessed
 include_found includes name s cursor None = refuse s cursor P6
 include_found includes name s cursor (Some bytes) = include_read includes name s cursor bytes
@@ -215,6 +219,7 @@ pub record PreprocessedSource : Type 0 where
   pub names : List (List ℕ)
   pub lines : List SourceLine
 
+-- what reading the named file has come to, at its end
 abbrev pub source_of : Preprocessed → Result PreprocessedSource PrepFault
 source_of (Ok s) = Ok (record { names = s.names; lines = s.lines })
 source_of (Err fault) = Err fault

@@ -6,6 +6,7 @@ use Rattle.indexmap.specs.IndexMap.{IndexMap, get_by, index_map_len}
 use Rattle.icn_prep.specs.declared.texts.Texts.{Texts as TextMap}
 use Rattle.icn_prep.specs.DefinedNames.{Texts}
 
+-- how many texts a map has, and the text of each name
 abbrev pub texts_in : {Y Z S : Type 0} → IndexMap (Vec ℕ Y) (Vec ℕ Z) S → Texts
 texts_in m = record {
   count = index_map_len m;

@@ -7,6 +7,7 @@ use Rattle.icn_tree.specs.Characters.{continues_identifier, is_blank}
 abbrev pub first_word : List ℕ → List ℕ
 first_word bytes = take (prefix_len continues_identifier bytes) bytes
 
+-- what stands behind that word
 abbrev pub behind_word : List ℕ → List ℕ
 behind_word bytes = drop (prefix_len continues_identifier bytes) bytes
 
@@ -14,6 +15,7 @@ behind_word bytes = drop (prefix_len continues_identifier bytes) bytes
 abbrev pub trimmed_start : List ℕ → List ℕ
 trimmed_start bytes = drop (prefix_len is_blank bytes) bytes
 
+-- without the blanks at the end
 abbrev pub trimmed_end : List ℕ → List ℕ
 trimmed_end bytes = reverse (trimmed_start (reverse bytes))
 

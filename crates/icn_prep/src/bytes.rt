@@ -9,7 +9,7 @@ ghost use Rattle.icn_prep.specs.Operands.{is_unquoted};
 use icn_profile::DOUBLE_QUOTE;
 use icn_tree::characters::{begins_identifier, blanks_len, continues_identifier, is_blank};
 
-// How many bytes stand before the first double quote.
+/// How many bytes stand before the first double quote.
 pub fn unquoted_len(bytes: &[u8]) -> usize
     ensures counted { result ≡ prefix_len is_unquoted bytes.now }
     ensures within { result ≤ length bytes.now }
@@ -17,7 +17,7 @@ pub fn unquoted_len(bytes: &[u8]) -> usize
     bytes.iter().take_while(|b| **b != DOUBLE_QUOTE).count()
 }
 
-// Whether the bytes are a name: a letter or an underscore, and then letters, digits and underscores.
+/// Whether the bytes are a name: a letter or an underscore, and then letters, digits and underscores.
 pub fn is_name(bytes: &[u8]) -> bool
     ensures { result ≡ is_name bytes.now }
 {
@@ -33,13 +33,14 @@ fn are_of_words(bytes: &[u8]) -> bool
     bytes.iter().all(|b| continues_identifier(*b))
 }
 
+/// Whether one of the bytes is a blank.
 pub fn has_blank(bytes: &[u8]) -> bool
     ensures { result ≡ list_any is_blank bytes.now }
 {
     bytes.iter().any(|b| is_blank(*b))
 }
 
-// The bytes without the blanks at their start.
+/// The bytes without the blanks at their start.
 pub fn trimmed_start(bytes: &[u8]) -> &[u8]
     ensures { result.now ≡ trimmed_start bytes.now }
 {
@@ -61,7 +62,7 @@ fn trimmed_end(bytes: &[u8]) -> &[u8]
     text
 }
 
-// The bytes without the blanks at both ends.
+/// The bytes without the blanks at both ends.
 pub fn trim_blanks(bytes: &[u8]) -> &[u8]
     ensures { result.now ≡ trim bytes.now }
 {

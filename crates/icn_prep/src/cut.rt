@@ -4,7 +4,7 @@ ghost use Rattle.icn_prep.specs.FileLines.{lines_of};
 
 use bstr::ByteSlice;
 
-// The first line, and how many bytes it has with its end.
+/// The first line, and how many bytes it has with its end.
 pub fn first_line(text: &[u8]) -> (&[u8], usize)
     requires { 0 < length text.now }
     ensures cut { lines_of text.now ≡ result.0.now ∷ lines_of (drop result.1 text.now) }

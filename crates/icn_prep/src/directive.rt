@@ -8,7 +8,7 @@ use crate::bytes::{trim_blanks, trimmed_start};
 use crate::literal::LiteralState;
 use icn_tree::characters::identifier_len;
 
-// Whether a line that begins so is a directive.
+/// Whether a line that begins so is a directive.
 pub fn is_directive(literal: LiteralState, line: &[u8]) -> bool
     ensures { result ≡ is_directive literal line.now }
 {
@@ -43,7 +43,7 @@ fn is_pair_end(byte: u8) -> bool
     matches!(byte, b'(' | b')' | b'<' | b'>')
 }
 
-// A directive's name and its operand, each empty where there is none.
+/// A directive's name and its operand, each empty where there is none.
 pub fn name_and_operand(line: &[u8]) -> (&[u8], &[u8])
     ensures name { result.0.now ≡ directive_name line.now }
     ensures operand { result.1.now ≡ operand line.now }

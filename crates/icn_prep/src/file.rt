@@ -17,7 +17,7 @@ use crate::source_reader::SourceReader;
 use icn_tree::Rule;
 
 /// Reads the lines of a file that come behind the first `from` bytes. `Some` is the name of a file whose lines come next, and
-/// how many bytes stand before what comes behind those.
+/// how many bytes stand before what comes behind those. The error is the first rule that is broken, or want of memory.
 pub fn read_lines(
     reading: &mut SourceReader,
     cursor: &mut Cursor,

@@ -69,7 +69,7 @@ pub fn refusal(reading: &SourceReader, cursor: &Cursor, rule: Rule) -> PrepFault
     )
 }
 
-/// Gives a line.
+/// Gives a line. The error is P9 where all lines together get too long, or want of memory.
 pub fn give(
     reading: &mut SourceReader,
     cursor: &Cursor,
@@ -98,7 +98,7 @@ pub fn give(
     Ok(())
 }
 
-/// Leaves a line empty.
+/// Leaves a line empty. The errors are those of `give`.
 pub fn leave_empty(reading: &mut SourceReader, cursor: &Cursor) -> Result<(), PrepFault>
     requires { cursor.now.file < vec_len reading.old.names }
     ensures exact { let step = left_empty (state_of reading.old) (cursor_of cursor.now) in
@@ -111,7 +111,8 @@ pub fn leave_empty(reading: &mut SourceReader, cursor: &Cursor) -> Result<(), Pr
     give(reading, cursor, none, LiteralState::Outside)
 }
 
-/// Adds the name of a file, and answers its index. A line was given for each name before it, so that indices have room.
+/// Adds the name of a file, and answers its index. A line was given for each name before it, so that indices have room. The
+/// error is want of memory.
 pub fn add_name(reading: &mut SourceReader, name: &[u8]) -> Result<u32, PrepFault>
     requires { vec_len reading.old.names ≤ reading.old.size }
     ensures cursor { IfOk result (λ cursor. cursor ≡ length reading.old.names.items) }

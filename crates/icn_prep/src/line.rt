@@ -21,7 +21,8 @@ use crate::replace::replace_in_line;
 use crate::source_reader::SourceReader;
 use icn_tree::Rule;
 
-/// Reads a line. `Some` is the name of a file whose lines stand in its place, and then the line was not given yet.
+/// Reads a line. `Some` is the name of a file whose lines stand in its place, and then the line was not given yet. The error
+/// is the rule that is broken there, or want of memory.
 pub fn read_line<'a>(
     reading: &mut SourceReader,
     cursor: &mut Cursor,

@@ -11,7 +11,7 @@ use crate::bytes::{has_blank, is_name, trim_blanks, trimmed_start, unquoted_len}
 use icn_profile::DOUBLE_QUOTE;
 use icn_tree::characters::{begins_identifier, digits_len, identifier_len};
 
-// One name.
+/// One name.
 pub fn name_operand(operand: &[u8]) -> Option<&[u8]>
     ensures { option_map (λ name. name.now) result ≡ name_operand operand.now }
 {
@@ -22,7 +22,7 @@ pub fn name_operand(operand: &[u8]) -> Option<&[u8]>
     }
 }
 
-// A name, and its text.
+/// A name, and its text.
 pub fn define_operand(operand: &[u8]) -> Option<(&[u8], &[u8])>
     ensures { option_map (λ found. (found.0.now, found.1.now)) result ≡ define_operand operand.now }
 {
@@ -43,7 +43,7 @@ fn begins_with(byte: u8, bytes: &[u8]) -> bool
     }
 }
 
-// The name of a file, in double quotes or as a run of bytes that begins with none.
+/// The name of a file, in double quotes or as a run of bytes that begins with none.
 pub fn file_operand(operand: &[u8]) -> Option<&str>
     ensures { option_map (λ name. name.now) result ≡ file_operand operand.now }
 {
@@ -102,7 +102,7 @@ fn is_quote_alone(bytes: &[u8]) -> bool
     }
 }
 
-// 1 to 9 digits, and perhaps a name in double quotes.
+/// 1 to 9 digits, and perhaps a name in double quotes.
 pub fn line_operand(operand: &[u8]) -> Option<(u32, Option<&[u8]>)>
     ensures read { option_map (λ found. (found.0, option_map (λ name. name.now) found.1)) result
         ≡ line_operand operand.now }

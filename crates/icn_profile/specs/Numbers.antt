@@ -19,6 +19,10 @@ greatest_line = 1016777216
 abbrev pub most_bytes_of_name : ℕ
 most_bytes_of_name = 65535
 
+-- how many digits such a literal has at most in ucode, two a byte
+abbrev pub most_hexadecimal_digits : ℕ
+most_hexadecimal_digits = 131070
+
 -- the greatest integer
 abbrev pub greatest_integer : ℕ
 greatest_integer = 9223372036854775807
@@ -53,6 +57,10 @@ most_procedures = 16777216
 abbrev pub most_statics : ℕ
 most_statics = 4294967295
 
+-- the numbers of code are below this one: they have 32 bits
+abbrev pub number_limit : ℕ
+number_limit = 4294967296
+
 -- how many instructions a linked program has at most
 abbrev pub most_instructions : ℕ
 most_instructions = 16777216
@@ -69,12 +77,25 @@ greatest_number = 4294967295
 abbrev pub most_bytes_of_image : ℕ
 most_bytes_of_image = 1073741824
 
+-- how many bytes of a file are read at most to tell whether it is an image: one more than that
+abbrev pub most_bytes_told_of_image : ℕ
+most_bytes_told_of_image = 1073741825
+
+-- the numbers in an image of the first version are below this one: they have 16 bits
+abbrev pub number_limit_of_first_image : ℕ
+number_limit_of_first_image = 65536
+
 -- Runs
+
+-- how many turns a run may be allowed, and how many it is where nothing is said
+abbrev pub most_turns : ℕ
+most_turns = 18446744073709551615
 
 -- how many bytes of strings a run may be allowed, and how many it is where nothing is said
 abbrev pub most_strings : ℕ
 most_strings = 1099511627776
 
+-- how many bytes of strings it is where nothing is said
 abbrev pub default_strings : ℕ
 default_strings = 268435456
 
@@ -82,6 +103,7 @@ default_strings = 268435456
 abbrev pub most_cells : ℕ
 most_cells = 4294967295
 
+-- how many cells it is where nothing is said
 abbrev pub default_cells : ℕ
 default_cells = 16777216
 
@@ -89,6 +111,7 @@ default_cells = 16777216
 abbrev pub most_levels : ℕ
 most_levels = 4294967295
 
+-- how deep they may be where nothing is said
 abbrev pub default_levels : ℕ
 default_levels = 20000
 

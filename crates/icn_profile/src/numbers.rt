@@ -6,6 +6,9 @@ pub const MOST_BYTES_OF_SOURCE: u64 = 16777216;
 /// How many bytes a name or a literal has at most.
 pub const MOST_BYTES_OF_NAME: u64 = 65535;
 
+/// How many digits such a literal has at most in ucode, two a byte.
+pub const MOST_HEXADECIMAL_DIGITS: u64 = 131070;
+
 /// The greatest integer.
 pub const GREATEST_INTEGER: u64 = 9223372036854775807;
 
@@ -30,6 +33,9 @@ pub const MOST_PROCEDURES: u64 = 16777216;
 /// How many statics all procedures of a code have together at most.
 pub const MOST_STATICS: u64 = 4294967295;
 
+/// The numbers of code are below this one: they have 32 bits.
+pub const NUMBER_LIMIT: u64 = 4294967296;
+
 /// How many instructions a linked program has at most.
 pub const MOST_INSTRUCTIONS: u64 = 16777216;
 
@@ -41,6 +47,9 @@ pub const GREATEST_NUMBER: u64 = 4294967295;
 
 /// How many bytes an image has at most.
 pub const MOST_BYTES_OF_IMAGE: u64 = 1073741824;
+
+/// How many turns a run may be allowed, and how many it is where nothing is said.
+pub const MOST_TURNS: u64 = 18446744073709551615;
 
 /// How many bytes of strings a run may be allowed.
 pub const MOST_STRINGS: u64 = 1099511627776;

@@ -214,13 +214,13 @@ abbrev pub relabel : ℕ → LinkedStack → Option LinkedStack
 relabel label m = relabel_in label m (outer_of m.chain)
 
 -- how many results a limit leaves after one more
-abbrev pub remaining : ℕ → LinkedStack → ℕ
-remaining n m = pred (slice_index_or m.limits n 0)
+abbrev pub results_left : ℕ → LinkedStack → ℕ
+results_left n m = pred (slice_index_or m.limits n 0)
 
 -- one result of a limit is counted, where the innermost mark is one
 abbrev pub count_in : LinkedStack → Outer → Option (ℕ × LinkedStack)
 count_in m (limit n outside) =
-    Some (remaining n m, record m { limits = slice_set m.limits n (remaining n m) })
+    Some (results_left n m, record m { limits = slice_set m.limits n (results_left n m) })
 count_in m outer = None
 
 -- one result of the innermost mark, which is a limit, is counted

@@ -3,7 +3,7 @@ pub use Rattle.icn_value.specs.Values.{Value, Null, Integer, Text, Chars, Proced
 pub use Rattle.icn_value.specs.Store.{World, Outside, Setting, Names, list_at, record_at}
 pub use Rattle.icn_defs.specs.Rows.{Residual, Outcome, Fails, Gives, Suspends, Error, Ends}
 pub use Rattle.icn_defs.specs.Errors.{error_report, on_error}
-pub use Rattle.icn_defs.specs.Conversions.{integer_of, place_of}
+pub use Rattle.icn_defs.specs.Conversions.{integer_of, position_of}
 pub use Rattle.icn_defs.specs.Applying.{again}
 pub use Rattle.icn_defs.specs.Keywords.{Standing, keyword_item}
 pub use Rattle.icn_defs.specs.StepRows.{Operation, Function, apply, value_row, list_row, text_row, record_row, coexpression_row}

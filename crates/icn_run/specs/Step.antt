@@ -18,7 +18,7 @@ use Rattle.icn_code.specs.declared.code.Start.{Start}
 use Rattle.icn_code.specs.declared.code.Start.TheVariants as Starts
 use Rattle.icn_code.specs.Codes.{Tables, Proc as Procedure, RecordType}
 use Rattle.icn_code.specs.Rules.{name_of}
-use Rattle.icn_run.specs.Rows.{Value, Null, Integer, Text, Chars, Procedure as ProcedureValue, ARecord, AList, ACoexp, Global, Static, Local, Field, Whole, Part, Item, Val, Var, World, Outside, Setting, Names, list_at, record_at, Outcome, Fails, Gives, Suspends, Error, Ends, error_report, on_error, integer_of, place_of, again, Standing, keyword_item, Operation, Function, apply, value_row, list_row, text_row, record_row, coexpression_row, first_world, words_row, Ending, Done, Exit, Errored, AtBound, number_of}
+use Rattle.icn_run.specs.Rows.{Value, Null, Integer, Text, Chars, Procedure as ProcedureValue, ARecord, AList, ACoexp, Global, Static, Local, Field, Whole, Part, Item, Val, Var, World, Outside, Setting, Names, list_at, record_at, Outcome, Fails, Gives, Suspends, Error, Ends, error_report, on_error, integer_of, position_of, again, Standing, keyword_item, Operation, Function, apply, value_row, list_row, text_row, record_row, coexpression_row, first_world, words_row, Ending, Done, Exit, Errored, AtBound, number_of}
 pub use Rattle.icn_defs.specs.Running.{Observation, Launch}
 use Rattle.icn_defs.specs.Running.{after_steps, bound_report, with_errors}
 use Rattle.icn_run.specs.Calls.{Pair, Why, Alt, Op as Operation, Scan, Escan, Proc, MarkDrop, NoMark, Goes, Repeats, Outside as WithoutLabel, Calls}
@@ -379,7 +379,7 @@ argument_at place items = None
 
 -- the argument that an integer selects
 abbrev pub choose_item : ℤ → List Item → Option Item
-choose_item n items = argument_at (place_of n (length items)) items
+choose_item n items = argument_at (position_of n (length items)) items
 
 -- the item is pushed, or the code fails where there is none
 abbrev pub pushed_or_fails : {K M : Type 0} → Calls K M → Option Item → M → Store K → State K M

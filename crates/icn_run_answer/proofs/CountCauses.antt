@@ -3,8 +3,9 @@ use Rattle.std.proofs.Common.{◌≡◌, ◌⊎◌, ◌∙◌, inl, inr, ℕ, �
 use Rattle.std.proofs.KnownBytes.{Keeps-refl}
 use Rattle.icn_host.specs.Counts.{CountsOnce, HasCause, Rose, one_more}
 use Rattle.icn_host.specs.Sinks.{SinkState}
+use Rattle.icn_host.specs.Sources.{SourceCounts}
 use Rattle.icn_host.specs.Puts.{RunsShort}
-use Rattle.icn_streams.specs.Handed.{CallStreams, call_streams, KeepsAllCounts, KeepsFaultCounts, WantsMemory, uncounted, errors_want}
+use Rattle.icn_streams.specs.Handed.{CallStreams, FaultCounts, call_streams, KeepsAllCounts, KeepsFaultCounts, WantsMemory, failed_once, faults_of, uncounted, errors_want}
 use Rattle.icn_machine.specs.Stepping.{OutputFails, output_fails, errors_fail}
 use Rattle.icn_defs.specs.declared.ending.Ending.{Ending}
 use Rattle.icn_running.specs.declared.fault.RunFault.{RunFault}
@@ -48,9 +49,9 @@ still_settled WriteFault sink = refl
 still_settled NoMemory sink = record { held = Keeps-refl sink.held; counts = inl (record { faults = refl; wants = refl }) }
 
 -- the own line alone
-pub own_behind : {left : Option (List ℕ)} {input : ℕ} {out before after : SinkState} (answer : Answer) → PutsOwn answer before after
+pub own_behind : {left : Option (List ℕ)} {input : SourceCounts} {out before after : SinkState} (answer : Answer) → PutsOwn answer before after
     → EndsBehind answer (call_streams left input out before) (call_streams left input out after)
-own_behind {out = out} answer puts = record { left = refl; faults = refl; output = still_settled answer out; own_line = puts }
+own_behind {out = out} answer puts = record { left = refl; counts = refl; output = still_settled answer out; own_line = puts }
 
 -- Where no count rose
 
@@ -58,7 +59,7 @@ same_counts : (sink : SinkState) → KeepsFaultCounts sink sink
 same_counts sink = record { faults = refl; wants = refl }
 
 -- the error output alone was put on, and its counts stayed
-errors_kept : (left left' : Option (List ℕ)) (input : ℕ) (out before after : SinkState) → KeepsFaultCounts before after
+errors_kept : (left left' : Option (List ℕ)) (input : SourceCounts) (out before after : SinkState) → KeepsFaultCounts before after
     → KeepsAllCounts (call_streams left input out before) (call_streams left' input out after)
 errors_kept left left' input out before after kept = record { faults = refl; output = same_counts out; errors = kept }
 
@@ -94,7 +95,7 @@ still_first before after NoMemory w r kept = uncounted kept
 -- Lines of answers that no program ran for
 
 -- want of memory in the put of a line
-want_first : {before between : SinkState} {line : List ℕ} (left left' : Option (List ℕ)) (input : ℕ) (out : SinkState)
+want_first : {before between : SinkState} {line : List ℕ} (left left' : Option (List ℕ)) (input : SourceCounts) (out : SinkState)
     → (between ≡ before) ⊎ RunsShort before between line
     → WantsMemory (call_streams left input out before) (call_streams left' input out between)
 want_first {before} left left' input out (inl same) =
@@ -118,7 +119,8 @@ kept_file answer _ (write_fault n stops) e = absurd (n (rw e refl))
 kept_file answer _ (want n between leads puts) e = absurd (n (rw e refl))
 
 -- an answer that no program ran for
-refused_counts : {usage name : List ℕ} {before after : SinkState} (left left' : Option (List ℕ)) (input : ℕ) (out : SinkState) (answer given : Answer)
+refused_counts : {usage name : List ℕ} {before after : SinkState} (left left' : Option (List ℕ)) (input : SourceCounts) (out : SinkState) (answer given :
+    Answer)
     → (answer ≡ WriteFault → ⊥)
     → (answer ≡ ReadFault → ⊥) → PutsItsLine usage name answer before after given
     → RunEndsAtFirst given (call_streams left input out before) (call_streams left' input out after)
@@ -143,13 +145,14 @@ refused_counts left left' input out answer _ w r (want n between leads puts) = r
   behind = own_behind NoMemory puts;
 }
 
-pub refused_ends : {usage name : List ℕ} {absent given_absent : Type 0} {files files' absences absences' input : ℕ} {left left' : Option (List ℕ)}
+pub refused_ends : {usage name : List ℕ} {absent given_absent : Type 0} {files files' absences absences' : ℕ} {left left' : Option (List ℕ)} {input :
+    SourceCounts}
     {out before after : SinkState} (answer given : Answer)
     → (answer ≡ WriteFault → ⊥) → (answer ≡ ReadFault → ⊥) → CountsOnce files files' (answer ≡ FileFault) → HasCause absences absences' absent
     → (given_absent → absent) → PutsItsLine usage name answer before after given
     → EndsAtFirst given given_absent (outside files absences (call_streams left input out before))
     (outside files' absences' (call_streams left' input out after))
-refused_ends {input = input} {left} {left'} {out} answer given w r file cause absences refuses = record {
+refused_ends {left = left} {left'} {input} {out} answer given w r file cause absences refuses = record {
   file_fault = record {
     later = file.later;
     rose = λ e. file.rose (given_file answer given refuses e);
@@ -200,7 +203,7 @@ none_counts {streams = streams} answer n = record {
 }
 
 -- an own line alone
-pub own_counts : {left left' : Option (List ℕ)} {input : ℕ} {out before after : SinkState} (answer : Answer) → (answer ≡ WriteFault → ⊥)
+pub own_counts : {left left' : Option (List ℕ)} {input : SourceCounts} {out before after : SinkState} (answer : Answer) → (answer ≡ WriteFault → ⊥)
     → (answer ≡ ReadFault → ⊥) → PutsOwn answer before after
     → RunEndsAtFirst answer (call_streams left input out before) (call_streams left' input out after)
 own_counts {left = left} {left'} {input} {out} {before} answer w r puts = record {
@@ -229,6 +232,11 @@ broken_counts {before} {between} fault ends behind = record { between = between;
 rose_of : (before now : ℕ) → now ≡ one_more before → Rose before now
 rose_of before now e = omega arith
 
+-- the input failed, and its counts stayed behind that
+counts_failed : (before : SourceCounts) {between after : SourceCounts} → after ≡ between → faults_of between ≡ failed_once (faults_of before)
+    → after.faults ≡ one_more before.faults
+counts_failed before same fails = ap (λ (c : SourceCounts). c.faults) same ∙ ap (λ (c : FaultCounts). c.faults) fails
+
 none_wrote : {before after : CallStreams} → OutputFails before after → (Rose before.output.faults after.output.faults → ⊥)
     → (Rose before.errors.faults after.errors.faults → ⊥) → ⊥
 none_wrote (output_fails input out err) o e = o (rose_of _ _ out.faults)
@@ -243,10 +251,11 @@ none_wrote_behind {before = before} ends o e =
 -- where no count of faults rose, no fault is answered but want of memory
 pub faultless_of : {absent : Type 0} {before after : OutsideState} (answer : Answer) → EndsAtFirst answer absent before after
     → (Rose before.faults after.faults → ⊥)
-    → (Rose before.streams.faults after.streams.faults → ⊥) → (Rose before.streams.output.faults after.streams.output.faults → ⊥)
+    → (Rose before.streams.counts.faults after.streams.counts.faults → ⊥) → (Rose before.streams.output.faults after.streams.output.faults → ⊥)
     → (Rose before.streams.errors.faults after.streams.errors.faults → ⊥) → IsFault answer → answer ≡ NoMemory
 faultless_of FileFault ends f i o e is = absurd (f (rose_of _ _ (ends.file_fault.rose refl)))
-faultless_of ReadFault ends f i o e is = absurd (i (rose_of _ _ (ends.others.behind.faults ∙ ends.others.first.faults)))
+faultless_of {before = before} ReadFault ends f i o e is =
+    absurd (i (rose_of _ _ (counts_failed before.streams.counts ends.others.behind.counts ends.others.first.faults)))
 faultless_of WriteFault ends f i o e is = absurd (none_wrote_behind ends.others o e)
 faultless_of NoMemory ends f i o e is = refl
 faultless_of Wrote ends f i o e is = absurd (no_fault Wrote refl is)

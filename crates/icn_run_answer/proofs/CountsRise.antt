@@ -2,8 +2,9 @@
 use Rattle.std.proofs.Common.{◌≡◌, ◌⊎◌, ◌≤◌, ◌<◌, ◌^◌, inl, inr, ℕ, List, ap, arith}
 use Rattle.icn_host.specs.Counts.{one_more}
 use Rattle.icn_host.specs.Sinks.{SinkState}
+use Rattle.icn_host.specs.Sources.{SourceCounts}
 use Rattle.icn_host.specs.Puts.{Puts, all, part, broken, wanted}
-use Rattle.icn_streams.specs.Handed.{CallStreams, KeepsAllCounts, KeepsFaultCounts, FailsOnce, WantsOnce, WantsMemory, uncounted, output_wants, errors_want}
+use Rattle.icn_streams.specs.Handed.{CallStreams, FaultCounts, KeepsAllCounts, KeepsFaultCounts, FailsOnce, WantsOnce, WantsMemory, uncounted, input_wants, output_wants, errors_want}
 use Rattle.icn_machine.specs.Stepping.{InputFails, OutputFails, output_fails, errors_fail}
 use Rattle.icn_answer.specs.declared.answer.Answer.{Answer}
 use Rattle.icn_answer.specs.declared.answer.Answer.TheVariants.{Wrote, Ran, Refused, Command, Missing, BadUcode, BadImage, FileFault, ReadFault, WriteFault, NoMemory}
@@ -21,6 +22,9 @@ rises n m few e = omega (arith, few, e)
 
 in_bits : (n m : ℕ) → m ≡ one_more n → m < 2 ^ 64
 in_bits n m e = omega (arith, e)
+
+below_same : {n m k : ℕ} → n ≤ m → k ≡ m → n ≤ k
+below_same less same = omega (arith, less, same)
 
 same_bits : (n m : ℕ) → n < 2 ^ 64 → m ≡ n → m < 2 ^ 64
 same_bits n m few e = omega (arith, few, e)
@@ -56,30 +60,46 @@ put_rises before after line few (part (wanted short)) = (wants before after few 
 
 -- all that a call was handed, up to the fault's own line
 record AllGo (before after : CallStreams) : Type 0 where
-  faults : before.faults ≤ after.faults
+  faults : before.counts.faults ≤ after.counts.faults
+  wants : before.counts.wants ≤ after.counts.wants
   output : Goes before.output after.output
   errors : Goes before.errors after.errors
 
+all_by : (before after : CallStreams) → before.counts.faults ≤ after.counts.faults → before.counts.wants ≤ after.counts.wants
+    → Goes before.output after.output → Goes before.errors after.errors → AllGo before after
+all_by before after failed want output errors = record { faults = failed; wants = want; output = output; errors = errors }
+
+-- each of both counts of the input
+faults_are : {a b : FaultCounts} → a ≡ b → a.faults ≡ b.faults
+faults_are same = ap (λ (c : FaultCounts). c.faults) same
+
+wants_are : {a b : FaultCounts} → a ≡ b → a.wants ≡ b.wants
+wants_are same = ap (λ (c : FaultCounts). c.wants) same
+
 all_keep : (before after : CallStreams) → HaveBits before → KeepsAllCounts before after → AllGo before after
 all_keep before after few same =
-    record { faults = stays _ _ same.faults; output = keeps _ _ few.output same.output; errors = keeps _ _ few.errors same.errors }
+    all_by before after (stays _ _ (faults_are same.faults)) (stays _ _ (wants_are same.faults)) (keeps _ _ few.output same.output)
+    (keeps _ _ few.errors same.errors)
 
 input_goes : (before after : CallStreams) → HaveBits before → InputFails before after → AllGo before after
 input_goes before after few once =
-    record { faults = rises _ _ few.faults once.faults; output = keeps _ _ few.output once.output; errors = keeps _ _ few.errors once.errors }
+    all_by before after (rises _ _ few.faults (faults_are once.faults)) (stays _ _ (wants_are once.faults)) (keeps _ _ few.output once.output)
+    (keeps _ _ few.errors once.errors)
 
 output_goes : (before after : CallStreams) → HaveBits before → OutputFails before after → AllGo before after
 output_goes before after few (output_fails input out err) =
-    record { faults = stays _ _ input; output = fails _ _ few.output out; errors = keeps _ _ few.errors err }
+    all_by before after (stays _ _ (faults_are input)) (stays _ _ (wants_are input)) (fails _ _ few.output out) (keeps _ _ few.errors err)
 output_goes before after few (errors_fail input out err) =
-    record { faults = stays _ _ input; output = keeps _ _ few.output out; errors = fails _ _ few.errors err }
+    all_by before after (stays _ _ (faults_are input)) (stays _ _ (wants_are input)) (keeps _ _ few.output out) (fails _ _ few.errors err)
 
 memory_goes : (before after : CallStreams) → HaveBits before → WantsMemory before after → AllGo before after
 memory_goes before after few (uncounted same) = all_keep before after few same
+memory_goes before after few (input_wants input out err) =
+    all_by before after (stays _ _ (faults_are input)) (rises _ _ few.wants (wants_are input)) (keeps _ _ few.output out) (keeps _ _ few.errors err)
 memory_goes before after few (output_wants input out err) =
-    record { faults = stays _ _ input; output = wants _ _ few.output out; errors = keeps _ _ few.errors err }
+    all_by before after (stays _ _ (faults_are input)) (stays _ _ (wants_are input)) (wants _ _ few.output out) (keeps _ _ few.errors err)
 memory_goes before after few (errors_want input out err) =
-    record { faults = stays _ _ input; output = keeps _ _ few.output out; errors = wants _ _ few.errors err }
+    all_by before after (stays _ _ (faults_are input)) (stays _ _ (wants_are input)) (keeps _ _ few.output out) (wants _ _ few.errors err)
 
 first_goes : (before after : CallStreams) (answer : Answer) → HaveBits before → IsFirstFaultOf answer before after → AllGo before after
 first_goes before after Wrote few first = all_keep before after few first
@@ -130,7 +150,8 @@ none_falls answer before after few ends =
     let between : CallStreams = ends.between in
     let goes = first_goes before between answer few ends.first in
     record {
-      faults = omega (arith, goes.faults, ends.behind.faults);
+      faults = below_same goes.faults (ap (λ (c : SourceCounts). c.faults) ends.behind.counts);
+      wants = below_same goes.wants (ap (λ (c : SourceCounts). c.wants) ends.behind.counts);
       output = both_rise before.output between.output after.output goes.output.rise
           (behind_rises between.output after.output answer goes.output.bits ends.behind.output);
       errors = both_rise before.errors between.errors after.errors goes.errors.rise

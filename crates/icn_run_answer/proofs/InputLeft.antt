@@ -1,48 +1,37 @@
 -- What a run leaves of the input, whatever the files tell.
-use Rattle.std.proofs.Common.{◌≡◌, ◌∙◌, ap, ℕ, List, drop, Option, Some}
-use Rattle.icn_value.specs.Store.{outside_of}
-use Rattle.icn_code.specs.Codes.{Tables}
-use Rattle.icn_defs.specs.Interruptions.{BreaksRun, BreaksRunReading, IsOutsideOf, LosesPart, Streams}
-use Rattle.icn_defs.specs.Running.{Launch, Observation}
-use Rattle.icn_run.specs.FlatStep.{Runs}
+use Rattle.std.proofs.Common.{◌≡◌, ◌∙◌, ap, ℕ, ◌+◌, List, drop, Option, Some}
+use Rattle.std.proofs.lemmas.List.{drop-drop}
+use Rattle.icn_value.specs.Store.{Event}
+use Rattle.icn_defs.specs.Interruptions.{Ends, LosesPart, Streams, breaks_between, breaks_reading, left_behind}
+use Rattle.icn_defs.specs.Running.{Observation}
+use Rattle.icn_defs.proofs.Interruptions.{left_is_rest}
 use Rattle.icn_streams.specs.Handed.{CallStreams}
 use Rattle.icn_running.specs.declared.fault.RunFault.{RunFault}
 use Rattle.icn_running.specs.declared.fault.RunFault.TheVariants as RunFaults
 use Rattle.icn_running.specs.Runs.{LeavesBy}
 use Rattle.icn_run_answer.specs.InputLeft.{LosesSome}
 
--- what runs leave is a rest, and so is what a failed reading leaves
-abbrev pub Leave : Type 0
-Leave = (input : List ℕ) (tables : Tables) (launch : Launch) (seen : Observation) → IsOutsideOf input launch.outside
-    → Runs tables launch seen → IsOutsideOf input seen.outside
+-- behind some events
+pub lost : {left : List ℕ} {after : Option (List ℕ)} (done : List Event) → after ≡ Some (left_behind left done) → LosesSome left after
+lost {left} done told = let rest = left_is_rest left done in (rest.0, told ∙ ap (λ (l : List ℕ). Some l) rest.1)
 
-abbrev pub Break : Type 0
-Break = (input : List ℕ) (seen : Observation) (before after : Streams) → IsOutsideOf input seen.outside → BreaksRunReading seen before after
-    → BreaksRun input seen before after
-
-abbrev pub Begin : Type 0
-Begin = (input : List ℕ) → IsOutsideOf input (outside_of input)
-
-lost_part : {most : ℕ} {left : List ℕ} {after : Option (List ℕ)} → LosesPart left most after → LosesSome left after
-lost_part part = (part.count, part.is)
-
-lost_rest : {left rest : List ℕ} {after : Option (List ℕ)} (count : ℕ) → after ≡ Some rest → rest ≡ drop count left → LosesSome left after
-lost_rest count told e = (count, told ∙ ap (λ (l : List ℕ). Some l) e)
+-- in a reading behind some events
+lost_in_reading : {left : List ℕ} {after : Option (List ℕ)} (done : List Event) {most : ℕ} → LosesPart (left_behind left done) most after
+    → LosesSome left after
+lost_in_reading {left} done part = let rest = left_is_rest left done in (
+  rest.0 + part.count,
+  part.is ∙ ap (λ (l : List ℕ). Some (drop part.count l)) rest.1 ∙ ap (λ (l : List ℕ). Some l) (drop-drop part.count rest.0 left),
+)
 
 -- a run that was broken off, of which this was to be observed
-lost_by : Break → (fault : RunFault) (left : List ℕ) (seen : Observation) (before after : CallStreams) → IsOutsideOf left seen.outside
-    → LeavesBy fault left seen before after → LosesSome left after.left
-lost_by breaks RunFaults.ReadFault left seen before after rest by = lost_part (breaks left seen _ _ rest by).left
-lost_by breaks RunFaults.WriteFault left seen before after rest by = lost_part by.left
-lost_by breaks RunFaults.NoMemory left seen before after rest by = lost_part by.left
-
-pub broken_lost : Leave → Break → (tables : Tables) (launch : Launch) (fault : RunFault) (left : List ℕ) (seen : Observation) (before after : CallStreams)
-    → IsOutsideOf left launch.outside → Runs tables launch seen → LeavesBy fault left seen before after → LosesSome left after.left
-broken_lost leave breaks tables launch fault left seen before after begun runs by =
-    lost_by breaks fault left seen before after (leave left tables launch seen begun runs) by
+pub broken_lost : (fault : RunFault) (left : List ℕ) (seen : Observation) (before after : CallStreams) → LeavesBy fault left seen before after
+    → LosesSome left after.left
+broken_lost RunFaults.ReadFault left seen before after by = lost_in_reading by.done by.stands.rest
+broken_lost RunFaults.WriteFault left seen before after by = lost by.done by.stands.rest
+broken_lost RunFaults.NoMemory left seen before after (breaks_between by) = lost by.done by.stands.rest
+broken_lost RunFaults.NoMemory left seen before after (breaks_reading by) = lost_in_reading by.done by.stands.rest
 
 -- a run that ended
-pub ended_lost : Leave → {after : Option (List ℕ)} (tables : Tables) (launch : Launch) (left : List ℕ) (seen : Observation) → IsOutsideOf left launch.outside
-    → Runs tables launch seen → after ≡ Some seen.outside.left → LosesSome left after
-ended_lost leave tables launch left seen begun runs told =
-    let rest : IsOutsideOf left seen.outside = leave left tables launch seen begun runs in lost_rest rest.taken told rest.left
+pub ended_lost : (left : List ℕ) (seen : Observation) (before after : Streams) → Ends left seen before after
+    → LosesSome left after.left
+ended_lost left seen before after ends = lost seen.outside.history (ends.left ∙ ap (λ (l : List ℕ). Some l) ends.taken)

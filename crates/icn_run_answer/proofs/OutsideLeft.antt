@@ -15,12 +15,13 @@ loses_none before after same = if_some_intro before _ (λ left told. (0, same �
 
 -- a call that left the input and the output alone
 pub leaves_both : {answer : Answer} {before after : OutsideState} → after.streams.left ≡ before.streams.left
-    → after.streams.output.held ≡ before.streams.output.held → EndsAtFirst answer (IsAbsence answer) before after → LeavesOutside answer before after
-leaves_both {before = before} {after} left output ends = record {
+    → after.streams.counts ≡ before.streams.counts → after.streams.output.held ≡ before.streams.output.held → EndsAtFirst answer (IsAbsence answer) before after → LeavesOutside answer before after
+leaves_both {before = before} {after} left counts output ends = record {
   causes = ends;
   input = loses_none before.streams.left after.streams.left left;
   refused = λ none. output;
   unread = λ none. left;
+  uncalled = λ none. counts;
 }
 
 -- files that were read before
@@ -32,4 +33,5 @@ leaves_after answer same later leaves = record {
   input = leaves.input;
   refused = leaves.refused;
   unread = leaves.unread;
+  uncalled = leaves.uncalled;
 }

@@ -1,16 +1,15 @@
 -- How the line of an answer stands on the error output.
-use Rattle.std.proofs.Common.{◌≡◌, ◌⊎◌, inl, inr, ℕ, List, Option, IfSome, Err, take, refl, sym, subst}
+use Rattle.std.proofs.Common.{◌≡◌, ◌⊎◌, inl, inr, ℕ, List, Err, refl, sym, subst}
 use Rattle.icn_host.specs.Sinks.{Gains, SinkState}
 use Rattle.icn_host.specs.declared.fault.Fault.TheVariants.{Failed, NoMemory as Wants}
 use Rattle.icn_host.proofs.ToldPuts.{leads_of, puts_nothing}
 use Rattle.icn_host.specs.Puts.{Puts, all}
-use Rattle.icn_defs.specs.Running.{Observation}
-use Rattle.icn_streams.specs.Handed.{CallStreams, WantsMemory, uncounted, output_wants, errors_want}
+use Rattle.icn_streams.specs.Handed.{CallStreams, WantsMemory, uncounted, input_wants, output_wants, errors_want}
 use Rattle.icn_machine.specs.Stepping.{OutputFails, output_fails, errors_fail}
 use Rattle.icn_defs.specs.declared.ending.Ending.{Ending}
 use Rattle.icn_running.specs.declared.fault.RunFault.{RunFault}
 use Rattle.icn_running.specs.declared.fault.RunFault.TheVariants as Runs
-use Rattle.icn_running.specs.Runs.{EndsAtFirst as RunEnds, LeavesBy}
+use Rattle.icn_running.specs.Runs.{EndsAtFirst as RunEnds}
 use Rattle.icn_answer.specs.declared.answer.Answer.{Answer}
 use Rattle.icn_answer.specs.declared.answer.Answer.TheVariants.{Wrote, Ran, Refused, Command, Missing, BadUcode, BadImage, FileFault, ReadFault, WriteFault, NoMemory}
 use Rattle.icn_answer.specs.Answers.{IsFault}
@@ -44,46 +43,41 @@ puts_own before after (BadUcode other rule) same = rw same (all (puts_nothing be
 puts_own before after (BadImage rule) same = rw same (all (puts_nothing before))
 
 -- the line of an answer that no program ran for stands where it was put
-pub line_stands : (usage name : List ℕ) (left : Option (List ℕ)) (before after : SinkState) (answer : Answer) → (IsFault answer → ⊥)
-    → ((ending : Ending) → answer ≡ Ran ending → ⊥) → Gains before.held after.held (line_of usage name answer) → LineStands usage name left answer before after
-line_stands usage name left before after Wrote n ran gains = gains
-line_stands usage name left before after (Ran ending) n ran gains = absurd (ran ending refl)
-line_stands usage name left before after (Refused file line rule) n ran gains = gains
-line_stands usage name left before after (Command kind) n ran gains = gains
-line_stands usage name left before after (Missing other) n ran gains = gains
-line_stands usage name left before after (BadUcode other rule) n ran gains = gains
-line_stands usage name left before after (BadImage rule) n ran gains = gains
-line_stands usage name left before after FileFault n ran gains = absurd (n refl)
-line_stands usage name left before after ReadFault n ran gains = absurd (n refl)
-line_stands usage name left before after WriteFault n ran gains = absurd (n refl)
-line_stands usage name left before after NoMemory n ran gains = absurd (n refl)
+pub line_stands : (usage name : List ℕ) (before after : SinkState) (answer : Answer) → (IsFault answer → ⊥)
+    → ((ending : Ending) → answer ≡ Ran ending → ⊥) → Gains before.held after.held (line_of usage name answer) → LineStands usage name answer before after
+line_stands usage name before after Wrote n ran gains = gains
+line_stands usage name before after (Ran ending) n ran gains = absurd (ran ending refl)
+line_stands usage name before after (Refused file line rule) n ran gains = gains
+line_stands usage name before after (Command kind) n ran gains = gains
+line_stands usage name before after (Missing other) n ran gains = gains
+line_stands usage name before after (BadUcode other rule) n ran gains = gains
+line_stands usage name before after (BadImage rule) n ran gains = gains
+line_stands usage name before after FileFault n ran gains = absurd (n refl)
+line_stands usage name before after ReadFault n ran gains = absurd (n refl)
+line_stands usage name before after WriteFault n ran gains = absurd (n refl)
+line_stands usage name before after NoMemory n ran gains = absurd (n refl)
 
 -- nothing but the line of an answer that no program ran for was put
-pub reports_of : {usage name : List ℕ} {left : Option (List ℕ)} {answer given : Answer} {before after : SinkState}
-    → ((ending : Ending) → answer ≡ Ran ending → ⊥) → PutsItsLine usage name answer before after given → Reports usage name left before after given
-reports_of {answer = answer} ran (put n whole) = put_whole n (line_stands _ _ _ _ _ answer n ran whole.gains)
+pub reports_of : {usage name : List ℕ} {answer given : Answer} {before after : SinkState}
+    → ((ending : Ending) → answer ≡ Ran ending → ⊥) → PutsItsLine usage name answer before after given → Reports usage name before after given
+reports_of {answer = answer} ran (put n whole) = put_whole n (line_stands _ _ _ _ answer n ran whole.gains)
 reports_of {answer = answer} {before = before} ran (own f puts) = put_own f Wrote wrote_no_fault before (inl refl) (puts_own _ _ answer puts)
 reports_of {answer = answer} {after = after} ran (write_fault n stops) = put_own refl answer n after (leads_of _ _ _ Failed stops) (all (puts_nothing after))
 reports_of {answer = answer} ran (want n between leads puts) = put_own refl answer n between (leads_of _ _ _ Wants leads) puts
 
 -- a run that ended
-pub ran_reports : {usage name : List ℕ} {left : Option (List ℕ)} {before after : SinkState} (ending : Ending) → ReportStands left ending before after
-    → Reports usage name left before after (Ran ending)
+pub ran_reports : {usage name : List ℕ} {before after : SinkState} (ending : Ending) → ReportStands ending before after
+    → Reports usage name before after (Ran ending)
 ran_reports ending stands = put_whole (ran_no_fault ending) stands
 
 -- a fault's own line alone
-pub own_reports : {usage name : List ℕ} {left : Option (List ℕ)} {before after : SinkState} (fault : Answer) → IsFault fault → PutsOwn fault before after
-    → Reports usage name left before after fault
+pub own_reports : {usage name : List ℕ} {before after : SinkState} (fault : Answer) → IsFault fault → PutsOwn fault before after
+    → Reports usage name before after fault
 own_reports {before = before} fault is puts = put_own is Wrote wrote_no_fault before (inl refl) (puts_own _ _ fault puts)
 
 -- what a run put that was broken off
-pub broken_puts : (fault : RunFault) (input : List ℕ) (seen : Observation) (before after : CallStreams) → LeavesBy fault input seen before after
-    → PutsSome before.errors after.errors
-broken_puts Runs.ReadFault input seen before after leaves = record { own = take leaves.reading.errors seen.outside.errors; gains = leaves.errors }
-broken_puts Runs.WriteFault input seen before after leaves =
-    record { own = take leaves.errors.count seen.outside.errors; gains = record { appends = leaves.errors.appends } }
-broken_puts Runs.NoMemory input seen before after leaves =
-    record { own = take leaves.errors.count seen.outside.errors; gains = record { appends = leaves.errors.appends } }
+pub some_put : {before after : SinkState} → (own : List ℕ) × Gains before.held after.held own → PutsSome before after
+some_put some = record { own = some.0; gains = some.1 }
 
 -- the counts of the error output, where a run ended at its first fault
 output_counts : (before after : CallStreams) → OutputFails before after → CountsFault Runs.WriteFault before.errors after.errors
@@ -92,6 +86,7 @@ output_counts before after (errors_fail input out err) = inr err
 
 memory_counts : (before after : CallStreams) → WantsMemory before after → CountsFault Runs.NoMemory before.errors after.errors
 memory_counts before after (uncounted same) = inl same.errors
+memory_counts before after (input_wants input out err) = inl err
 memory_counts before after (output_wants input out err) = inl err
 memory_counts before after (errors_want input out err) = inr err
 
@@ -101,15 +96,15 @@ fault_counts before after Runs.WriteFault fails = output_counts before after fai
 fault_counts before after Runs.NoMemory wants = memory_counts before after wants
 
 -- a run that was broken off, with the fault's own line behind
-pub fault_reports : {usage name : List ℕ} {left : Option (List ℕ)} (before between : CallStreams) (after : SinkState) (fault : RunFault) → RunEnds {A =
+pub fault_reports : {usage name : List ℕ} (before between : CallStreams) (after : SinkState) (fault : RunFault) → RunEnds {A =
     Ending} (Err fault) before between
-    → IfSome left (λ _. PutsSome before.errors between.errors) → PutsOwn (of_run fault) between.errors after
-    → Reports usage name left before.errors after (of_run fault)
+    → PutsSome before.errors between.errors → PutsOwn (of_run fault) between.errors after
+    → Reports usage name before.errors after (of_run fault)
 fault_reports before between after fault ends some puts =
     broke fault refl between.errors (fault_counts before between fault ends) some (puts_own _ _ (of_run fault) puts)
 
-pub line_of_reports : {usage name : List ℕ} {left : Option (List ℕ)} {before after : SinkState} {answer : Answer} → Reports usage name left before after answer
-    → IsFault answer ⊎ LineStands usage name left answer before after
+pub line_of_reports : {usage name : List ℕ} {before after : SinkState} {answer : Answer} → Reports usage name before after answer
+    → IsFault answer ⊎ LineStands usage name answer before after
 line_of_reports (put_whole n stands) = inr stands
 line_of_reports (put_own f other n between leads puts) = inl f
 line_of_reports (broke fault e between counts some puts) = inl (subst IsFault (sym e) (is_run_fault fault))

@@ -51,7 +51,7 @@ SettlesBehind NoMemory before after = TriesToSettle before after
 -- What comes behind the first fault: the output may be settled, and the fault's own line is put. Nothing is read.
 pub record EndsBehind (answer : Answer) (between after : CallStreams) : Type 0 where
   pub left : after.left ≡ between.left
-  pub faults : after.faults ≡ between.faults
+  pub counts : after.counts ≡ between.counts
   pub output : SettlesBehind answer between.output after.output
   pub own_line : PutsOwn answer between.errors after.errors
 

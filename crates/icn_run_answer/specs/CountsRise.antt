@@ -10,7 +10,8 @@ pub record HasBits (sink : SinkState) : Type 0 where
 
 -- so have those of all that a call is handed
 pub record HaveBits (streams : CallStreams) : Type 0 where
-  pub faults : streams.faults < 2 ^ 64
+  pub faults : streams.counts.faults < 2 ^ 64
+  pub wants : streams.counts.wants < 2 ^ 64
   pub output : HasBits streams.output
   pub errors : HasBits streams.errors
 
@@ -19,8 +20,9 @@ pub record SinkRises (before after : SinkState) : Type 0 where
   pub faults : before.faults ≤ after.faults
   pub wants : before.wants ≤ after.wants
 
--- no count is less than before
+-- no count of faults and wants is less than before
 pub record NoneFalls (before after : CallStreams) : Type 0 where
-  pub faults : before.faults ≤ after.faults
+  pub faults : before.counts.faults ≤ after.counts.faults
+  pub wants : before.counts.wants ≤ after.counts.wants
   pub output : SinkRises before.output after.output
   pub errors : SinkRises before.errors after.errors

@@ -16,3 +16,5 @@ pub record LeavesOutside (answer : Answer) (before after : OutsideState) : Type 
   pub refused : (IsOfRun answer → ⊥) → after.streams.output.held ≡ before.streams.output.held
   -- such an answer leaves the input as it was
   pub unread : (IsOfRun answer → ⊥) → after.streams.left ≡ before.streams.left
+  -- and calls it no more
+  pub uncalled : (IsOfRun answer → ⊥) → after.streams.counts ≡ before.streams.counts

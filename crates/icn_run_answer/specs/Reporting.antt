@@ -1,8 +1,10 @@
--- What stands on the error output behind a call. Of what a run put, something is said where the input told its content before.
-use Rattle.std.specs.Prelude.{◌≡◌, ◌⊎◌, ℕ, List, Option, IfSome}
+-- What stands on the error output behind a call.
+use Rattle.std.specs.Prelude.{◌≡◌, ◌⊎◌, ℕ, List}
 use Rattle.icn_host.specs.Sinks.{Gains, SinkState}
 use Rattle.icn_host.specs.Puts.{Puts, Leads}
 use Rattle.icn_streams.specs.Handed.{FailsOnce, KeepsFaultCounts, WantsOnce}
+use Rattle.icn_code.specs.Codes.{Tables}
+use Rattle.icn_defs.specs.Running.{Launch}
 use Rattle.icn_defs.specs.declared.ending.Ending.{Ending}
 use Rattle.icn_running.specs.declared.fault.RunFault.{RunFault}
 use Rattle.icn_running.specs.declared.fault.RunFault.TheVariants as Faults
@@ -14,27 +16,28 @@ use Rattle.icn_run_answer.specs.FaultAnswers.{of_run}
 use Rattle.icn_answer.specs.Lines.{fault_line, line_of}
 
 -- the report of a run that ended so stands behind what the program itself put
-abbrev pub ReportStands : Option (List ℕ) → Ending → SinkState → SinkState → Type 0
-ReportStands left ending before after = IfSome left (λ _. PutsReport (ending_seen ending) before after)
+abbrev pub ReportStands : Ending → SinkState → SinkState → Type 0
+ReportStands ending before after =
+    (tables : Tables) × ((launch : Launch) × PutsReport tables launch (ending_seen ending) before after)
 
 -- the line of an answer is what was put; of a run, its report
-abbrev pub LineStands : List ℕ → List ℕ → Option (List ℕ) → Answer → SinkState → SinkState → Type 0
-LineStands usage name left Wrote before after = Gains before.held after.held (line_of usage name Wrote)
-LineStands usage name left (Ran ending) before after = ReportStands left ending before after
-LineStands usage name left (Refused file line rule) before after =
+abbrev pub LineStands : List ℕ → List ℕ → Answer → SinkState → SinkState → Type 0
+LineStands usage name Wrote before after = Gains before.held after.held (line_of usage name Wrote)
+LineStands usage name (Ran ending) before after = ReportStands ending before after
+LineStands usage name (Refused file line rule) before after =
     Gains before.held after.held (line_of usage name (Refused file line rule))
-LineStands usage name left (Command kind) before after =
+LineStands usage name (Command kind) before after =
     Gains before.held after.held (line_of usage name (Command kind))
-LineStands usage name left (Missing other) before after =
+LineStands usage name (Missing other) before after =
     Gains before.held after.held (line_of usage name (Missing other))
-LineStands usage name left (BadUcode other rule) before after =
+LineStands usage name (BadUcode other rule) before after =
     Gains before.held after.held (line_of usage name (BadUcode other rule))
-LineStands usage name left (BadImage rule) before after =
+LineStands usage name (BadImage rule) before after =
     Gains before.held after.held (line_of usage name (BadImage rule))
-LineStands usage name left FileFault before after = ⊥
-LineStands usage name left ReadFault before after = ⊥
-LineStands usage name left WriteFault before after = ⊥
-LineStands usage name left NoMemory before after = ⊥
+LineStands usage name FileFault before after = ⊥
+LineStands usage name ReadFault before after = ⊥
+LineStands usage name WriteFault before after = ⊥
+LineStands usage name NoMemory before after = ⊥
 
 -- the counts of the error output where a run was broken off by this fault: one rose at most, and once
 abbrev pub CountsFault : RunFault → SinkState → SinkState → Type 0
@@ -49,14 +52,14 @@ pub record PutsSome (before after : SinkState) : Type 0 where
 
 -- The answer's line; or, of a fault, some first part of the line of an answer that no program ran for, or what a run put, and then the fault's own
 -- line, as far as the error output took it.
-pub data Reports (usage name : List ℕ) (left : Option (List ℕ)) (before after : SinkState)
+pub data Reports (usage name : List ℕ) (before after : SinkState)
     (answer : Answer) : Type 0 where
-  put : (IsFault answer → ⊥) → LineStands usage name left answer before after
-      → Reports usage name left before after answer
+  put : (IsFault answer → ⊥) → LineStands usage name answer before after
+      → Reports usage name before after answer
   own : IsFault answer → (other : Answer) → (IsFault other → ⊥) → (between : SinkState)
       → Leads before between (line_of usage name other)
-      → Puts between after (fault_line answer) → Reports usage name left before after answer
+      → Puts between after (fault_line answer) → Reports usage name before after answer
   broke : (fault : RunFault) → answer ≡ of_run fault → (between : SinkState)
       → CountsFault fault before between
-      → IfSome left (λ _. PutsSome before between) → Puts between after (fault_line answer)
-      → Reports usage name left before after answer
+      → PutsSome before between → Puts between after (fault_line answer)
+      → Reports usage name before after answer

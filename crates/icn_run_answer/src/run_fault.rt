@@ -1,5 +1,6 @@
 // The answer where a run could not go on.
 ghost use Rattle.std.specs.Prelude.{◌≡◌, ℕ, List, Option};
+ghost use Rattle.icn_host.specs.Sources.{SourceCounts};
 ghost use Rattle.icn_streams.specs.Handed.{call_streams};
 ghost use Rattle.icn_run_answer.specs.CountCauses.{EndsBehind, IsSettledOrFailed, SettlesBehind, TriesToSettle};
 ghost use Rattle.icn_run_answer.specs.FaultAnswers.{of_run};
@@ -12,7 +13,7 @@ use icn_running::RunFault;
 /// so that nothing of it is lost. Then the fault's own line is put.
 pub fn broken_answer<O: Sink, E: Sink>(fault: RunFault, out: &mut O, err: &mut E) -> Answer
     ensures answer { result ≡ of_run fault }
-    ensures behind { (left : Option (List ℕ)) (input : ℕ) → EndsBehind (of_run fault)
+    ensures behind { (left : Option (List ℕ)) (input : SourceCounts) → EndsBehind (of_run fault)
         (call_streams left input (O.state out.old) (E.state err.old))
         (call_streams left input (O.state out.new) (E.state err.new)) }
     ensures settled { fault ≡ RunFault.NoMemory

@@ -11,3 +11,4 @@ mod RunAnswers
 mod Starts
 mod EndsAtStart
 pub mod SettledEnds
+mod ReportedRuns

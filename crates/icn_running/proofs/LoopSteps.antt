@@ -10,7 +10,7 @@ use Rattle.icn_control.specs.declared.machine.Machine.{Machine}
 use Rattle.icn_control.specs.declared.machine.RunState.TheVariants as RunStates
 use Rattle.icn_machine.specs.declared.stepping.AfterStep.{AfterStep}
 use Rattle.icn_machine.specs.declared.stepping.AfterStep.TheVariants as AfterSteps
-use Rattle.icn_machine.specs.Stepping.{Advances, GoesOn, advances, stays}
+use Rattle.icn_machine.specs.Stepping.{Advances, GoesOn, IsAny, advances, stays}
 use Rattle.icn_machine.specs.AfterInstruction.{stage_of, stage_result}
 use Rattle.icn_machine.proofs.LoopSteps.{failing_left, loop_halts, loop_goes_on}
 use Rattle.icn_running.specs.WorkLeft.{Lasts, MadeTurn, left_now}
@@ -36,22 +36,24 @@ on_true AfterSteps.AtBound e = cc
 pub run_err : {K : Type 0} (tables : Tables) (m : Machine K) (a : CallStreams) (n : Machine K) (stepped : AfterStep) (b : CallStreams) (k : Machine K)
     (c : CallStreams) (halt : Halt) (result : Result AfterStep Halt)
     → stepped ≡ AfterSteps.Running
-    → GoesOn tables m RunStates.Running a n b (Ok (stage_of stepped)) → GoesOn tables n RunStates.Running b k c (Err halt) → IsErrAnd result (λ h. h ≡ halt)
-    → GoesOn tables m RunStates.Running a k c (stage_result result)
+    → GoesOn IsAny tables m RunStates.Running a n b (Ok (stage_of stepped)) → GoesOn IsAny tables n RunStates.Running b k c (Err halt) → IsErrAnd result (λ
+    h. h ≡ halt)
+    → GoesOn IsAny tables m RunStates.Running a k c (stage_result result)
 run_err tables m a n stepped b k c halt (Err h) on p q r =
-    loop_halts tables m RunStates.Running a n (stage_of stepped) RunStates.Running b k c halt (Err h) (ap stage_of on) refl p q r
+    loop_halts IsAny tables m RunStates.Running a n (stage_of stepped) RunStates.Running b k c halt (Err h) (ap stage_of on) refl (λ was state at. tt) p q r
 run_err tables m a n stepped b k c halt (Ok s) on p q r = absurd r
 
 pub run_ok : {K : Type 0} (tables : Tables) (m : Machine K) (a : CallStreams) (n : Machine K) (stepped next : AfterStep) (b : CallStreams) (k : Machine K)
     (c : CallStreams)
     → stepped ≡ AfterSteps.Running
-    → GoesOn tables m RunStates.Running a n b (Ok (stage_of stepped)) → GoesOn tables n RunStates.Running b k c (Ok (stage_of next))
-    → GoesOn tables m RunStates.Running a k c (Ok (stage_of next))
+    → GoesOn IsAny tables m RunStates.Running a n b (Ok (stage_of stepped)) → GoesOn IsAny tables n RunStates.Running b k c (Ok (stage_of next))
+    → GoesOn IsAny tables m RunStates.Running a k c (Ok (stage_of next))
 run_ok tables m a n stepped next b k c on p q =
-    loop_goes_on tables m RunStates.Running a n (stage_of stepped) RunStates.Running b k c (Ok (stage_of next)) (ap stage_of on) refl p q
+    loop_goes_on IsAny tables m RunStates.Running a n (stage_of stepped) RunStates.Running b k c (Ok (stage_of next)) (ap stage_of on) refl
+    (λ was state at. tt) p q
 
 module _ {K : Type 0} (tables : Tables) (m : Machine K) (b : CallStreams) (n : Machine K) (c : CallStreams) (lasts : Lasts tables m) where
-  pub lasts_next : (next : AfterStep) → n.limits ≡ m.limits → Advances tables m RunStates.Running b n c (Ok (stage_of next)) → IsTrue (is_on next)
+  pub lasts_next : (next : AfterStep) → n.limits ≡ m.limits → Advances IsAny tables m RunStates.Running b n c (Ok (stage_of next)) → IsTrue (is_on next)
       → Lasts tables n
   lasts_next AfterSteps.Running limits steps on = lasts_on tables m b n c lasts limits steps
   lasts_next AfterSteps.Over limits steps on = absurd (cc on)
@@ -63,7 +65,7 @@ module _ {K : Type 0} (tables : Tables) (m : Machine K) (b : CallStreams) (n : M
       record { more = omega (arith, more, same); within = omega (arith, within, bound) }
 
   pub turn_next : (first : Machine K) (next : AfterStep) → m.turns ≡ first.turns → m.limits ≡ first.limits
-      → Advances tables m RunStates.Running b n c (Ok (stage_of next)) → IsTrue (is_on next)
+      → Advances IsAny tables m RunStates.Running b n c (Ok (stage_of next)) → IsTrue (is_on next)
       → (n.turns ≡ first.turns) ⊎ MadeTurn first n
   turn_next first AfterSteps.Running same limits steps on = by (falls_by tables m b n c lasts steps)
     where
@@ -73,7 +75,7 @@ module _ {K : Type 0} (tables : Tables) (m : Machine K) (b : CallStreams) (n : M
   turn_next first AfterSteps.Over same limits steps on = absurd (cc on)
   turn_next first AfterSteps.AtBound same limits steps on = absurd (cc on)
 
-  pub left_falls : (next : AfterStep) (turns : ℕ) → m.turns ≡ turns → Advances tables m RunStates.Running b n c (Ok (stage_of next))
+  pub left_falls : (next : AfterStep) (turns : ℕ) → m.turns ≡ turns → Advances IsAny tables m RunStates.Running b n c (Ok (stage_of next))
       → failing_left (is_within next n.turns turns) (left_now tables n) < suc (left_now tables m)
   left_falls AfterSteps.Running turns same steps = by (n.turns == turns) refl (falls_by tables m b n c lasts steps)
     where
@@ -111,8 +113,8 @@ turns_fall m n AfterSteps.AtBound limits turn = omega arith
 -- What stopped has gone on.
 
 pub run_over : {K : Type 0} (tables : Tables) (m : Machine K) (a : CallStreams) (n : Machine K) (b : CallStreams) (stepped : AfterStep) → is_on stepped ≡ false
-    → GoesOn tables m RunStates.Running a n b (Ok (stage_of stepped))
-    → Advances tables m RunStates.Running a n b (Ok (stage_of stepped))
+    → GoesOn IsAny tables m RunStates.Running a n b (Ok (stage_of stepped))
+    → Advances IsAny tables m RunStates.Running a n b (Ok (stage_of stepped))
 run_over tables m a n b stepped off (advances steps) = steps
 run_over tables m a n b AfterSteps.Running off (stays e h r) = absurd (cc off)
 run_over tables m a n b AfterSteps.Over off (stays e h r) = absurd (cc r)
@@ -120,8 +122,8 @@ run_over tables m a n b AfterSteps.AtBound off (stays e h r) = absurd (cc r)
 
 pub stopped_err : {K : Type 0} (tables : Tables) (m : Machine K) (a : CallStreams) (n : Machine K) (b : CallStreams) (halt : Halt)
     (result : Result AfterStep Halt)
-    → GoesOn tables m RunStates.Running a n b (stage_result result) → IsErrAnd result (λ h. h ≡ halt)
-    → Advances tables m RunStates.Running a n b (stage_result result)
+    → GoesOn IsAny tables m RunStates.Running a n b (stage_result result) → IsErrAnd result (λ h. h ≡ halt)
+    → Advances IsAny tables m RunStates.Running a n b (stage_result result)
 stopped_err tables m a n b halt result (advances steps) r = steps
 stopped_err tables m a n b halt (Ok stepped) (stays e h q) r = absurd r
 stopped_err tables m a n b halt (Err other) (stays e h q) r = absurd (cc q)

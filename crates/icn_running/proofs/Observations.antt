@@ -1,27 +1,31 @@
 -- What is observed of a run that is over, and what it leaves in the streams.
 use Rattle.std.proofs.Common.{◌≡◌, ℕ, suc, List, [], Option, Some, Ok, Err, refl, sym, ap, ◌∙◌, subst, append-nil}
+use Rattle.std.specs.Prelude.{map}
 use Rattle.std.specs.Option.{option_map}
+use Rattle.icn_host.specs.Counts.{raised}
 use Rattle.icn_host.specs.Sinks.{Gains, SinkState}
+use Rattle.icn_host.proofs.SinkSteps.{gains_nothing}
 use Rattle.icn_value.specs.Limited.{Bounds}
-use Rattle.icn_value.specs.Store.{Outside, outside_of}
+use Rattle.icn_value.specs.Store.{ErrorByte, Event, Outside, errors_in, output_in, outside_of, readings_in}
 use Rattle.icn_value.specs.declared.val.Val.{Val}
 use Rattle.icn_heap.specs.Extents.{value_in}
 use Rattle.icn_heap.specs.Heaps.{heap_of}
 use Rattle.icn_defs.specs.Errors.{error_report}
-use Rattle.icn_defs.specs.Interruptions.{Ends}
+use Rattle.icn_defs.specs.Interruptions.{Ends, left_behind}
+use Rattle.icn_defs.proofs.Interruptions.{errors_put, errors_read_none, extends_by_errors, left_by_errors, output_of_errors}
 use Rattle.icn_defs.specs.Running.{Ending, Done, Exit, Errored, AtBound, Launch, bound_report, launch_of, with_errors}
 use Rattle.icn_vars.specs.declared.outcome.Halt.TheVariants as Halts
 use Rattle.icn_code.specs.Codes.{Tables}
 use Rattle.icn_run.specs.FlatStep.{start}
 use Rattle.icn_run.specs.Stacks.{flat}
 use Rattle.icn_run.specs.Step.{all_names, observation, over, steps}
-use Rattle.icn_streams.specs.Handed.{Follows, CallStreams, PutsAdded}
-use Rattle.icn_streams.proofs.CallSequences.{follows_then, puts_nothing}
+use Rattle.icn_streams.specs.Handed.{CallStreams, Follows, streams_of}
+use Rattle.icn_streams.proofs.CallSequences.{follows_left, follows_then}
 use Rattle.icn_control.specs.Machines.{extent}
 use Rattle.icn_control.specs.declared.machine.Machine.{Machine}
 use Rattle.icn_control.specs.declared.machine.RunState.TheVariants as RunStates
-use Rattle.icn_machine.specs.Stepping.{Leads}
-use Rattle.icn_running.specs.Runs.{RunsTo, streams_of}
+use Rattle.icn_machine.specs.Stepping.{IsAny, Leads}
+use Rattle.icn_running.specs.Runs.{RunsTo}
 
 -- the error output alone is another since
 abbrev pub then_errors : CallStreams → SinkState → CallStreams
@@ -37,8 +41,8 @@ pub record ComesToEnd (tables : Tables) (launch : Launch) (before between : Call
   pub follows : Follows before between launch.outside now
 
 -- an empty report changes nothing
-no_errors : (now : Outside) → with_errors [] now ≡ now
-no_errors now = ap (λ (text : List ℕ). record now { errors = text }) (append-nil now.errors)
+pub no_errors : (now : Outside) → with_errors [] now ≡ now
+no_errors now = ap (λ (h : List Event). let o : Outside = record now { history = h } in o) (append-nil now.history)
 
 module _ {K : Type 0} (tables : Tables) (launch : Launch) (n : Machine K) (before between : CallStreams) where
   quiet_end : (ending : Ending) (count : ℕ) (now : Outside) → steps flat tables count (start tables launch) ≡ over ending now
@@ -51,17 +55,17 @@ module _ {K : Type 0} (tables : Tables) (launch : Launch) (n : Machine K) (befor
   }
 
   -- the starting call is over
-  pub finished : Leads tables (start tables launch) launch.outside before n between (Ok RunStates.Over)
+  pub finished : Leads IsAny tables (start tables launch) launch.outside before n between (Ok RunStates.Over)
       → ComesToEnd tables launch before between Done []
   finished leads = quiet_end Done (suc leads.count) leads.last.now leads.last.is (follows_then leads.follows leads.last.follows)
 
   -- it was ended with a status
-  pub ended : (status : ℕ) → Leads tables (start tables launch) launch.outside before n between (Err (Halts.Ends status))
+  pub ended : (status : ℕ) → Leads IsAny tables (start tables launch) launch.outside before n between (Err (Halts.Ends status))
       → ComesToEnd tables launch before between (Exit status) []
   ended status leads = quiet_end (Exit status) (suc leads.count) leads.last.now leads.last.is (follows_then leads.follows leads.last.follows)
 
   -- it stands at the bound of turns
-  pub bounded : Leads tables (start tables launch) launch.outside before n between (Ok RunStates.AtBound)
+  pub bounded : Leads IsAny tables (start tables launch) launch.outside before n between (Ok RunStates.AtBound)
       → ComesToEnd tables launch before between AtBound bound_report
   bounded leads = record {
     count = suc leads.count;
@@ -71,7 +75,8 @@ module _ {K : Type 0} (tables : Tables) (launch : Launch) (n : Machine K) (befor
   }
 
   -- a run-time error ended it
-  pub erred : (number : ℕ) (offending : Option Val) → Leads tables (start tables launch) launch.outside before n between (Err (Halts.Error number offending))
+  pub erred : (number : ℕ) (offending : Option Val) → Leads IsAny tables (start tables launch) launch.outside before n between (Err (Halts.Error number
+      offending))
       → ComesToEnd tables launch before between (Errored number)
       (error_report (all_names tables) (heap_of n.world.heap) number (option_map (value_in (extent n)) offending))
   erred number offending leads = record {
@@ -83,23 +88,27 @@ module _ {K : Type 0} (tables : Tables) (launch : Launch) (n : Machine K) (befor
 
 -- What is seen of it once its report is put
 
-gains_all : (before after : SinkState) (now : List ℕ) → PutsAdded before after [] now → Gains before.held after.held now
-gains_all before after now puts = subst (λ (text : List ℕ). Gains before.held after.held text) (sym puts.is) puts.gains
-
 ends_there : (ending : Ending) (input : List ℕ) (before after : CallStreams) (now : Outside) → Follows before after (outside_of input) now
-    → Ends (record { ending = ending; outside = now }) (streams_of before) (streams_of after)
+    → Ends input (record { ending = ending; outside = now }) (streams_of before) (streams_of after)
 ends_there ending input before after now follows = record {
-  left = follows.left;
-  output = gains_all before.output after.output now.output follows.output;
-  errors = gains_all before.errors after.errors now.errors follows.errors;
+  taken = follows.extends.left ∙ ap (left_behind input) (sym follows.extends.history);
+  left = follows_left follows;
+  calls = subst (λ (h : List Event). after.counts.calls ≡ raised before.counts.calls (readings_in h)) (sym follows.extends.history) follows.stands.calls;
+  output = subst (λ (h : List Event). Gains before.output.held after.output.held (output_in h)) (sym follows.extends.history) follows.stands.output;
+  errors = subst (λ (h : List Event). Gains before.errors.held after.errors.held (errors_in h)) (sym follows.extends.history) follows.stands.errors;
 }
 
 follows_report : (between : CallStreams) (errors : SinkState) (now : Outside) (report : List ℕ) → between.left ≡ Some now.left
     → Gains between.errors.held errors.held report → Follows between (then_errors between errors) now (with_errors report now)
 follows_report between errors now report told gains = record {
-  left = told;
-  output = puts_nothing between.output now.output;
-  errors = record { text = report; is = refl; gains = gains };
+  done = map ErrorByte report;
+  extends = extends_by_errors report now;
+  stands = record {
+    rest = told ∙ ap (λ (l : List ℕ). Some l) (sym (left_by_errors now.left report));
+    calls = ap (raised between.counts.calls) (sym (errors_read_none report));
+    output = subst (Gains between.output.held between.output.held) (sym (output_of_errors report)) (gains_nothing between.output.held);
+    errors = subst (Gains between.errors.held errors.held) (sym (errors_put report)) gains;
+  };
 }
 
 pub run_reported : (tables : Tables) (words : List (List ℕ)) (bounds : Bounds) (input : List ℕ) (before between : CallStreams) (errors : SinkState)
@@ -113,7 +122,7 @@ run_reported tables words bounds input before between errors ending report comes
     (
       record { count = comes.count; is = ap observation comes.is },
       ends_there ending input before (then_errors between errors) (with_errors report comes.now)
-          (follows_then comes.follows (follows_report between errors comes.now report comes.follows.left gains)),
+          (follows_then comes.follows (follows_report between errors comes.now report (follows_left comes.follows) gains)),
     ),
   ),
 )

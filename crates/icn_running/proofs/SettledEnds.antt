@@ -3,13 +3,15 @@ use Rattle.std.proofs.Common.{◌≡◌, ◌∙◌, ap, sym, subst, ℕ, true, f
 use Rattle.std.specs.Prelude.{IfOk, IsErrAnd, OnOk}
 use Rattle.std.specs.Option.{option_map}
 use Rattle.icn_host.specs.Sinks.{SinkState}
+use Rattle.icn_host.specs.Sources.{SourceCounts}
 use Rattle.icn_host.specs.Counts.{one_more}
 use Rattle.icn_value.specs.Limited.{Bounds}
 use Rattle.icn_value.specs.Store.{Names, Outside, outside_of}
 use Rattle.icn_heap.specs.Extents.{value_in}
 use Rattle.icn_heap.specs.Heaps.{heap_of}
 use Rattle.icn_defs.specs.Errors.{error_report}
-use Rattle.icn_defs.specs.Interruptions.{BreaksRun}
+use Rattle.icn_defs.specs.Interruptions.{BreaksBetween, breaks_between}
+use Rattle.icn_defs.proofs.Interruptions.{stands_kept}
 use Rattle.icn_defs.specs.Running.{Done, Exit, Errored, AtBound, Launch, Observation, bound_report, launch_of}
 use Rattle.icn_vars.specs.declared.outcome.Halt.{Halt}
 use Rattle.icn_vars.specs.declared.outcome.Halt.TheVariants as Halts
@@ -18,22 +20,22 @@ use Rattle.icn_defs.specs.declared.ending.Ending.{Ending as HeldEnding}
 use Rattle.icn_run.specs.FlatStep.{Runs, start}
 use Rattle.icn_run.specs.Stacks.{Frames}
 use Rattle.icn_run.specs.Step.{State, all_names, running}
-use Rattle.icn_streams.specs.Handed.{CallStreams, Follows, KeepsAllCounts, KeepsFaultCounts, LeavesStreams, WantsMemory, WritingFails, call_streams, errors_want, output_wants, uncounted, output_fails as writing_output, errors_fail as writing_errors}
+use Rattle.icn_streams.specs.Handed.{CallStreams, Follows, KeepsAllCounts, KeepsFaultCounts, LeavesStreams, WantsMemory, WritingFails, call_streams, errors_want, input_wants, output_wants, streams_of, uncounted, wanted_once, output_fails as writing_output, errors_fail as writing_errors}
 use Rattle.icn_streams.specs.Settling.{HoldsBoth, Settles}
 use Rattle.icn_control.specs.Machines.{extent, stack_seen, store_seen}
 use Rattle.icn_control.specs.declared.machine.Machine.{Machine}
 use Rattle.icn_control.specs.declared.machine.RunState.TheVariants as RunStates
 use Rattle.icn_machine.specs.declared.stepping.AfterStep.{AfterStep}
 use Rattle.icn_machine.specs.declared.stepping.AfterStep.TheVariants as AfterSteps
-use Rattle.icn_machine.specs.Stepping.{IsAt, IsFirstFault, Leads, OutputFails, errors_fail, output_fails}
+use Rattle.icn_machine.specs.Stepping.{IsAny, IsAt, IsFirstFault, Leads, OutputFails, errors_fail, output_fails}
 use Rattle.icn_machine.specs.AfterInstruction.{stage_result}
 use Rattle.icn_running.specs.DueInstructions.{is_on}
 use Rattle.icn_running.specs.declared.fault.RunFault.{RunFault}
 use Rattle.icn_running.specs.declared.fault.RunFault.TheVariants.{ReadFault, WriteFault, NoMemory}
 use Rattle.icn_running.specs.Reported.{AnswersMachine}
-use Rattle.icn_running.specs.Runs.{AnswersRun, EndsAtFirst, LeavesBy, streams_of}
+use Rattle.icn_running.specs.Runs.{AnswersRun, EndsAtFirst, LeavesBy}
 use Rattle.icn_running.specs.SettledEnds.{SettlesRun, is_broken}
-use Rattle.icn_running.proofs.BrokenOff.{run_unsettled, still_added}
+use Rattle.icn_running.proofs.BrokenOff.{run_unsettled}
 use Rattle.icn_running.proofs.Observations.{bounded, ended, erred, finished}
 
 -- What is pending
@@ -55,8 +57,8 @@ both_settled P Q (Err fault) first second = tt
 -- Why outputs could not be settled
 
 pub settles_at : (halt other : Halt) (o o' e e' : SinkState) → halt ≡ other
-    → ((left : Option (List ℕ)) (faults : ℕ) → Settles {A = Unit {0}} (call_streams left faults o e) (call_streams left faults o' e') (Err halt))
-    → (left : Option (List ℕ)) (faults : ℕ) → Settles {A = Unit {0}} (call_streams left faults o e) (call_streams left faults o' e') (Err other)
+    → ((left : Option (List ℕ)) (faults : SourceCounts) → Settles {A = Unit {0}} (call_streams left faults o e) (call_streams left faults o' e') (Err halt))
+    → (left : Option (List ℕ)) (faults : SourceCounts) → Settles {A = Unit {0}} (call_streams left faults o e) (call_streams left faults o' e') (Err other)
 settles_at halt other o o' e e' same settles left faults =
     subst (λ h. Settles {A = Unit {0}} (call_streams left faults o e) (call_streams left faults o' e') (Err h)) same (settles left faults)
 
@@ -66,30 +68,33 @@ counts_then : {a b c : SinkState} → KeepsFaultCounts a b → KeepsFaultCounts 
 counts_then first second = record { faults = second.faults ∙ first.faults; wants = second.wants ∙ first.wants }
 
 follows_settled : {a b c : CallStreams} {was now : Outside} → Follows a b was now → LeavesStreams b c → Follows a c was now
-follows_settled first settled = record {
-  left = settled.left ∙ first.left;
-  output = still_added first.output settled.output;
-  errors = still_added first.errors settled.errors;
+follows_settled {a} {b} {c} first settled = record {
+  done = first.done;
+  extends = first.extends;
+  stands = stands_kept (streams_of a) (streams_of b) (streams_of c) settled.left settled.calls settled.output.held settled.errors.held first.stands;
 }
 
 -- what led to an end leads there still
 pub leads_settled : {K : Type 0} (tables : Tables) (state : State Frames Frames) (was : Outside) (before : CallStreams) (n : Machine K)
     (between settled : CallStreams) (stopped : Result AfterStep Halt) → is_broken stopped ≡ false → LeavesStreams between settled
-    → Leads tables state was before n between (stage_result stopped) → Leads tables state was before n settled (stage_result stopped)
+    → Leads IsAny tables state was before n between (stage_result stopped) → Leads IsAny tables state was before n settled (stage_result stopped)
 leads_settled tables state was before n between settled (Ok stepped) whole leaves leads = record {
   count = leads.count;
+  through = leads.through;
   between = leads.between;
   follows = leads.follows;
   last = record { now = leads.last.now; follows = follows_settled leads.last.follows leaves; is = leads.last.is };
 }
 leads_settled tables state was before n between settled (Err (Halts.Error number offending)) whole leaves leads = record {
   count = leads.count;
+  through = leads.through;
   between = leads.between;
   follows = leads.follows;
   last = record { now = leads.last.now; follows = follows_settled leads.last.follows leaves; is = leads.last.is };
 }
 leads_settled tables state was before n between settled (Err (Halts.Ends status)) whole leaves leads = record {
   count = leads.count;
+  through = leads.through;
   between = leads.between;
   follows = leads.follows;
   last = record { now = leads.last.now; follows = follows_settled leads.last.follows leaves; is = leads.last.is };
@@ -138,8 +143,8 @@ module _ {K : Type 0} (tables : Tables) (words : List (List ℕ)) (bounds : Boun
 
   -- a run that is over
   unsettled : (stopped : Result AfterStep Halt) → is_broken stopped ≡ false → IfOk stopped (λ stepped. is_on stepped ≡ false)
-      → Leads tables (start tables launch) launch.outside before n between (stage_result stopped)
-      → BreaksRun input seen (streams_of before) (streams_of after)
+      → Leads IsAny tables (start tables launch) launch.outside before n between (stage_result stopped)
+      → BreaksBetween (outside_of input) seen.outside (streams_of before) (streams_of after)
   unsettled (Ok AfterSteps.Running) whole stops leads = absurd (cc stops)
   unsettled (Ok AfterSteps.Over) whole stops leads =
       run_unsettled tables words bounds input seen r before between after Done [] (finished tables launch n before between leads) holds
@@ -155,16 +160,16 @@ module _ {K : Type 0} (tables : Tables) (words : List (List ℕ)) (bounds : Boun
   unsettled (Err Halts.WriteFault) whole stops leads = absurd (cc whole)
   unsettled (Err Halts.NoMemory) whole stops leads = absurd (cc whole)
 
-holds_by : (between after : CallStreams) (fault : RunFault) → SettlesRun {A = Unit {0}} between after (Err fault) → HoldsBoth between after
+pub holds_by : (between after : CallStreams) (fault : RunFault) → SettlesRun {A = Unit {0}} between after (Err fault) → HoldsBoth between after
 holds_by between after ReadFault settles = absurd settles
 holds_by between after WriteFault settles = settles.0
 holds_by between after NoMemory settles = settles.0
 
 leaves_by : (input : List ℕ) (seen : Observation) (before between after : CallStreams) (fault : RunFault) → SettlesRun {A = Unit {0}} between after (Err fault)
-    → BreaksRun input seen (streams_of before) (streams_of after) → LeavesBy fault input seen before after
+    → BreaksBetween (outside_of input) seen.outside (streams_of before) (streams_of after) → LeavesBy fault input seen before after
 leaves_by input seen before between after ReadFault settles breaks = absurd settles
 leaves_by input seen before between after WriteFault settles breaks = breaks
-leaves_by input seen before between after NoMemory settles breaks = breaks
+leaves_by input seen before between after NoMemory settles breaks = breaks_between breaks
 
 -- the fault for which the outputs could not be settled is answered
 pub unsettled_answers : {K : Type 0} (tables : Tables) (m n : Machine K) (before between after : CallStreams)
@@ -173,7 +178,7 @@ pub unsettled_answers : {K : Type 0} (tables : Tables) (m n : Machine K) (before
     → SettlesRun {A = Unit {0}} between after (Err fault)
     → ((launch : Launch) → (seen : Observation) × Runs tables launch seen)
     → ((was : Outside) (state : State Frames Frames) → IsAt tables was state m RunStates.Running → before.left ≡ Some was.left
-    → Leads tables state was before n between (stage_result stopped))
+    → Leads IsAny tables state was before n between (stage_result stopped))
     → (words : List (List ℕ)) (bounds : Bounds) (input : List ℕ) → before.left ≡ Some input
     → start tables (launch_of words bounds input) ≡ running (stack_seen m) (store_seen tables (outside_of input) m)
     → AnswersRun tables (launch_of words bounds input) answered before after
@@ -206,6 +211,8 @@ memory_then a b c kept (uncounted is) = uncounted (record {
   output = counts_then kept.output is.output;
   errors = counts_then kept.errors is.errors;
 })
+memory_then a b c kept (input_wants faults output errors) =
+    input_wants (faults ∙ ap wanted_once kept.faults) (counts_then kept.output output) (counts_then kept.errors errors)
 memory_then a b c kept (output_wants faults output errors) =
     output_wants (faults ∙ kept.faults)
     (record { faults = output.faults ∙ kept.output.faults; wants = output.wants ∙ ap one_more kept.output.wants })

@@ -12,7 +12,7 @@ use Rattle.law_safe.specs.StepMeasure.{Falls, ends, turned, lighter, left_of, tu
 use Rattle.icn_streams.specs.Handed.{CallStreams}
 use Rattle.icn_control.specs.declared.machine.Machine.{Machine}
 use Rattle.icn_control.specs.declared.machine.RunState.TheVariants as RunStates
-use Rattle.icn_machine.specs.Stepping.{Advances}
+use Rattle.icn_machine.specs.Stepping.{Advances, IsAny}
 use Rattle.icn_running.specs.WorkLeft.{AlwaysFalls, Lasts, MadeTurn, left_now, state_seen}
 
 -- Runs over some outsides, and then over others
@@ -96,14 +96,14 @@ record After {K : Type 0} (tables : Tables) (m n : Machine K) : Type 0 where
   is : run_over tables (first ∷ later) (state_seen tables (outside_of []) m) ≡ state_seen tables now n
 
 after : {K : Type 0} (tables : Tables) (m : Machine K) (b : CallStreams) (n : Machine K) (c : CallStreams)
-    → Advances tables m RunStates.Running b n c (Ok RunStates.Running)
+    → Advances IsAny tables m RunStates.Running b n c (Ok RunStates.Running)
     → After tables m n
 after tables m b n c advances =
     let l = advances.meant (outside_of []) (state_seen tables (outside_of []) m) refl in
     record { first = l.first; later = l.later; now = l.now; is = l.is }
 
 pub lasts_on : {K : Type 0} (tables : Tables) (m : Machine K) (b : CallStreams) (n : Machine K) (c : CallStreams) → Lasts tables m → n.limits ≡ m.limits
-    → Advances tables m RunStates.Running b n c (Ok RunStates.Running) → Lasts tables n
+    → Advances IsAny tables m RunStates.Running b n c (Ok RunStates.Running) → Lasts tables n
 lasts_on tables m b n c lasts limits advances outside =
     let a = after tables m b n c advances in
     let bound = m.limits.turns in
@@ -121,7 +121,7 @@ falls_on tables m n now (less a b) = inr (a, b)
 
 -- a turn was made, or less is left to do
 pub falls_by : {K : Type 0} (tables : Tables) (m : Machine K) (b : CallStreams) (n : Machine K) (c : CallStreams) → Lasts tables m
-    → Advances tables m RunStates.Running b n c (Ok RunStates.Running)
+    → Advances IsAny tables m RunStates.Running b n c (Ok RunStates.Running)
     → MadeTurn m n ⊎ ((n.turns ≡ m.turns) × (left_now tables n < left_now tables m))
 falls_by tables m b n c lasts advances =
     let a = after tables m b n c advances in

@@ -3,18 +3,23 @@ use Rattle.std.specs.Prelude.{◌≡◌, ◌⊎◌, ℕ, List, [], ◌++◌, Opt
 use Rattle.std.specs.Option.{option_map}
 use Rattle.icn_host.specs.Sinks.{Gains, SinkState}
 use Rattle.icn_host.specs.Puts.{FailsPutting, PutsAll, RunsShort}
-use Rattle.icn_value.specs.Store.{Heap, Names}
+use Rattle.icn_value.specs.Store.{Heap, Names, Outside, errors_in}
 use Rattle.icn_value.specs.Values.{Value}
 use Rattle.icn_heap.specs.Extents.{Extent, value_in}
 use Rattle.icn_heap.specs.Heaps.{heap_of}
 use Rattle.icn_defs.specs.Errors.{error_report}
-use Rattle.icn_defs.specs.Running.{Ending, Done, Exit, Errored, AtBound, bound_report}
+use Rattle.icn_defs.specs.Running.{Ending, Done, Exit, Errored, AtBound, Launch, bound_report, with_errors}
+use Rattle.icn_code.specs.Codes.{Tables}
+use Rattle.icn_run.specs.AnyOutside.{run_over}
+use Rattle.icn_run.specs.FlatStep.{start}
+use Rattle.icn_run.specs.Step.{all_names, over}
 use Rattle.icn_vars.specs.declared.outcome.Halt.{Halt}
 use Rattle.icn_vars.specs.declared.outcome.Halt.TheVariants as Halts
 use Rattle.icn_defs.specs.declared.ending.Ending.{Ending as HeldEnding}
 use Rattle.icn_defs.specs.declared.ending.Ending.TheVariants as HeldEndings
 use Rattle.icn_control.specs.Machines.{extent}
 use Rattle.icn_control.specs.declared.machine.Machine.{Machine}
+use Rattle.icn_machine.specs.Stepping.{AreReadings}
 use Rattle.icn_machine.specs.declared.stepping.AfterStep.{AfterStep}
 use Rattle.icn_machine.specs.declared.stepping.AfterStep.TheVariants as AfterSteps
 use Rattle.icn_running.specs.declared.fault.RunFault.{RunFault}
@@ -27,20 +32,25 @@ ending_seen (HeldEndings.Exit status) = Exit status
 ending_seen (HeldEndings.Errored number) = Errored number
 ending_seen HeldEndings.AtBound = AtBound
 
--- the report of a run that ended so
-abbrev pub IsReportOf : Ending → List ℕ → Type 0
-IsReportOf Done text = text ≡ []
-IsReportOf (Exit status) text = text ≡ []
-IsReportOf (Errored number) text = (names : Names)
-    × ((heap : Heap) × ((offending : Option Value) × (text ≡ error_report names heap number offending)))
-IsReportOf AtBound text = text ≡ bound_report
+-- the report of a run that ended so, by the names of its code
+abbrev pub IsReportOf : Names → Ending → List ℕ → Type 0
+IsReportOf names Done text = text ≡ []
+IsReportOf names (Exit status) text = text ≡ []
+IsReportOf names (Errored number) text = (heap : Heap)
+    × ((offending : Option Value) × (text ≡ error_report names heap number offending))
+IsReportOf names AtBound text = text ≡ bound_report
 
--- Behind what the run itself has put stands the report of its ending, whole.
-pub record PutsReport (ending : Ending) (before after : SinkState) : Type 0 where
-  pub own : List ℕ
+-- The run of a code is over so, over some input, which may be another before each step; behind what it has put itself on the
+-- error output stands the report with which it is over, whole.
+pub record PutsReport (tables : Tables) (launch : Launch) (ending : Ending)
+    (before after : SinkState) : Type 0 where
+  pub outsides : List Outside
+  pub readings : AreReadings tables outsides (start tables launch)
+  pub now : Outside
   pub report : List ℕ
-  pub is : IsReportOf ending report
-  pub gains : Gains before.held after.held (own ++ report)
+  pub is : run_over tables outsides (start tables launch) ≡ over ending (with_errors report now)
+  pub kind : IsReportOf (all_names tables) ending report
+  pub gains : Gains before.held after.held (errors_in now.history ++ report)
 
 -- What is answered at the end
 

@@ -1,37 +1,40 @@
 -- How a run ends, and what it leaves in the streams.
 use Rattle.std.specs.Prelude.{◌≡◌, ℕ, List, Some, Result, Ok, Err}
 use Rattle.icn_value.specs.Limited.{Bounds}
-use Rattle.icn_value.specs.Store.{outside_of}
-use Rattle.icn_defs.specs.Interruptions.{BreaksRun, BreaksRunReading, Ends, Streams}
+use Rattle.icn_host.specs.Counts.{raised}
+use Rattle.icn_host.specs.Sinks.{Gains}
+use Rattle.icn_value.specs.Store.{outside_of, output_in, readings_in}
+use Rattle.icn_defs.specs.Interruptions.{Breaks, BreaksBetween, BreaksReading, Ends}
 use Rattle.icn_defs.specs.Running.{Ending, Launch, Observation, launch_of}
 use Rattle.icn_code.specs.Codes.{Tables}
 use Rattle.icn_run.specs.FlatStep.{Runs, start}
 use Rattle.icn_run.specs.Step.{running}
 use Rattle.icn_defs.specs.declared.ending.Ending.{Ending as HeldEnding}
 use Rattle.law_safe.specs.StepMeasure.{EachStepFalls}
-use Rattle.icn_streams.specs.Handed.{CallStreams, KeepsAllCounts, WantsMemory}
+use Rattle.icn_streams.specs.Handed.{CallStreams, KeepsAllCounts, WantsMemory, streams_of}
 use Rattle.icn_control.specs.Machines.{stack_seen, store_seen}
 use Rattle.icn_control.specs.declared.machine.Machine.{Machine}
-use Rattle.icn_machine.specs.Stepping.{InputFails, IsKept, OutputFails}
+use Rattle.icn_machine.specs.Stepping.{GainsSome, InputFails, IsKept, OutputFails}
 use Rattle.icn_running.specs.declared.fault.RunFault.{RunFault}
 use Rattle.icn_running.specs.declared.fault.RunFault.TheVariants.{ReadFault, WriteFault, NoMemory}
 use Rattle.icn_running.specs.Reported.{PutsReport, ending_seen}
-
--- what the streams tell that a call is handed
-abbrev pub streams_of : CallStreams → Streams
-streams_of handed = record { left = handed.left; output = handed.output.held; errors = handed.errors.held }
 
 -- The run of a code ends so, and the streams have gained what it puts, with what it leaves of the input.
 abbrev pub RunsTo : Tables → Launch → Ending → CallStreams → CallStreams → Type 0
 RunsTo tables launch ending before after =
     (seen : Observation)
-    × ((seen.ending ≡ ending) × (Runs tables launch seen × Ends seen (streams_of before) (streams_of after)))
+    × ((seen.ending ≡ ending)
+    × (Runs tables launch seen × Ends launch.outside.left seen (streams_of before) (streams_of after)))
 
--- what this fault leaves of a run that was begun with this input: broken off at a reading, at a put, or for want of memory
+-- What this fault leaves of a run that was begun with this input: one moment of it, in a reading where the input failed, between two events where an
+-- output did, and either where memory was wanting.
 abbrev pub LeavesBy : RunFault → List ℕ → Observation → CallStreams → CallStreams → Type 0
-LeavesBy ReadFault input seen before after = BreaksRunReading seen (streams_of before) (streams_of after)
-LeavesBy WriteFault input seen before after = BreaksRun input seen (streams_of before) (streams_of after)
-LeavesBy NoMemory input seen before after = BreaksRun input seen (streams_of before) (streams_of after)
+LeavesBy ReadFault input seen before after =
+    BreaksReading (outside_of input) seen.outside (streams_of before) (streams_of after)
+LeavesBy WriteFault input seen before after =
+    BreaksBetween (outside_of input) seen.outside (streams_of before) (streams_of after)
+LeavesBy NoMemory input seen before after =
+    Breaks (outside_of input) seen.outside (streams_of before) (streams_of after)
 
 -- The run of a code was broken off by this fault.
 abbrev pub IsBrokenOff : Tables → Launch → RunFault → CallStreams → CallStreams → Type 0
@@ -40,9 +43,7 @@ IsBrokenOff tables launch fault before after =
 
 -- what is said of a run that was begun so, by what was answered
 abbrev pub AnswersRun : Tables → Launch → Result HeldEnding RunFault → CallStreams → CallStreams → Type 0
-AnswersRun tables launch (Ok ending) before after =
-    RunsTo tables launch (ending_seen ending) before after
-    × PutsReport (ending_seen ending) before.errors after.errors
+AnswersRun tables launch (Ok ending) before after = RunsTo tables launch (ending_seen ending) before after
 AnswersRun tables launch (Err fault) before after = IsBrokenOff tables launch fault before after
 
 -- the same of each run with whose start this machine stands
@@ -53,6 +54,27 @@ AnswersRuns tables m result before after =
     → start tables (launch_of words bounds left)
     ≡ running (stack_seen m) (store_seen tables (outside_of left) m)
     → AnswersRun tables (launch_of words bounds left) result before after
+
+-- The run of a code is over so, over some input, which may be another before each step, with its report behind what it put; the
+-- output has gained what it puts there, and the input was called once for each of its readings.
+pub record RunsOver (tables : Tables) (launch : Launch) (ending : Ending)
+    (before after : CallStreams) : Type 0 where
+  pub report : PutsReport tables launch ending before.errors after.errors
+  pub calls : after.counts.calls ≡ raised before.counts.calls (readings_in report.now.history)
+  pub output : Gains before.output.held after.output.held (output_in report.now.history)
+
+-- what is said of a run whatever the input tells: of one that a fault broke off, that it has put something
+abbrev pub ReportsRun : Tables → Launch → Result HeldEnding RunFault → CallStreams → CallStreams → Type 0
+ReportsRun tables launch (Ok ending) before after = RunsOver tables launch (ending_seen ending) before after
+ReportsRun tables launch (Err fault) before after = GainsSome before after
+
+-- the same of each run with whose start this machine stands
+abbrev pub ReportsRuns : {K : Type 0} → Tables → Machine K → Result HeldEnding RunFault → CallStreams
+    → CallStreams → Type 0
+ReportsRuns tables m result before after = (words : List (List ℕ)) (bounds : Bounds) (left : List ℕ)
+    → start tables (launch_of words bounds left)
+    ≡ running (stack_seen m) (store_seen tables (outside_of left) m)
+    → ReportsRun tables (launch_of words bounds left) result before after
 
 -- A fault is answered where that object has failed for the first time; where it is not, nothing has failed.
 abbrev pub EndsAtFirst : {A : Type 0} → Result A RunFault → CallStreams → CallStreams → Type 0

@@ -1,5 +1,5 @@
 // A run, from its start to its end.
-ghost use Rattle.std.specs.Prelude.{◌≡◌, List, Some, ℕ, IfErr, IfOk, OnOk};
+ghost use Rattle.std.specs.Prelude.{◌≡◌, List, [], Some, ℕ, IfErr, IfOk, OnOk};
 ghost use Rattle.icn_value.specs.Store.{outside_of};
 ghost use Rattle.icn_code.specs.CodeTables.{tables_of};
 ghost use Rattle.icn_streams.specs.Handed.{call_streams};
@@ -7,8 +7,8 @@ ghost use Rattle.icn_control.specs.declared.machine.RunState.TheVariants as RunS
 ghost use Rattle.icn_machine.specs.Starting.{launch_with};
 ghost use Rattle.icn_machine.specs.Stepping.{IsReady};
 ghost use Rattle.icn_running.specs.WorkLeft.{Lasts};
-ghost use Rattle.icn_running.specs.Reported.{PutsReport, ending_seen};
-ghost use Rattle.icn_running.specs.Runs.{AnswersRuns, EndsAtFirst, IsBrokenOff, RunsTo};
+ghost use Rattle.icn_running.specs.Reported.{ending_seen};
+ghost use Rattle.icn_running.specs.Runs.{AnswersRuns, EndsAtFirst, IsBrokenOff, ReportsRun, ReportsRuns, RunsTo};
 
 use crate::endings::{end_run, end_unbegun};
 use crate::fault::RunFault;
@@ -42,17 +42,18 @@ pub fn run<K: Stack<Cell> + Drop, I: Source, O: Sink, E: Sink>(
 ) -> Result<Ending, RunFault>
     ensures ends { IfOk result (λ ending. (left : List ℕ) → I.left input.old ≡ Some left → RunsTo
         (tables_of code.now.code) (launch_with words.now limits (outside_of left)) (ending_seen ending)
-        (call_streams (I.left input.old) (I.faults input.old) (O.state out.old) (E.state err.old))
-        (call_streams (I.left input.new) (I.faults input.new) (O.state out.new) (E.state err.new))) }
+        (call_streams (I.left input.old) (I.counts input.old) (O.state out.old) (E.state err.old))
+        (call_streams (I.left input.new) (I.counts input.new) (O.state out.new) (E.state err.new))) }
     ensures breaks { IfErr result (λ fault. (left : List ℕ) → I.left input.old ≡ Some left
         → IsBrokenOff (tables_of code.now.code) (launch_with words.now limits (outside_of left)) fault
-        (call_streams (I.left input.old) (I.faults input.old) (O.state out.old) (E.state err.old))
-        (call_streams (I.left input.new) (I.faults input.new) (O.state out.new) (E.state err.new))) }
+        (call_streams (I.left input.old) (I.counts input.old) (O.state out.old) (E.state err.old))
+        (call_streams (I.left input.new) (I.counts input.new) (O.state out.new) (E.state err.new))) }
     ensures first_fault { EndsAtFirst result
-        (call_streams (I.left input.old) (I.faults input.old) (O.state out.old) (E.state err.old))
-        (call_streams (I.left input.new) (I.faults input.new) (O.state out.new) (E.state err.new)) }
-    ensures reported { IfOk result (λ ending. (left : List ℕ) → I.left input.old ≡ Some left
-        → PutsReport (ending_seen ending) (E.state err.old) (E.state err.new)) }
+        (call_streams (I.left input.old) (I.counts input.old) (O.state out.old) (E.state err.old))
+        (call_streams (I.left input.new) (I.counts input.new) (O.state out.new) (E.state err.new)) }
+    ensures reported { ReportsRun (tables_of code.now.code) (launch_with words.now limits (outside_of []))
+        result (call_streams (I.left input.old) (I.counts input.old) (O.state out.old) (E.state err.old))
+        (call_streams (I.left input.new) (I.counts input.new) (O.state out.new) (E.state err.new)) }
     ensures settled { O.pending out.old ≡ 0 → E.pending err.old ≡ 0
         → OnOk result ((O.pending out.new ≡ 0) × (E.pending err.new ≡ 0)) }
 {
@@ -75,11 +76,14 @@ fn run_started<K: Stack<Cell> + Drop, I: Source, O: Sink, E: Sink>(
     requires ready { IsReady (tables_of code.now.code) m.old RunStates.Running }
     requires lasts { Lasts (tables_of code.now.code) m.old }
     ensures answers { AnswersRuns (tables_of code.now.code) m.old result
-        (call_streams (I.left input.old) (I.faults input.old) (O.state out.old) (E.state err.old))
-        (call_streams (I.left input.new) (I.faults input.new) (O.state out.new) (E.state err.new)) }
+        (call_streams (I.left input.old) (I.counts input.old) (O.state out.old) (E.state err.old))
+        (call_streams (I.left input.new) (I.counts input.new) (O.state out.new) (E.state err.new)) }
     ensures first_fault { EndsAtFirst result
-        (call_streams (I.left input.old) (I.faults input.old) (O.state out.old) (E.state err.old))
-        (call_streams (I.left input.new) (I.faults input.new) (O.state out.new) (E.state err.new)) }
+        (call_streams (I.left input.old) (I.counts input.old) (O.state out.old) (E.state err.old))
+        (call_streams (I.left input.new) (I.counts input.new) (O.state out.new) (E.state err.new)) }
+    ensures reported { ReportsRuns (tables_of code.now.code) m.old result
+        (call_streams (I.left input.old) (I.counts input.old) (O.state out.old) (E.state err.old))
+        (call_streams (I.left input.new) (I.counts input.new) (O.state out.new) (E.state err.new)) }
     ensures settled { OnOk result ((O.pending out.new ≡ 0) × (E.pending err.new ≡ 0)) }
 {
     runs_hold();

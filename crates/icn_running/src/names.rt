@@ -34,7 +34,7 @@ fn kind_name(code: &Code, kind: u16) -> &[u8]
     }
 }
 
-// The name of a record.
+/// The name of a record.
 pub fn record_name<'a>(code: &'a Code, heap: &Heap, id: u32) -> &'a [u8]
     requires { IsLive (extent_of heap.now) (Rec id) }
     ensures { result.now ≡ record_name (all_names (tables_of code.now)) (heap_of heap.now) id }
@@ -42,7 +42,7 @@ pub fn record_name<'a>(code: &'a Code, heap: &Heap, id: u32) -> &'a [u8]
     kind_name(code, heap.kind(id))
 }
 
-// Whether a number is that of a procedure, a constructor or a function.
+/// Whether a number is that of a procedure, a constructor or a function.
 pub fn has_name(code: &Code, number: u32) -> bool
     ensures { result ≡ nat_lt number (name_count (all_names (tables_of code.now))) }
 {

@@ -5,7 +5,7 @@ ghost use Rattle.icn_vars.specs.Outcomes.{IsLiveHalt};
 ghost use Rattle.icn_streams.specs.Handed.{call_streams};
 ghost use Rattle.icn_control.specs.Machines.{world_reach};
 ghost use Rattle.icn_control.specs.declared.machine.RunState.TheVariants as RunStates;
-ghost use Rattle.icn_machine.specs.Stepping.{Advances, GoesOn, IsReady};
+ghost use Rattle.icn_machine.specs.Stepping.{Advances, GoesOn, IsAny, IsReady};
 ghost use Rattle.icn_machine.specs.AfterInstruction.{stage_of, stage_result};
 ghost use Rattle.icn_running.specs.WorkLeft.{Lasts, MadeTurn};
 ghost use Rattle.icn_running.specs.DueInstructions.{is_on, is_within};
@@ -50,9 +50,9 @@ pub fn run_on<K: Stack<Cell> + Drop, I: Source, O: Sink, E: Sink>(
 ) -> Result<AfterStep, Halt>
     requires ready { IsReady (tables_of code.now.code) m.old RunStates.Running }
     requires lasts { Lasts (tables_of code.now.code) m.old }
-    ensures steps { Advances (tables_of code.now.code) m.old RunStates.Running
-        (call_streams (I.left input.old) (I.faults input.old) (O.state out.old) (E.state err.old)) m.new
-        (call_streams (I.left input.new) (I.faults input.new) (O.state out.new) (E.state err.new))
+    ensures steps { Advances IsAny (tables_of code.now.code) m.old RunStates.Running
+        (call_streams (I.left input.old) (I.counts input.old) (O.state out.old) (E.state err.old)) m.new
+        (call_streams (I.left input.new) (I.counts input.new) (O.state out.new) (E.state err.new))
         (stage_result result) }
     ensures stops { IfOk result (λ stepped. is_on stepped ≡ false) }
     ensures halt { IfErr result (IsLiveHalt (world_reach m.new)) }
@@ -76,9 +76,9 @@ fn run_to_turn<K: Stack<Cell> + Drop, I: Source, O: Sink, E: Sink>(
 ) -> Result<AfterStep, Halt>
     requires ready { IsReady (tables_of code.now.code) m.old RunStates.Running }
     requires lasts { Lasts (tables_of code.now.code) m.old }
-    ensures steps { GoesOn (tables_of code.now.code) m.old RunStates.Running
-        (call_streams (I.left input.old) (I.faults input.old) (O.state out.old) (E.state err.old)) m.new
-        (call_streams (I.left input.new) (I.faults input.new) (O.state out.new) (E.state err.new))
+    ensures steps { GoesOn IsAny (tables_of code.now.code) m.old RunStates.Running
+        (call_streams (I.left input.old) (I.counts input.old) (O.state out.old) (E.state err.old)) m.new
+        (call_streams (I.left input.new) (I.counts input.new) (O.state out.new) (E.state err.new))
         (stage_result result) }
     ensures ready { IfOk result (λ stepped. IsReady (tables_of code.now.code) m.new (stage_of stepped)) }
     ensures lasts { IfOk result (λ stepped. IsTrue (is_on stepped) → Lasts (tables_of code.now.code) m.new) }

@@ -1,5 +1,6 @@
 // Settling both outputs once a run has stopped.
 ghost use Rattle.std.specs.Prelude.{◌≡◌, ℕ, List, Option, OnOk};
+ghost use Rattle.icn_host.specs.Sources.{SourceCounts};
 ghost use Rattle.icn_streams.specs.Handed.{call_streams};
 ghost use Rattle.icn_running.specs.SettledEnds.{SettlesRun, is_broken};
 
@@ -26,9 +27,9 @@ pub fn is_broken(stopped: &Result<AfterStep, Halt>) -> bool
 /// `WriteFault` where one of them failed, `NoMemory` where one wanted memory.
 pub fn settle_outputs<O: Sink, E: Sink>(out: &mut O, err: &mut E) -> Result<(), RunFault>
     ensures settled { OnOk result ((O.pending out.new ≡ 0) × (E.pending err.new ≡ 0)) }
-    ensures settles { (left : Option (List ℕ)) (faults : ℕ)
-        → SettlesRun (call_streams left faults (O.state out.old) (E.state err.old))
-        (call_streams left faults (O.state out.new) (E.state err.new)) result }
+    ensures settles { (left : Option (List ℕ)) (counts : SourceCounts)
+        → SettlesRun (call_streams left counts (O.state out.old) (E.state err.old))
+        (call_streams left counts (O.state out.new) (E.state err.new)) result }
 {
     match settle(out, err) {
         Ok(()) => Ok(()),

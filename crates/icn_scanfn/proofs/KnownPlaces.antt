@@ -8,8 +8,8 @@ use Rattle.std.proofs.lemmas.Int.{to_z_pos}
 use Rattle.icn_value.specs.Values.{Integer, Val}
 use Rattle.icn_value.specs.Store.{Setting}
 use Rattle.icn_defs.specs.Conversions.{contains}
-use Rattle.icn_defs.specs.Rows.{Row, Among, Balanced, Fails, Found, Residual, Suspends, thing_or_failure, passing, suspends}
-use Rattle.icn_defs.specs.Scanning.{SearchedText, among_from, balanced_again, balanced_from, balanced_place, between, byte_behind, count_behind, ends_of, found_from, gives_place, stands}
+use Rattle.icn_defs.specs.Rows.{Row, Among, Balanced, Fails, Found, Residual, Suspends, thing_or_failure, fails_unless, suspends}
+use Rattle.icn_defs.specs.Scanning.{SearchedText, among_from, balanced_again, balanced_from, balanced_position, between, byte_behind, count_behind, ends_of, found_from, gives_position, stands}
 use Rattle.icn_scanfn.specs.Searches.{any_in, many_in, match_in}
 use Rattle.icn_scanfn.proofs.PlaceByPlace.{between_none}
 
@@ -18,50 +18,50 @@ use Rattle.icn_scanfn.proofs.PlaceByPlace.{between_none}
 module _ (region : SearchedText) (setting : Setting) (from to : ℕ)
     (ends : (next : ℕ × ℕ → Row) (setting : Setting) → ends_of region next setting ≡ next (from, to) setting) where
   any_by : (bytes text : List ℕ) (test : Bool) → text ≡ region.text → test ≡ (nat_lt from to && contains bytes (byte_behind text from))
-      → any_in bytes region setting ≡ passing test (gives_place (from + 1)) setting
+      → any_in bytes region setting ≡ fails_unless test (gives_position (from + 1)) setting
   any_by bytes text test same is =
-      ends (λ ends. passing (nat_lt ends.0 ends.1 && contains bytes (byte_behind region.text ends.0)) (gives_place (ends.0 + 1))) setting
-      ∙ ap (λ t. passing t (gives_place (from + 1)) setting) (ap (λ text. nat_lt from to && contains bytes (byte_behind text from)) (sym same) ∙ sym is)
+      ends (λ ends. fails_unless (nat_lt ends.0 ends.1 && contains bytes (byte_behind region.text ends.0)) (gives_position (ends.0 + 1))) setting
+      ∙ ap (λ t. fails_unless t (gives_position (from + 1)) setting) (ap (λ text. nat_lt from to && contains bytes (byte_behind text from)) (sym same) ∙ sym is)
 
   pub any_passes : (bytes text : List ℕ) (test : Bool) → text ≡ region.text → test ≡ (nat_lt from to && contains bytes (byte_behind text from)) → test ≡ true
-      → any_in bytes region setting ≡ gives_place (from + 1) setting
-  any_passes bytes text test same is passes = any_by bytes text test same is ∙ ap (λ t. passing t (gives_place (from + 1)) setting) passes
+      → any_in bytes region setting ≡ gives_position (from + 1) setting
+  any_passes bytes text test same is passes = any_by bytes text test same is ∙ ap (λ t. fails_unless t (gives_position (from + 1)) setting) passes
 
   pub any_fails : (bytes text : List ℕ) (test : Bool) → text ≡ region.text → test ≡ (nat_lt from to && contains bytes (byte_behind text from)) → test ≡ false
       → any_in bytes region setting ≡ Fails setting
-  any_fails bytes text test same is fails = any_by bytes text test same is ∙ ap (λ t. passing t (gives_place (from + 1)) setting) fails
+  any_fails bytes text test same is fails = any_by bytes text test same is ∙ ap (λ t. fails_unless t (gives_position (from + 1)) setting) fails
 
   many_by : (bytes text : List ℕ) (count : ℕ) → text ≡ region.text → count ≡ prefix_len (contains bytes) (between text from to)
-      → many_in bytes region setting ≡ passing (nat_lt 0 count) (gives_place (from + count)) setting
+      → many_in bytes region setting ≡ fails_unless (nat_lt 0 count) (gives_position (from + count)) setting
   many_by bytes text count same is =
-      ends (λ ends. passing (nat_lt 0 (prefix_len (contains bytes) (between region.text ends.0 ends.1)))
-      (gives_place (ends.0 + prefix_len (contains bytes) (between region.text ends.0 ends.1)))) setting
-      ∙ ap (λ n. passing (nat_lt 0 n) (gives_place (from + n)) setting) (ap (λ text. prefix_len (contains bytes) (between text from to)) (sym same) ∙ sym is)
+      ends (λ ends. fails_unless (nat_lt 0 (prefix_len (contains bytes) (between region.text ends.0 ends.1)))
+      (gives_position (ends.0 + prefix_len (contains bytes) (between region.text ends.0 ends.1)))) setting
+      ∙ ap (λ n. fails_unless (nat_lt 0 n) (gives_position (from + n)) setting) (ap (λ text. prefix_len (contains bytes) (between text from to)) (sym same) ∙ sym is)
 
   pub many_passes : (bytes text : List ℕ) (count : ℕ) → text ≡ region.text → count ≡ prefix_len (contains bytes) (between text from to) → 0 < count
-      → many_in bytes region setting ≡ gives_place (from + count) setting
-  many_passes bytes text count same is some = many_by bytes text count same is ∙ ap (λ t. passing t (gives_place (from + count)) setting) (lt-ltb 0 count some)
+      → many_in bytes region setting ≡ gives_position (from + count) setting
+  many_passes bytes text count same is some = many_by bytes text count same is ∙ ap (λ t. fails_unless t (gives_position (from + count)) setting) (lt-ltb 0 count some)
 
   pub many_fails : (bytes text : List ℕ) (count : ℕ) → text ≡ region.text → count ≡ prefix_len (contains bytes) (between text from to) → count ≤ 0
       → many_in bytes region setting ≡ Fails setting
-  many_fails bytes text count same is none = many_by bytes text count same is ∙ ap (λ t. passing t (gives_place (from + count)) setting) (le-ltb 0 count none)
+  many_fails bytes text count same is none = many_by bytes text count same is ∙ ap (λ t. fails_unless t (gives_position (from + count)) setting) (le-ltb 0 count none)
 
   match_by : (wanted bytes text : List ℕ) (test : Bool) → bytes ≡ wanted → text ≡ region.text → test ≡ stands bytes text from to
-      → match_in wanted region setting ≡ passing test (gives_place (from + length bytes)) setting
+      → match_in wanted region setting ≡ fails_unless test (gives_position (from + length bytes)) setting
   match_by wanted bytes text test is_wanted same is =
-      ends (λ ends. passing (stands wanted region.text ends.0 ends.1) (gives_place (ends.0 + length wanted))) setting
-      ∙ (ap (λ wanted. passing (stands wanted region.text from to) (gives_place (from + length wanted)) setting) (sym is_wanted)
-      ∙ ap (λ t. passing t (gives_place (from + length bytes)) setting) (ap (λ text. stands bytes text from to) (sym same) ∙ sym is))
+      ends (λ ends. fails_unless (stands wanted region.text ends.0 ends.1) (gives_position (ends.0 + length wanted))) setting
+      ∙ (ap (λ wanted. fails_unless (stands wanted region.text from to) (gives_position (from + length wanted)) setting) (sym is_wanted)
+      ∙ ap (λ t. fails_unless t (gives_position (from + length bytes)) setting) (ap (λ text. stands bytes text from to) (sym same) ∙ sym is))
 
   pub match_passes : (wanted bytes text : List ℕ) (test : Bool) → bytes ≡ wanted → text ≡ region.text → test ≡ stands bytes text from to → test ≡ true
-      → match_in wanted region setting ≡ gives_place (from + length bytes) setting
+      → match_in wanted region setting ≡ gives_position (from + length bytes) setting
   match_passes wanted bytes text test is_wanted same is passes =
-      match_by wanted bytes text test is_wanted same is ∙ ap (λ t. passing t (gives_place (from + length bytes)) setting) passes
+      match_by wanted bytes text test is_wanted same is ∙ ap (λ t. fails_unless t (gives_position (from + length bytes)) setting) passes
 
   pub match_fails : (wanted bytes text : List ℕ) (test : Bool) → bytes ≡ wanted → text ≡ region.text → test ≡ stands bytes text from to → test ≡ false
       → match_in wanted region setting ≡ Fails setting
   match_fails wanted bytes text test is_wanted same is fails =
-      match_by wanted bytes text test is_wanted same is ∙ ap (λ t. passing t (gives_place (from + length bytes)) setting) fails
+      match_by wanted bytes text test is_wanted same is ∙ ap (λ t. fails_unless t (gives_position (from + length bytes)) setting) fails
 
 -- Searches: what is found is given, and a search that has come to its end finds nothing more
 
@@ -94,18 +94,18 @@ no_more_members bytes text place last setting over =
 
 module _ (wanted opening closing text : List ℕ) (last : ℕ) (setting : Setting) where
   pub balanced_found : (searched : List ℕ) (place count : ℕ) (result : Option ℕ) → searched ≡ text
-      → result ≡ balanced_place wanted opening closing (between searched place last) place count
+      → result ≡ balanced_position wanted opening closing (between searched place last) place count
       → balanced_from wanted opening closing text place last count setting
       ≡ thing_or_failure result (λ place. suspends (Val (Integer (pos place))) (Balanced wanted opening closing text place last)) setting
   balanced_found searched place count result is_text is =
       ap (λ (o : Option ℕ). thing_or_failure o (λ place. suspends (Val (Integer (pos place))) (Balanced wanted opening closing text place last)) setting)
-      (ap (λ text. balanced_place wanted opening closing (between text place last) place count) (sym is_text) ∙ sym is)
+      (ap (λ text. balanced_position wanted opening closing (between text place last) place count) (sym is_text) ∙ sym is)
 
   over : (place : ℕ) → last ≤ place → (counted : Option ℕ)
       → thing_or_failure counted (λ count. balanced_from wanted opening closing text (place + 1) last count) setting ≡ Fails setting
   over place less None = refl
   over place less (Some count) =
-      ap (λ bytes. thing_or_failure (balanced_place wanted opening closing bytes (place + 1) count)
+      ap (λ bytes. thing_or_failure (balanced_position wanted opening closing bytes (place + 1) count)
       (λ place. suspends (Val (Integer (pos place))) (Balanced wanted opening closing text place last)) setting)
       (between_none text (place + 1) last (omega arith))
 

@@ -5,7 +5,7 @@ use Rattle.icn_value.specs.declared.cset.Cset.{Cset}
 use Rattle.icn_value.specs.Csets.{has}
 use Rattle.icn_value.specs.Members.{contains, members_of}
 use Rattle.icn_value.proofs.CsetMembers.{members_pass}
-use Rattle.icn_defs.specs.Scanning.{balanced_place, between, close_one, count_behind}
+use Rattle.icn_defs.specs.Scanning.{balanced_position, between, close_one, count_behind}
 use Rattle.std.specs.Prelude.{◌==◌, ◌&&◌, nat_lt, option_and_then}
 use Rattle.std.proofs.lemmas.Bool.{lt-ltb}
 
@@ -94,27 +94,27 @@ module _ (wanted opening closing text : List ℕ) (at last count : ℕ) (low : 1
   byte = get_or text (at - 1) 0
 
   later : Option ℕ → Option ℕ
-  later counted = option_and_then (λ behind. balanced_place wanted opening closing (between text (at + 1) last) (at + 1) behind) counted
+  later counted = option_and_then (λ behind. balanced_position wanted opening closing (between text (at + 1) last) (at + 1) behind) counted
 
-  balanced_by : balanced_place wanted opening closing (between text at last) at count
+  balanced_by : balanced_position wanted opening closing (between text at last) at count
       ≡ cond ((count == 0) && contains wanted byte) (Some at) (later (count_behind opening closing byte count))
   unfolding byte later
-  balanced_by = ap (λ bytes. balanced_place wanted opening closing bytes at count) (between_from text at last low less high)
+  balanced_by = ap (λ bytes. balanced_position wanted opening closing bytes at count) (between_from text at last low less high)
 
   pub balanced_here : ((count == 0) && contains wanted (get_or text (at - 1) 0)) ≡ true
-      → balanced_place wanted opening closing (between text at last) at count ≡ Some at
+      → balanced_position wanted opening closing (between text at last) at count ≡ Some at
   unfolding byte later
   balanced_here is = balanced_by ∙ ap (λ b. cond b (Some at) (later (count_behind opening closing byte count))) is
 
   pub balanced_later : ((count == 0) && contains wanted (get_or text (at - 1) 0)) ≡ false → (behind : ℕ)
       → count_behind opening closing (get_or text (at - 1) 0) count ≡ Some behind
-      → balanced_place wanted opening closing (between text at last) at count
-      ≡ balanced_place wanted opening closing (between text (at + 1) last) (at + 1) behind
+      → balanced_position wanted opening closing (between text at last) at count
+      ≡ balanced_position wanted opening closing (between text (at + 1) last) (at + 1) behind
   unfolding byte later
   balanced_later absent behind is = balanced_by ∙ (ap (λ b. cond b (Some at) (later (count_behind opening closing byte count))) absent ∙ ap later is)
 
   pub balanced_over : ((count == 0) && contains wanted (get_or text (at - 1) 0)) ≡ false → count_behind opening closing (get_or text (at - 1) 0) count ≡ None
-      → balanced_place wanted opening closing (between text at last) at count ≡ None
+      → balanced_position wanted opening closing (between text at last) at count ≡ None
   unfolding byte later
   balanced_over absent is = balanced_by ∙ (ap (λ b. cond b (Some at) (later (count_behind opening closing byte count))) absent ∙ ap later is)
 

@@ -5,8 +5,8 @@ use Rattle.icn_value.specs.Values.{Value, Chars}
 use Rattle.icn_value.specs.Members.{members_of}
 use Rattle.icn_defs.specs.Arguments.{arg, arg_or, cset, string}
 use Rattle.icn_defs.specs.Conversions.{contains, members}
-use Rattle.icn_defs.specs.Rows.{◌>>=◌, ◌>>◌, Row, Finds, costs_texts, passing}
-use Rattle.icn_defs.specs.Scanning.{SearchedText, among_from, balanced_from, between, byte_behind, ends_of, found_from, gives_place, region_from, stands}
+use Rattle.icn_defs.specs.Rows.{◌>>=◌, ◌>>◌, Row, Finds, costs_texts, fails_unless}
+use Rattle.icn_defs.specs.Scanning.{SearchedText, among_from, balanced_from, between, byte_behind, ends_of, found_from, gives_position, region_from, stands}
 use Rattle.icn_scanfn.specs.Regions.{charged_region}
 use Rattle.icn_scanfn.specs.declared.balancing.Sets.{Sets as HeldSets}
 
@@ -55,23 +55,23 @@ balanced_sets args next = do
 abbrev pub any_in : List ℕ → SearchedText → Row
 any_in bytes region = do
   ends ← ends_of region
-  passing (nat_lt ends.0 ends.1 && contains bytes (byte_behind region.text ends.0))
-  gives_place (ends.0 + 1)
+  fails_unless (nat_lt ends.0 ends.1 && contains bytes (byte_behind region.text ends.0))
+  gives_position (ends.0 + 1)
 
 -- the place behind the first bytes that are of the cset
 abbrev pub many_in : List ℕ → SearchedText → Row
 many_in bytes region = do
   ends ← ends_of region
   let count = prefix_len (contains bytes) (between region.text ends.0 ends.1)
-  passing (nat_lt 0 count)
-  gives_place (ends.0 + count)
+  fails_unless (nat_lt 0 count)
+  gives_position (ends.0 + count)
 
 -- the place behind a text that stands at the first position
 abbrev pub match_in : List ℕ → SearchedText → Row
 match_in wanted region = do
   ends ← ends_of region
-  passing (stands wanted region.text ends.0 ends.1)
-  gives_place (ends.0 + length wanted)
+  fails_unless (stands wanted region.text ends.0 ends.1)
+  gives_position (ends.0 + length wanted)
 
 -- the places at which a text stands
 abbrev pub find_in : List ℕ → SearchedText → Row

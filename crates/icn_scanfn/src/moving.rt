@@ -2,7 +2,7 @@
 ghost use Rattle.std.specs.Prelude.{◌≡◌, ◌≤◌, ◌<◌, ◌+◌, ◌-◌, ◌^◌, ◌+ℤ◌, pos, length, map, IfSome};
 ghost use Rattle.std.specs.List.{All};
 ghost use Rattle.icn_value.specs.Store.{Outside};
-ghost use Rattle.icn_defs.specs.Scanning.{move_row, plain_place, pos_row, tab_row};
+ghost use Rattle.icn_defs.specs.Scanning.{move_row, plain_position, pos_row, tab_row};
 ghost use Rattle.icn_heap.specs.Extents.{IsLive, text_in, value_in};
 ghost use Rattle.icn_heap.specs.Heaps.{extent_of};
 ghost use Rattle.icn_vars.specs.Outcomes.{IsLiveAnswer, IsLiveOutcome, outcome_in};
@@ -13,7 +13,7 @@ ghost use Rattle.icn_scanfn.specs.Moves.{moves_by, tabs_by, tests_position};
 use icn_args::{arg, integer_of, tab_to};
 use icn_heap::short_text;
 use icn_value::{Item, Val};
-use icn_vars::{Halt, Locals, Outcome, World, place_of};
+use icn_vars::{Halt, Locals, Outcome, World, position_of};
 
 /// `tab(i)`: moves to a position of the subject, and gives the bytes between it and the old place; it fails where the position is
 /// out of range. The error is 101.
@@ -41,7 +41,7 @@ fn tab_by<L: Locals>(w: &mut World, l: &L, n: i64) -> Outcome
 {
     short_text(&w.heap, w.pair.subject);
     let size = w.heap.bytes(w.pair.subject).len() as u64;
-    match place_of(n, size) {
+    match position_of(n, size) {
         Some(place) => tab_to(w, l, place),
         None => Outcome::Fails,
     }
@@ -83,7 +83,7 @@ fn move_by<L: Locals>(w: &mut World, l: &L, n: i64) -> Outcome
 fn moved_place(place: u64, n: i64, size: u64) -> Option<u64>
     requires size { size < 2 ^ 63 - 1 }
     requires place { place ≤ size + 1 }
-    ensures value { result ≡ plain_place (pos place +ℤ n) size }
+    ensures value { result ≡ plain_position (pos place +ℤ n) size }
     ensures low { IfSome result (λ moved. 1 ≤ moved) }
     ensures high { IfSome result (λ moved. moved ≤ size + 1) }
 {
@@ -123,7 +123,7 @@ fn position_tested<L: Locals>(w: &World, _l: &L, n: i64) -> Outcome
 {
     short_text(&w.heap, w.pair.subject);
     let size = w.heap.bytes(w.pair.subject).len() as u64;
-    match place_of(n, size) {
+    match position_of(n, size) {
         Some(place) => {
             if place == w.pair.position {
                 Outcome::Gives(Item::Val(Val::Integer(place as i64)))

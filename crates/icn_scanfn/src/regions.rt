@@ -20,7 +20,7 @@ use crate::defaults::first_position;
 use icn_args::{arg, check_text, integer_of, text_of, value_or};
 use icn_heap::{Heap, short_text};
 use icn_value::{Span, Val};
-use icn_vars::{Locals, Stop, World, place_of};
+use icn_vars::{Locals, Stop, World, position_of};
 
 // A value that has a text, and two positions in that text.
 #[derive(Clone, Copy, Debug, PartialEq, Eq)]
@@ -123,7 +123,7 @@ fn ordered_places(first: i64, last: i64, size: u64) -> Option<(u64, u64)>
     ensures order { IfSome result (λ ends. ends.0 ≤ ends.1) }
     ensures high { IfSome result (λ ends. ends.1 ≤ size + 1) }
 {
-    let a = place_of(first, size)?;
-    let b = place_of(last, size)?;
+    let a = position_of(first, size)?;
+    let b = position_of(last, size)?;
     if a <= b { Some((a, b)) } else { Some((b, a)) }
 }

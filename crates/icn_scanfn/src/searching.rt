@@ -2,7 +2,7 @@
 ghost use Rattle.std.specs.Prelude.{◌≡◌, ◌==◌, ◌&&◌, ◌+◌, ◌-◌, ◌<◌, ◌≤◌, ◌^◌, length, IfSome};
 ghost use Rattle.std.specs.List.{find, prefix_len, range_with_len};
 ghost use Rattle.icn_value.specs.Members.{contains, members_of};
-ghost use Rattle.icn_defs.specs.Scanning.{balanced_place, between, byte_behind, count_behind, stands};
+ghost use Rattle.icn_defs.specs.Scanning.{balanced_position, between, byte_behind, count_behind, stands};
 
 use icn_value::Cset;
 use memchr::memmem;
@@ -98,7 +98,7 @@ pub fn next_balanced(
     requires low { 1 ≤ place }
     requires high { last ≤ length text.now + 1 }
     requires count { count ≤ place }
-    ensures value { result ≡ balanced_place (members_of wanted.now) (members_of opening.now)
+    ensures value { result ≡ balanced_position (members_of wanted.now) (members_of opening.now)
         (members_of closing.now) (between text.now place last) place count }
     ensures within { IfSome result (λ found. (1 ≤ found) × (found < last)) }
 {

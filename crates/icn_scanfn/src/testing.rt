@@ -3,7 +3,7 @@ ghost use Rattle.std.specs.Prelude.{◌≡◌, ◌&&◌, ◌^◌, ◌<◌, ◌�
 ghost use Rattle.std.specs.List.{All};
 ghost use Rattle.icn_value.specs.Members.{contains, members_of};
 ghost use Rattle.icn_value.specs.Store.{Outside, Setting};
-ghost use Rattle.icn_defs.specs.Scanning.{any_row, byte_behind, gives_place, many_row, match_row};
+ghost use Rattle.icn_defs.specs.Scanning.{any_row, byte_behind, gives_position, many_row, match_row};
 ghost use Rattle.icn_heap.specs.Extents.{Extent, IsLive, IsText, text_in, value_in};
 ghost use Rattle.icn_heap.specs.Heaps.{extent_of};
 ghost use Rattle.icn_vars.specs.Outcomes.{IsLiveAnswer, IsLiveOutcome, outcome_in};
@@ -146,7 +146,7 @@ fn match_in(heap: &Heap, wanted: Span, searched: Searched) -> Outcome
 fn place_given(place: u64) -> Outcome
     requires { place < 2 ^ 63 }
     ensures row { (all : Extent) (setting : Setting)
-        → gives_place place setting ≡ outcome_in all result setting }
+        → gives_position place setting ≡ outcome_in all result setting }
     ensures live { (reach : Reach) → IsLiveOutcome reach result }
 {
     Outcome::Gives(Item::Val(Val::Integer(place as i64)))

@@ -35,7 +35,7 @@ leaves_sink_refl a = record { held = keeps_held a.held; counts = keeps_counts_re
 
 -- streams that are left alone
 pub leaves_streams_refl : (a : CallStreams) → LeavesStreams a a
-leaves_streams_refl a = record { left = refl; faults = refl; output = leaves_sink_refl a.output; errors = leaves_sink_refl a.errors }
+leaves_streams_refl a = record { left = refl; faults = refl; calls = refl; output = leaves_sink_refl a.output; errors = leaves_sink_refl a.errors }
 
 -- a row was not begun
 pub not_begun : (row : Row) (all : CallState) → All (IsLive (extent_of all.world.heap)) all.locals → Applies row all all (Err NoMemory)

@@ -6,3 +6,4 @@ pub mod SomeInput
 pub mod ReadRows
 pub mod RowAnswers
 pub mod SettledRows
+pub mod InputCounts

@@ -6,7 +6,7 @@ use Rattle.icn_value.specs.Store.{Request, ALine, SomeBytes, Outside, Setting, w
 use Rattle.icn_defs.specs.Calls.{Passes}
 use Rattle.icn_defs.specs.Interruptions.{LosesPart, asked_of, after_reading}
 use Rattle.icn_defs.specs.Lines.{takes_input}
-use Rattle.icn_defs.specs.Rows.{Row, Fails, passing, costs_bytes}
+use Rattle.icn_defs.specs.Rows.{Row, Fails, fails_unless, costs_bytes}
 use Rattle.icn_heap.specs.Extents.{text_in}
 use Rattle.icn_heap.specs.Heaps.{extent_of}
 use Rattle.icn_vars.specs.Stops.{StopsPassing, halt_of}
@@ -26,11 +26,11 @@ pub next_there : (asked : Request) (next : List ℕ → Row) (s : Setting) → i
     → next_read asked next s
     ≡ costs_bytes (length (read_of asked s.outside.left)) (next (read_of asked s.outside.left)) (record s { outside = after_reading asked s.outside })
 next_there ALine next s is =
-    ap (λ b. passing b (takes_input (length (take_while (λ byte. not (byte == 10)) s.outside.left) + 1)
+    ap (λ b. fails_unless b (takes_input (length (take_while (λ byte. not (byte == 10)) s.outside.left) + 1)
     (costs_bytes (length (take_while (λ byte. not (byte == 10)) s.outside.left)) (next (take_while (λ byte. not (byte == 10)) s.outside.left))))
     (record s { outside = with_reading ALine s.outside })) is
 next_there (SomeBytes count) next s is =
-    ap (λ b. passing b (takes_input (length (take count s.outside.left)) (costs_bytes (length (take count s.outside.left)) (next (take count s.outside.left))))
+    ap (λ b. fails_unless b (takes_input (length (take count s.outside.left)) (costs_bytes (length (take count s.outside.left)) (next (take count s.outside.left))))
     (record s { outside = with_reading (SomeBytes count) s.outside })) is
     ∙ ap (λ left. costs_bytes (length (take count s.outside.left)) (next (take count s.outside.left))
     (record s { outside = record (with_reading (SomeBytes count) s.outside) { left = left } })) (drop_taken count s.outside.left)
@@ -39,11 +39,11 @@ next_there (SomeBytes count) next s is =
 pub next_gone : (asked : Request) (next : List ℕ → Row) (s : Setting) → is_there asked s.outside.left ≡ false
     → next_read asked next s ≡ Fails (record s { outside = with_reading asked s.outside })
 next_gone ALine next s is =
-    ap (λ b. passing b (takes_input (length (take_while (λ byte. not (byte == 10)) s.outside.left) + 1)
+    ap (λ b. fails_unless b (takes_input (length (take_while (λ byte. not (byte == 10)) s.outside.left) + 1)
     (costs_bytes (length (take_while (λ byte. not (byte == 10)) s.outside.left)) (next (take_while (λ byte. not (byte == 10)) s.outside.left))))
     (record s { outside = with_reading ALine s.outside })) is
 next_gone (SomeBytes count) next s is =
-    ap (λ b. passing b (takes_input (length (take count s.outside.left)) (costs_bytes (length (take count s.outside.left)) (next (take count s.outside.left))))
+    ap (λ b. fails_unless b (takes_input (length (take count s.outside.left)) (costs_bytes (length (take count s.outside.left)) (next (take count s.outside.left))))
     (record s { outside = with_reading (SomeBytes count) s.outside })) is
 
 -- where nothing is there nothing is taken
@@ -75,11 +75,13 @@ module _ (asked : Request) (was : Outside) (before after : CallState) where
   )
 
   pub reads_none : (there : Bool) (bytes : List ℕ) → Fills asked was.left there bytes after.handed.left → there ≡ false
-      → setting_with (with_reading asked was) before ≡ setting_with (with_reading asked was) after
+      → setting_with (after_reading asked was) before ≡ setting_with (after_reading asked was) after
       → Reads asked was before after (Ok None)
   reads_none there bytes fills missed same = (
-    λ next. next_gone asked next (setting_with was before) (sym fills.found ∙ missed) ∙ ap Fails same,
-    fills.rest ∙ ap Some (rest_gone asked was.left (sym fills.found ∙ missed)),
+    λ next. next_gone asked next (setting_with was before) (sym fills.found ∙ missed)
+        ∙ (ap (λ (left : List ℕ). Fails (setting_with (record (with_reading asked was) { left = left }) before))
+        (sym (rest_gone asked was.left (sym fills.found ∙ missed))) ∙ ap Fails same),
+    fills.rest,
   )
 
   refused : (there : Bool) (held bytes : List ℕ) (stop : Stop) → Fills asked was.left there held after.handed.left → there ≡ true → bytes ≡ held

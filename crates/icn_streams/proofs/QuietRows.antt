@@ -1,10 +1,15 @@
 -- A row that neither reads nor puts, as one over the input and the outputs.
-use Rattle.std.proofs.Common.{◌≡◌, sym, ap, List, [], Result, Ok, Err, Some}
+use Rattle.std.proofs.Common.{◌≡◌, refl, sym, ap, List, [], Result, Ok, Err, Some}
 use Rattle.std.specs.List.{All}
-use Rattle.icn_value.specs.Store.{Outside, outside_of}
-use Rattle.icn_defs.specs.Rows.{Row}
+use Rattle.icn_value.specs.Store.{Outside, Setting, outside_of}
+use Rattle.icn_value.specs.Values.{Std}
+use Rattle.icn_defs.specs.Lines.{lines_row}
+use Rattle.icn_defs.specs.Rows.{Row, Error}
 use Rattle.icn_heap.specs.Extents.{IsLive}
 use Rattle.icn_heap.specs.Heaps.{extent_of}
+use Rattle.icn_heap.specs.Keys.{file_of}
+use Rattle.icn_value.specs.declared.val.File.{File}
+use Rattle.icn_value.specs.declared.val.File.TheVariants.{Input, Output, Errout}
 use Rattle.icn_value.specs.declared.val.Val.{Val}
 use Rattle.icn_vars.specs.Outcomes.{ComesToAnswer, IsLiveAnswer}
 use Rattle.icn_vars.specs.Worlds.{KeepsItems, reach_of, setting_of}
@@ -53,3 +58,9 @@ module _ (row : Row) (old new : World) (locals locals' : List Val) (handed : Cal
     locals = lives;
     kept = kept;
   }
+
+-- a file that is not the input has no lines to be read
+pub lines_refused : (file : File) (s : Setting) → (file ≡ Input → ⊥) → lines_row (file_of file) s ≡ Error 212 (Some (Std (file_of file))) s
+lines_refused Input s other = absurd (other refl)
+lines_refused Output s other = refl
+lines_refused Errout s other = refl

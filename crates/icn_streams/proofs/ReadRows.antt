@@ -1,15 +1,15 @@
 -- Rows that read once.
-use Rattle.std.proofs.Common.{◌≡◌, ◌∙◌, refl, sym, ap, append-nil, ℕ, ◌+◌, nat_lt, Bool, true, false, List, [], length, take, take_while, Option, None, Some, Result, Ok, Err}
+use Rattle.std.proofs.Common.{◌≡◌, ◌∙◌, refl, sym, ap, ℕ, ◌+◌, nat_lt, Bool, true, false, List, [], ◌∷◌, length, take, take_while, Option, None, Some, Result, Ok, Err}
 use Rattle.std.specs.Prelude.{◌==◌, not, IsErrAnd}
 use Rattle.std.proofs.Common.{subst}
 use Rattle.std.specs.List.{All}
 use Rattle.icn_host.specs.Sinks.{SinkState}
 use Rattle.icn_value.specs.declared.val.Span.{Span}
 use Rattle.icn_value.specs.declared.val.Val.{Val}
-use Rattle.icn_value.specs.Store.{Request, ALine, SomeBytes, Outside, Setting, Reading, with_reading}
+use Rattle.icn_value.specs.Store.{Request, ALine, SomeBytes, Event, AReading, Outside, Setting, with_reading}
 use Rattle.icn_defs.specs.Interruptions.{after_reading}
 use Rattle.icn_defs.specs.Lines.{takes_input}
-use Rattle.icn_defs.specs.Rows.{Row, passing, check, costs_bytes, changes_heap}
+use Rattle.icn_defs.specs.Rows.{Row, fails_unless, check, costs_bytes, changes_heap}
 use Rattle.icn_heap.specs.Extents.{IsLive, text_in}
 use Rattle.icn_heap.specs.Heaps.{extent_of}
 use Rattle.icn_vars.specs.Outcomes.{IsLiveHalt, IsLiveOutcome, outcome_in}
@@ -19,55 +19,58 @@ use Rattle.icn_vars.specs.declared.outcome.Outcome.TheVariants.{Fails as HeldFai
 use Rattle.icn_vars.specs.declared.outcome.Halt.{Halt}
 use Rattle.icn_vars.specs.declared.outcome.Halt.TheVariants.{Error as ErrorHalt, Ends as EndsHalt, ReadFault, WriteFault, NoMemory}
 use Rattle.icn_vars.specs.declared.world.World.{World}
-use Rattle.icn_streams.specs.Handed.{Follows, call_streams, uncounted}
+use Rattle.icn_host.specs.Counts.{one_more}
+use Rattle.icn_host.specs.Sources.{SourceCounts}
+use Rattle.icn_streams.specs.Handed.{Follows, call_streams, faults_of, uncounted, input_wants as wants_there}
 use Rattle.icn_streams.specs.Answers.{Answers, CausedBy, call_state, outside_after, reading}
 use Rattle.icn_streams.specs.Applies.{Applies}
-use Rattle.icn_streams.specs.Readings.{InputCause, Reads, ReadsOfSome, next_read}
+use Rattle.icn_streams.specs.Readings.{InputCause, Reads, ReadsOfSome, input_wants, next_read, others_want}
 use Rattle.icn_host.proofs.SinkSteps.{gains_nothing}
+use Rattle.icn_defs.proofs.Interruptions.{extends_read}
 use Rattle.icn_streams.proofs.IdleCalls.{keeps_counts_refl, leaves_sink_refl}
 
 -- Behind the reading nothing more is read or put.
 pub record IsQuiet (next : List ℕ → Row) : Type 0 where
   pub outside : (text : List ℕ) (s : Setting) → outside_after (next text s) ≡ s.outside
 
-checked : (t : Bool) (next : Row) (s : Setting) (readings : List Reading) → s.outside.readings ≡ readings
-    → ((s : Setting) → s.outside.readings ≡ readings → (outside_after (next s)).readings ≡ readings)
-    → (count : ℕ) → (outside_after (check t 306 None (changes_heap (λ heap. record heap { strings = heap.strings + count }) next) s)).readings ≡ readings
-checked true next s readings same rest count = rest _ same
-checked false next s readings same rest count = same
+checked : (t : Bool) (next : Row) (s : Setting) (history : List Event) → s.outside.history ≡ history
+    → ((s : Setting) → s.outside.history ≡ history → (outside_after (next s)).history ≡ history)
+    → (count : ℕ) → (outside_after (check t 306 None (changes_heap (λ heap. record heap { strings = heap.strings + count }) next) s)).history ≡ history
+checked true next s history same rest count = rest _ same
+checked false next s history same rest count = same
 
-passed : (t : Bool) (next : Row) (s : Setting) (readings : List Reading) → s.outside.readings ≡ readings
-    → (outside_after (next s)).readings ≡ readings → (outside_after (passing t next s)).readings ≡ readings
-passed true next s readings same rest = rest
-passed false next s readings same rest = same
+passed : (t : Bool) (next : Row) (s : Setting) (history : List Event) → s.outside.history ≡ history
+    → (outside_after (next s)).history ≡ history → (outside_after (fails_unless t next s)).history ≡ history
+passed true next s history same rest = rest
+passed false next s history same rest = same
 
--- The row reads once.
-reads_once : (asked : Request) (next : List ℕ → Row) (quiet : IsQuiet next) (s : Setting)
-    → (outside_after (next_read asked next s)).readings ≡ (with_reading asked s.outside).readings
+-- The row reads once, and does nothing else.
+pub reads_once : (asked : Request) (next : List ℕ → Row) (quiet : IsQuiet next) (s : Setting)
+    → (outside_after (next_read asked next s)).history ≡ (with_reading asked s.outside).history
 reads_once ALine next quiet s =
     let line : List ℕ = take_while (λ byte. not (byte == 10)) s.outside.left in
     passed (nat_lt 0 (length s.outside.left)) (takes_input (length line + 1) (costs_bytes (length line) (next line)))
     (record s { outside = with_reading ALine s.outside })
-    (with_reading ALine s.outside).readings refl
-    (checked _ (next line) (record s { outside = after_reading ALine s.outside }) (with_reading ALine s.outside).readings refl
-    (λ s' same. ap (λ (o : Outside). o.readings) (quiet.outside line s') ∙ same) (length line))
+    (with_reading ALine s.outside).history refl
+    (checked _ (next line) (record s { outside = after_reading ALine s.outside }) (with_reading ALine s.outside).history refl
+    (λ s' same. ap (λ (o : Outside). o.history) (quiet.outside line s') ∙ same) (length line))
 reads_once (SomeBytes count) next quiet s =
     let bytes : List ℕ = take count s.outside.left in
     passed (nat_lt 0 (length bytes)) (takes_input (length bytes) (costs_bytes (length bytes) (next bytes)))
     (record s { outside = with_reading (SomeBytes count) s.outside })
-    (with_reading (SomeBytes count) s.outside).readings refl
-    (checked _ (next bytes) _ (with_reading (SomeBytes count) s.outside).readings refl
-    (λ s' same. ap (λ (o : Outside). o.readings) (quiet.outside bytes s') ∙ same) (length bytes))
+    (with_reading (SomeBytes count) s.outside).history refl
+    (checked _ (next bytes) _ (with_reading (SomeBytes count) s.outside).history refl
+    (λ s' same. ap (λ (o : Outside). o.history) (quiet.outside bytes s') ∙ same) (length bytes))
 
 module _ (asked : Request) (next : List ℕ → Row) (quiet : IsQuiet next) (old new : World) (locals : List Val) (left left' : Option (List ℕ))
-    (faults faults' : ℕ) (output errors : SinkState) where
+    (faults faults' : SourceCounts) (called : faults'.calls ≡ one_more faults.calls) (output errors : SinkState) where
   -- it follows the outside, whatever the input tells
-  was_read : (tells tells' : Option (List ℕ)) (was now : Outside) → tells' ≡ Some now.left → now.output ≡ was.output → now.errors ≡ was.errors
-      → Follows (call_streams tells faults output errors) (call_streams tells' faults' output errors) was now
-  was_read tells tells' was now told same_output same_errors = record {
-    left = told;
-    output = record { text = []; is = same_output ∙ sym (append-nil was.output); gains = gains_nothing output.held };
-    errors = record { text = []; is = same_errors ∙ sym (append-nil was.errors); gains = gains_nothing errors.held };
+  was_read : (tells tells' : Option (List ℕ)) (was : Outside) → tells' ≡ Some (after_reading asked was).left
+      → Follows (call_streams tells faults output errors) (call_streams tells' faults' output errors) was (after_reading asked was)
+  was_read tells tells' was told = record {
+    done = AReading asked ∷ [];
+    extends = extends_read was asked;
+    stands = record { rest = told; calls = called; output = gains_nothing output.held; errors = gains_nothing errors.held };
   }
 
   halted : (tells tells' : Option (List ℕ)) (was : Outside) (halt : Halt) → Reads asked was (call_state old locals (call_streams tells faults output errors))
@@ -75,22 +78,22 @@ module _ (asked : Request) (next : List ℕ → Row) (quiet : IsQuiet next) (old
       → Answers (next_read asked next) was (call_state old locals (call_streams tells faults output errors))
       (call_state new locals (call_streams tells' faults' output errors)) (Err halt)
   halted tells tells' was (ErrorHalt number offending) reads =
-      record { now = after_reading asked was; follows = was_read tells tells' was (after_reading asked was) reads.1 refl refl; comes = reads.0 next }
+      record { now = after_reading asked was; follows = was_read tells tells' was reads.1; comes = reads.0 next }
   halted tells tells' was (EndsHalt status) reads = absurd reads
   halted tells tells' was ReadFault reads = record {
+    done = [];
     asked = asked;
-    made = reads_once asked next quiet _;
-    left = reads;
-    output = leaves_sink_refl output;
-    errors = leaves_sink_refl errors;
+    due = [];
+    are = reads_once asked next quiet _;
+    stands = record { rest = reads; calls = called; output = gains_nothing output.held; errors = gains_nothing errors.held };
   }
   halted tells tells' was WriteFault reads = absurd reads
   halted tells tells' was NoMemory reads = reading (record {
+    done = [];
     asked = asked;
-    made = reads_once asked next quiet _;
-    left = reads;
-    output = leaves_sink_refl output;
-    errors = leaves_sink_refl errors;
+    due = [];
+    are = reads_once asked next quiet _;
+    stands = record { rest = reads; calls = called; output = gains_nothing output.held; errors = gains_nothing errors.held };
   })
 
   halt_caused : (halt : Halt) → InputCause faults faults' (Err halt)
@@ -99,7 +102,8 @@ module _ (asked : Request) (next : List ℕ → Row) (quiet : IsQuiet next) (old
   halt_caused (EndsHalt status) cause = absurd cause
   halt_caused ReadFault cause = record { faults = cause; output = leaves_sink_refl output; errors = leaves_sink_refl errors }
   halt_caused WriteFault cause = absurd cause
-  halt_caused NoMemory cause = uncounted (record { faults = cause; output = keeps_counts_refl output; errors = keeps_counts_refl errors })
+  halt_caused NoMemory (others_want same) = uncounted (record { faults = same; output = keeps_counts_refl output; errors = keeps_counts_refl errors })
+  halt_caused NoMemory (input_wants rose) = wants_there rose (keeps_counts_refl output) (keeps_counts_refl errors)
 
   -- the reading was not made, or an error of the row
   pub read_halts : (halt : Halt) (result : Result Outcome Halt) → IsErrAnd result (λ other. other ≡ halt)
@@ -131,7 +135,7 @@ module _ (asked : Request) (next : List ℕ → Row) (quiet : IsQuiet next) (old
       (call_state new locals (call_streams tells' faults' output errors)) (Ok outcome)
   given_by tells tells' span outcome goes was reads = record {
     now = after_reading asked was;
-    follows = was_read tells tells' was (after_reading asked was) reads.1 refl refl;
+    follows = was_read tells tells' was reads.1;
     comes = reads.0 next ∙ goes _;
   }
 
@@ -141,8 +145,8 @@ module _ (asked : Request) (next : List ℕ → Row) (quiet : IsQuiet next) (old
       → Answers (next_read asked next) was (call_state old locals (call_streams tells faults output errors))
       (call_state new locals (call_streams tells' faults' output errors)) (Ok HeldFails)
   failed_by tells tells' was reads = record {
-    now = with_reading asked was;
-    follows = was_read tells tells' was (with_reading asked was) reads.1 refl refl;
+    now = after_reading asked was;
+    follows = was_read tells tells' was reads.1;
     comes = reads.0 next;
   }
 
@@ -153,7 +157,7 @@ module _ (asked : Request) (next : List ℕ → Row) (quiet : IsQuiet next) (old
       (call_state new locals (call_streams left' faults' output errors)) (Ok found))
       → ReadsOfSome asked (call_state old locals (call_streams left faults output errors)) (call_state new locals (call_streams left' faults' output errors))
       (Ok found)
-      → faults' ≡ faults → IsLiveOutcome (reach_of new locals) outcome → All (IsLive (extent_of new.heap)) locals
+      → faults_of faults' ≡ faults_of faults → IsLiveOutcome (reach_of new locals) outcome → All (IsLive (extent_of new.heap)) locals
       → KeepsItems (reach_of old locals) (reach_of new locals)
       → Applies (next_read asked next) (call_state old locals (call_streams left faults output errors))
       (call_state new locals (call_streams left' faults' output errors)) (Ok outcome)
@@ -179,7 +183,7 @@ module _ (asked : Request) (next : List ℕ → Row) (quiet : IsQuiet next) (old
       (call_state old locals (call_streams left faults output errors)) (call_state new locals (call_streams left' faults' output errors)) (Ok found))
       → ReadsOfSome asked (call_state old locals (call_streams left faults output errors)) (call_state new locals (call_streams left' faults' output errors))
       (Ok found)
-      → faults' ≡ faults → All (IsLive (extent_of new.heap)) locals → KeepsItems (reach_of old locals) (reach_of new locals)
+      → faults_of faults' ≡ faults_of faults → All (IsLive (extent_of new.heap)) locals → KeepsItems (reach_of old locals) (reach_of new locals)
       → Applies (next_read asked next) (call_state old locals (call_streams left faults output errors))
       (call_state new locals (call_streams left' faults' output errors)) (Ok HeldFails)
   read_fails found same reads some cause lives kept = record {

@@ -12,7 +12,8 @@ use Rattle.icn_vars.specs.declared.outcome.Halt.{Halt}
 use Rattle.icn_vars.specs.declared.outcome.Halt.TheVariants.{Error as ErrorHalt, Ends as EndsHalt, ReadFault, WriteFault, NoMemory}
 use Rattle.icn_vars.specs.declared.stop.Stop.{Stop}
 use Rattle.icn_vars.specs.declared.stop.Stop.TheVariants.{Error as ErrorStop, NoMemory as NoMemoryStop}
-use Rattle.icn_streams.specs.Handed.{CallStreams, PutsPart, uncounted}
+use Rattle.icn_defs.specs.Interruptions.{BreaksBetween, BreaksReading}
+use Rattle.icn_streams.specs.Handed.{CallStreams, streams_of, uncounted}
 use Rattle.icn_streams.specs.Answers.{Answers, CallState, Stops, StopsPutting, StopsReading, idle, outside_after, putting, reading, setting_with, with_left}
 use Rattle.icn_streams.specs.Applies.{Applies, reach_given}
 use Rattle.icn_streams.proofs.CallSequences.{follows_all}
@@ -22,20 +23,12 @@ use Rattle.icn_streams.proofs.IdleCalls.{keeps_all_counts_refl, keeps_items_refl
 
 module _ (row rest : Row) (at : Setting) (same : row at ≡ rest at) (before after : CallStreams) where
   reading_same : StopsReading rest at before after → StopsReading row at before after
-  reading_same stops = record {
-    asked = stops.asked;
-    made = ap (λ (o : Outcome). (outside_after o).readings) same ∙ stops.made;
-    left = stops.left;
-    output = stops.output;
-    errors = stops.errors;
-  }
+  reading_same stops =
+      subst (λ (o : Outcome). BreaksReading at.outside (outside_after o) (streams_of before) (streams_of after)) (sym same) stops
 
   putting_same : StopsPutting rest at before after → StopsPutting row at before after
-  putting_same stops = record {
-    left = stops.left;
-    output = subst (λ (o : Outcome). PutsPart before.output after.output at.outside.output (outside_after o).output) (sym same) stops.output;
-    errors = subst (λ (o : Outcome). PutsPart before.errors after.errors at.outside.errors (outside_after o).errors) (sym same) stops.errors;
-  }
+  putting_same stops =
+      subst (λ (o : Outcome). BreaksBetween at.outside (outside_after o) (streams_of before) (streams_of after)) (sym same) stops
 
   stops_same : Stops rest at before after → Stops row at before after
   stops_same (idle is) = idle is

@@ -1,15 +1,17 @@
 -- Rows before which both outputs are settled.
-use Rattle.std.proofs.Common.{◌≡◌, ◌∙◌, refl, sym, ap, subst, append-nil, ℕ, ◌+◌, nat_lt, Bool, true, false, List, [], length, take, drop, take_while, Option, None, Some, Result, Ok, Err}
-use Rattle.std.specs.Prelude.{◌==◌, not, IsErrAnd}
-use Rattle.std.specs.Io.KnownBytes.{Keeps}
+use Rattle.std.proofs.Common.{◌≡◌, ◌∙◌, refl, sym, ap, subst, ℕ, List, [], ◌∷◌, ◌++◌, Option, Some, Result, Ok, Err}
+use Rattle.std.specs.Prelude.{IsErrAnd}
 use Rattle.std.specs.List.{All}
 use Rattle.icn_host.specs.Counts.{one_more}
 use Rattle.icn_host.specs.Sinks.{SinkState}
-use Rattle.icn_host.proofs.KeptSteps.{keeps_again, keeps_gains, keeps_part, part_kept}
+use Rattle.icn_host.specs.Sources.{SourceCounts}
+use Rattle.icn_host.proofs.KeptSteps.{gains_keeps, keeps_again}
+use Rattle.icn_host.proofs.SinkSteps.{gains_nothing}
 use Rattle.icn_value.specs.declared.val.Val.{Val}
-use Rattle.icn_value.specs.Store.{Request, ALine, SomeBytes, Outside, Setting, with_reading}
-use Rattle.icn_defs.specs.Lines.{takes_input}
-use Rattle.icn_defs.specs.Rows.{Row, InputLines, passing, check, costs_bytes, changes_heap, suspends}
+use Rattle.icn_value.specs.Store.{ALine, AReading, Event, Outside, Request, Setting}
+use Rattle.icn_defs.specs.Rows.{Row, InputLines, suspends}
+use Rattle.icn_defs.specs.Interruptions.{StandsBehind}
+use Rattle.icn_defs.proofs.Interruptions.{kept_in_reading, kept_stands}
 use Rattle.icn_value.specs.Values.{Text, Val as ValItem}
 use Rattle.icn_heap.specs.Extents.{IsLive}
 use Rattle.icn_heap.specs.Heaps.{extent_of}
@@ -20,58 +22,26 @@ use Rattle.icn_vars.specs.declared.stop.Stop.{Stop}
 use Rattle.icn_vars.specs.declared.stop.Stop.TheVariants.{Error as ErrorStop, NoMemory as NoMemoryStop}
 use Rattle.icn_vars.specs.declared.world.World.{World}
 use Rattle.icn_vars.specs.Stops.{halt_of}
-use Rattle.icn_streams.specs.Handed.{CallStreams, FailsOnce, Follows, KeepsAllCounts, KeepsFaultCounts, LeavesSink, LeavesStreams, PutsAdded, PutsPart, ReadingFails, WantsMemory, WantsOnce, WritingFails, call_streams, errors_fail, errors_want, output_fails, output_wants, uncounted}
+use Rattle.icn_streams.specs.Handed.{CallStreams, FailsOnce, Follows, KeepsAllCounts, KeepsFaultCounts, LeavesSink, LeavesStreams, ReadingFails, WantsMemory, WantsOnce, WritingFails, call_streams, errors_fail, errors_want, failed_once, input_wants, output_fails, output_wants, streams_of, uncounted, wanted_once}
 use Rattle.icn_streams.specs.Answers.{Answers, CallState, CausedBy, Stops, StopsPutting, StopsReading, call_state, idle, outside_after, putting, reading, setting_with, with_left}
 use Rattle.icn_streams.specs.Applies.{Applies}
 use Rattle.icn_streams.specs.Readings.{next_read}
 use Rattle.icn_streams.specs.Settling.{HoldsBoth, IsSettled, IsSettledWhereRead, Settles, SettlesSink}
 use Rattle.icn_streams.proofs.IdleCalls.{keeps_items_refl, leaves_sink_refl}
-use Rattle.icn_streams.proofs.ReadRows.{IsQuiet}
+use Rattle.icn_streams.proofs.ReadRows.{IsQuiet, reads_once}
 
--- Rows that put nothing
+-- Rows that read
 
-pub record PutsNothing (row : Row) : Type 0 where
-  pub output : (s : Setting) → (outside_after (row s)).output ≡ s.outside.output
-  pub errors : (s : Setting) → (outside_after (row s)).errors ≡ s.outside.errors
-
-module _ (part : Outside → List ℕ) where
-  checked : (t : Bool) (next : Row) (s : Setting) (bytes : List ℕ) → part s.outside ≡ bytes
-      → ((s : Setting) → part s.outside ≡ bytes → part (outside_after (next s)) ≡ bytes) → (count : ℕ)
-      → part (outside_after (check t 306 None (changes_heap (λ heap. record heap { strings = heap.strings + count }) next) s)) ≡ bytes
-  checked true next s bytes same rest count = rest _ same
-  checked false next s bytes same rest count = same
-
-  passed : (t : Bool) (next : Row) (s : Setting) (bytes : List ℕ) → part s.outside ≡ bytes → part (outside_after (next s)) ≡ bytes
-      → part (outside_after (passing t next s)) ≡ bytes
-  passed true next s bytes same rest = rest
-  passed false next s bytes same rest = same
-
-  reads_keep : (asked : Request) (next : List ℕ → Row) (quiet : IsQuiet next) (s : Setting)
-      → ((left : List ℕ) → part (record (with_reading asked s.outside) { left = left }) ≡ part s.outside)
-      → part (outside_after (next_read asked next s)) ≡ part s.outside
-  reads_keep ALine next quiet s same =
-      let line : List ℕ = take_while (λ byte. not (byte == 10)) s.outside.left in
-      passed (nat_lt 0 (length s.outside.left)) (takes_input (length line + 1) (costs_bytes (length line) (next line)))
-      (record s { outside = with_reading ALine s.outside }) (part s.outside) (same s.outside.left)
-      (checked _ (next line) (record s { outside = record (with_reading ALine s.outside) { left = drop (length line + 1) s.outside.left } })
-      (part s.outside) (same (drop (length line + 1) s.outside.left))
-      (λ s' kept. ap part (quiet.outside line s') ∙ kept) (length line))
-  reads_keep (SomeBytes count) next quiet s same =
-      let bytes : List ℕ = take count s.outside.left in
-      passed (nat_lt 0 (length bytes)) (takes_input (length bytes) (costs_bytes (length bytes) (next bytes)))
-      (record s { outside = with_reading (SomeBytes count) s.outside }) (part s.outside) (same s.outside.left)
-      (checked _ (next bytes) (record s { outside = record (with_reading (SomeBytes count) s.outside) { left = drop (length bytes) s.outside.left } })
-      (part s.outside) (same (drop (length bytes) s.outside.left))
-      (λ s' kept. ap part (quiet.outside bytes s') ∙ kept) (length bytes))
+-- whatever the row comes to, what it does stands behind what was done
+pub record KeepsHistory (row : Row) : Type 0 where
+  pub due : List Event
+  pub are : (s : Setting) → (outside_after (row s)).history ≡ s.outside.history ++ due
 
 -- a row that reads, and then neither reads nor puts
-pub reads_quietly : (asked : Request) (next : List ℕ → Row) → IsQuiet next → PutsNothing (next_read asked next)
-reads_quietly asked next quiet = record {
-  output = λ s. reads_keep (λ outside. outside.output) asked next quiet s (λ left. refl);
-  errors = λ s. reads_keep (λ outside. outside.errors) asked next quiet s (λ left. refl);
-}
+pub reads_quietly : (asked : Request) (next : List ℕ → Row) → IsQuiet next → KeepsHistory (next_read asked next)
+reads_quietly asked next quiet = record { due = AReading asked ∷ []; are = λ s. reads_once asked next quiet s }
 
-pub lines_quiet : PutsNothing (next_read ALine (λ line. suspends (ValItem (Text line)) InputLines))
+pub lines_quiet : KeepsHistory (next_read ALine (λ line. suspends (ValItem (Text line)) InputLines))
 lines_quiet = reads_quietly ALine (λ line. suspends (ValItem (Text line)) InputLines) (record { outside = λ text s. refl })
 
 -- What a call leaves behind a settling
@@ -93,19 +63,14 @@ wants_then : {a b c : SinkState} → LeavesSink a b → WantsOnce b c → WantsO
 wants_then first second =
     record { faults = second.faults ∙ first.counts.faults; wants = second.wants ∙ ap one_more first.counts.wants }
 
-added_then : {a b c : SinkState} {was now : List ℕ} → LeavesSink a b → PutsAdded b c was now → PutsAdded a c was now
-added_then first second = record { text = second.text; is = second.is; gains = keeps_gains first.held second.gains }
-
-part_then : {a b c : SinkState} {was now : List ℕ} → LeavesSink a b → PutsPart b c was now → PutsPart a c was now
-part_then first second = record { text = second.text; is = second.is; gains = keeps_part first.held second.gains }
-
 module _ (a b c : CallStreams) (settled : LeavesStreams a b) where
+  kept_before : {left : List ℕ} {done : List Event} → StandsBehind left done (streams_of b) (streams_of c)
+      → StandsBehind left done (streams_of a) (streams_of c)
+  kept_before stands = kept_stands (streams_of a) (streams_of b) (streams_of c) settled.calls settled.output.held settled.errors.held stands
+
   follows_behind : (was now : Outside) → Follows b c was now → Follows a c was now
-  follows_behind was now is = record {
-    left = is.left;
-    output = added_then settled.output is.output;
-    errors = added_then settled.errors is.errors;
-  }
+  follows_behind was now is =
+      record { done = is.done; extends = is.extends; stands = kept_before is.stands }
 
   all_counts_behind : KeepsAllCounts b c → KeepsAllCounts a c
   all_counts_behind is = record {
@@ -116,7 +81,7 @@ module _ (a b c : CallStreams) (settled : LeavesStreams a b) where
 
   reading_fails_behind : ReadingFails b c → ReadingFails a c
   reading_fails_behind is = record {
-    faults = is.faults ∙ ap one_more settled.faults;
+    faults = is.faults ∙ ap failed_once settled.faults;
     output = leaves_then settled.output is.output;
     errors = leaves_then settled.errors is.errors;
   }
@@ -131,6 +96,8 @@ module _ (a b c : CallStreams) (settled : LeavesStreams a b) where
 
   wants_behind : WantsMemory b c → WantsMemory a c
   wants_behind (uncounted is) = uncounted (all_counts_behind is)
+  wants_behind (input_wants faults output errors) =
+      input_wants (faults ∙ ap wanted_once settled.faults) (counts_then settled.output.counts output) (counts_then settled.errors.counts errors)
   wants_behind (output_wants faults output errors) =
       output_wants (faults ∙ settled.faults) (wants_then settled.output output) (counts_then settled.errors.counts errors)
   wants_behind (errors_want faults output errors) =
@@ -140,6 +107,7 @@ module _ (a b c : CallStreams) (settled : LeavesStreams a b) where
   leaves_behind is = record {
     left = is.left ∙ settled.left;
     faults = is.faults ∙ settled.faults;
+    calls = is.calls ∙ settled.calls;
     output = leaves_then settled.output is.output;
     errors = leaves_then settled.errors is.errors;
   }
@@ -155,18 +123,19 @@ module _ (a b c : CallStreams) (settled : LeavesStreams a b) where
   module _ (row : Row) (at : Setting) where
     reading_behind : StopsReading row at b c → StopsReading row at a c
     reading_behind is = record {
+      done = is.done;
       asked = is.asked;
-      made = is.made;
-      left = is.left;
-      output = leaves_then settled.output is.output;
-      errors = leaves_then settled.errors is.errors;
+      due = is.due;
+      are = is.are;
+      stands = kept_in_reading (streams_of a) (streams_of b) (streams_of c) settled.calls settled.output.held settled.errors.held is.stands;
     }
 
     putting_behind : StopsPutting row at b c → StopsPutting row at a c
     putting_behind is = record {
-      left = is.left ∙ settled.left;
-      output = part_then settled.output is.output;
-      errors = part_then settled.errors is.errors;
+      done = is.done;
+      due = is.due;
+      are = is.are;
+      stands = kept_before is.stands;
     }
 
     stops_behind : Stops row at b c → Stops row at a c
@@ -191,7 +160,8 @@ module _ (row : Row) (w : World) (locals : List Val) (after : CallState) where
       stops_behind a b after.handed settled row (setting_with was (call_state w locals b)) is
 
 told_alike : (left : List ℕ) (a b : CallStreams) → LeavesStreams a b → LeavesStreams (record a { left = Some left }) (record b { left = Some left })
-told_alike left a b settled = record { left = refl; faults = settled.faults; output = settled.output; errors = settled.errors }
+told_alike left a b settled =
+    record { left = refl; faults = settled.faults; calls = settled.calls; output = settled.output; errors = settled.errors }
 
 -- what is said of a row behind a settling is so of it before
 pub behind_settling : (row : Row) (w : World) (locals : List Val) (a b : CallStreams) (after : CallState) (result : Result Outcome Halt)
@@ -212,20 +182,23 @@ behind_settling row w locals a b after result settled is = record {
 
 -- Where nothing could be settled
 
-nothing_put : {a b : SinkState} (was now : List ℕ) → now ≡ was → Keeps a.held b.held → PutsPart a b was now
-nothing_put was now same held = record { text = []; is = same ∙ sym (append-nil was); gains = part_kept [] held }
-
-module _ (row : Row) (quiet : PutsNothing row) (w : World) (locals : List Val) where
-  put_none : (a b : CallStreams) → HoldsBoth a b → (was : Outside)
+module _ (row : Row) (quiet : KeepsHistory row) (w : World) (locals : List Val) where
+  put_none : (a b : CallStreams) → HoldsBoth a b → (was : Outside) → a.left ≡ Some was.left
       → StopsPutting row (setting_with was (call_state w locals a)) a b
-  put_none a b holds was = record {
-    left = holds.left;
-    output = nothing_put was.output _ (quiet.output (setting_with was (call_state w locals a))) holds.output;
-    errors = nothing_put was.errors _ (quiet.errors (setting_with was (call_state w locals a))) holds.errors;
+  put_none a b holds was told = record {
+    done = [];
+    due = quiet.due;
+    are = quiet.are (setting_with was (call_state w locals a));
+    stands = record {
+      rest = holds.left ∙ told;
+      calls = holds.calls;
+      output = gains_keeps (gains_nothing a.output.held) holds.output;
+      errors = gains_keeps (gains_nothing a.errors.held) holds.errors;
+    };
   }
 
   holds_alike : (left : List ℕ) (a b : CallStreams) → HoldsBoth a b → HoldsBoth (record a { left = Some left }) (record b { left = Some left })
-  holds_alike left a b holds = record { left = refl; output = holds.output; errors = holds.errors }
+  holds_alike left a b holds = record { left = refl; calls = holds.calls; output = holds.output; errors = holds.errors }
 
   stops_settling : (a b : CallStreams) (halt : Halt) → Settles {A = Unit {0}} a b (Err halt) → All (IsLive (extent_of w.heap)) locals
       → Applies row (call_state w locals a) (call_state w locals b) (Err halt)
@@ -233,16 +206,16 @@ module _ (row : Row) (quiet : PutsNothing row) (w : World) (locals : List Val) w
   stops_settling a b (EndsHalt status) stops live = absurd stops
   stops_settling a b ReadFault stops live = absurd stops
   stops_settling a b WriteFault stops live = record {
-    answers = λ was told. put_none a b stops.0 was;
-    meant = record { had = []; has = []; answers = λ was first. put_none _ _ (holds_alike [] a b stops.0) was };
+    answers = λ was told. put_none a b stops.0 was told;
+    meant = record { had = []; has = []; answers = λ was first. put_none _ _ (holds_alike [] a b stops.0) was (ap Some (sym first)) };
     caused = stops.1;
     live = tt;
     locals = live;
     kept = keeps_items_refl _;
   }
   stops_settling a b NoMemory stops live = record {
-    answers = λ was told. putting (put_none a b stops.0 was);
-    meant = record { had = []; has = []; answers = λ was first. putting (put_none _ _ (holds_alike [] a b stops.0) was) };
+    answers = λ was told. putting (put_none a b stops.0 was told);
+    meant = record { had = []; has = []; answers = λ was first. putting (put_none _ _ (holds_alike [] a b stops.0) was (ap Some (sym first))) };
     caused = stops.1;
     live = tt;
     locals = live;
@@ -295,7 +268,7 @@ settled_unread stop (Err halt) output errors same =
 
 -- Settling one sink, and then the other
 
-module _ (left : Option (List ℕ)) (faults : ℕ) where
+module _ (left : Option (List ℕ)) (faults : SourceCounts) where
   -- the first could not be settled
   pub first_stops : (o o' e : SinkState) (halt : Halt) (result : Result (Unit {0}) Halt) → IsErrAnd result (λ other. other ≡ halt)
       → SettlesSink {A = Unit {0}} o o' (Err halt) → Settles (call_streams left faults o e) (call_streams left faults o' e) result
@@ -309,22 +282,22 @@ module _ (left : Option (List ℕ)) (faults : ℕ) where
       by_halt (EndsHalt status) is = absurd is
       by_halt ReadFault is = absurd is
       by_halt WriteFault is = (
-        record { left = refl; output = is.0; errors = (leaves_sink_refl e).held },
+        record { left = refl; calls = refl; output = is.0; errors = (leaves_sink_refl e).held },
         output_fails refl refl is.1 (leaves_sink_refl e).counts,
       )
       by_halt NoMemory is = (
-        record { left = refl; output = is.0; errors = (leaves_sink_refl e).held },
+        record { left = refl; calls = refl; output = is.0; errors = (leaves_sink_refl e).held },
         output_wants refl is.1 (leaves_sink_refl e).counts,
       )
 
   -- the first was settled
   pub second_settles : (o o' e e' : SinkState) (result : Result (Unit {0}) Halt) → LeavesSink o o' → SettlesSink e e' result
       → Settles (call_streams left faults o e) (call_streams left faults o' e') result
-  second_settles o o' e e' (Ok done) first is = record { left = refl; faults = refl; output = first; errors = is }
+  second_settles o o' e e' (Ok done) first is = record { left = refl; faults = refl; calls = refl; output = first; errors = is }
   second_settles o o' e e' (Err (ErrorHalt number offending)) first is = absurd is
   second_settles o o' e e' (Err (EndsHalt status)) first is = absurd is
   second_settles o o' e e' (Err ReadFault) first is = absurd is
   second_settles o o' e e' (Err WriteFault) first is =
-      (record { left = refl; output = first.held; errors = is.0 }, errors_fail refl refl first.counts is.1)
+      (record { left = refl; calls = refl; output = first.held; errors = is.0 }, errors_fail refl refl first.counts is.1)
   second_settles o o' e e' (Err NoMemory) first is =
-      (record { left = refl; output = first.held; errors = is.0 }, errors_want refl first.counts is.1)
+      (record { left = refl; calls = refl; output = first.held; errors = is.0 }, errors_want refl first.counts is.1)

@@ -7,7 +7,7 @@ use Rattle.std.proofs.lemmas.List.Folds.{prefix_len-append}
 use Rattle.std.proofs.Math.Seq.{take-append_seam}
 use Rattle.icn_host.specs.Sources.{ExtendsByLine, is_newline}
 use Rattle.icn_value.specs.declared.val.Span.{Span}
-use Rattle.icn_value.specs.Store.{Request, ALine, SomeBytes, Outside, with_reading}
+use Rattle.icn_value.specs.Store.{Request, ALine, SomeBytes, Outside}
 use Rattle.icn_defs.specs.Calls.{Passes}
 use Rattle.icn_defs.specs.Interruptions.{LosesPart, asked_of, after_reading}
 use Rattle.icn_defs.specs.Rows.{costs_bytes}
@@ -92,7 +92,7 @@ module _ (asked : Request) (before after : CallState) where
       had = some.left;
       has = rest;
       reads = λ was is. reads_none asked was (with_left some.left before) (with_left rest after) there held (filled was is) missed
-          (same (with_reading asked was));
+          (same (after_reading asked was));
     }
 
     pub some_err : (stop : Stop) (result : Result (Option Span) Halt) → there ≡ true → bytes ≡ held

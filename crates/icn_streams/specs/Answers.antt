@@ -1,8 +1,8 @@
 -- What a row that reads or puts leaves, where it is answered and where it is broken off.
 use Rattle.std.specs.Prelude.{◌≡◌, ℕ, List, Some, Result, Ok, Err}
 use Rattle.icn_value.specs.declared.val.Val.{Val}
-use Rattle.icn_value.specs.Store.{Request, Outside, Setting, with_reading}
-use Rattle.icn_defs.specs.Interruptions.{LosesPart, asked_of}
+use Rattle.icn_value.specs.Store.{Outside, Setting}
+use Rattle.icn_defs.specs.Interruptions.{BreaksBetween, BreaksReading}
 use Rattle.icn_defs.specs.Rows.{Row, Outcome, Fails, Gives, Suspends, Error, Ends}
 use Rattle.icn_heap.specs.Heaps.{extent_of}
 use Rattle.icn_vars.specs.Outcomes.{ComesToAnswer}
@@ -11,7 +11,7 @@ use Rattle.icn_vars.specs.declared.outcome.Outcome.{Outcome as HeldOutcome}
 use Rattle.icn_vars.specs.declared.outcome.Halt.{Halt}
 use Rattle.icn_vars.specs.declared.outcome.Halt.TheVariants.{Error as ErrorHalt, Ends as EndsHalt, ReadFault, WriteFault, NoMemory}
 use Rattle.icn_vars.specs.declared.world.World.{World}
-use Rattle.icn_streams.specs.Handed.{CallStreams, Follows, LeavesSink, LeavesStreams, PutsPart, KeepsAllCounts, ReadingFails, WritingFails, WantsMemory}
+use Rattle.icn_streams.specs.Handed.{CallStreams, Follows, LeavesStreams, KeepsAllCounts, ReadingFails, WritingFails, WantsMemory, streams_of}
 
 -- what a call is given beside its arguments: the world, the locals, the input and the outputs
 pub record CallState : Type 0 where
@@ -47,23 +47,17 @@ pub record Comes (row : Row) (was : Outside) (before after : CallState)
   pub comes : ComesToAnswer (extent_of after.world.heap) row (setting_with was before)
       (setting_with now after) result
 
--- The row reads once, and was broken off in that reading or behind it: some first part of what it reads was
--- taken, and nothing was put.
-pub record StopsReading (row : Row) (at : Setting) (before after : CallStreams) : Type 0 where
-  pub asked : Request
-  pub made : (outside_after (row at)).readings ≡ (with_reading asked at.outside).readings
-  pub left : LosesPart at.outside.left (asked_of asked at.outside.left) after.left
-  pub output : LeavesSink before.output after.output
-  pub errors : LeavesSink before.errors after.errors
+-- The row was broken off in a reading.
+abbrev pub StopsReading : Row → Setting → CallStreams → CallStreams → Type 0
+StopsReading row at before after =
+    BreaksReading at.outside (outside_after (row at)) (streams_of before) (streams_of after)
 
--- The row was broken off as it put: each output has gained some first part of what the row puts there, and the
--- input is as it was.
-pub record StopsPutting (row : Row) (at : Setting) (before after : CallStreams) : Type 0 where
-  pub left : after.left ≡ before.left
-  pub output : PutsPart before.output after.output at.outside.output (outside_after (row at)).output
-  pub errors : PutsPart before.errors after.errors at.outside.errors (outside_after (row at)).errors
+-- The row was broken off between two of the events that it does: as it put, or as what was put before was settled.
+abbrev pub StopsPutting : Row → Setting → CallStreams → CallStreams → Type 0
+StopsPutting row at before after =
+    BreaksBetween at.outside (outside_after (row at)) (streams_of before) (streams_of after)
 
--- The row was broken off before it read or put anything, or as it read, or as it put.
+-- The row was broken off before it did anything, or in a reading, or between two events.
 pub data Stops (row : Row) (at : Setting) (before after : CallStreams) : Type 0 where
   idle : LeavesStreams before after → Stops row at before after
   reading : StopsReading row at before after → Stops row at before after

@@ -1,41 +1,56 @@
 -- What the input and the outputs tell that a call is handed, and how they follow the outside.
-use Rattle.std.specs.Prelude.{◌≡◌, ℕ, List, ◌++◌, Option, Some}
+use Rattle.std.specs.Prelude.{◌≡◌, ℕ, List, Option}
 use Rattle.std.specs.Io.KnownBytes.{Keeps}
 use Rattle.icn_host.specs.Counts.{one_more}
-use Rattle.icn_host.specs.Sinks.{SinkState, Gains, GainsPart}
-use Rattle.icn_value.specs.Store.{Outside}
+use Rattle.icn_host.specs.Sinks.{SinkState}
+use Rattle.icn_host.specs.Sources.{SourceCounts}
+use Rattle.icn_value.specs.Store.{Event, Outside}
+use Rattle.icn_defs.specs.Interruptions.{ExtendsBy, StandsBehind, Streams}
 
--- what is left of the input, where it tells that, and how often it has failed; the output, and the error output
+-- what is left of the input, where it tells that, and how often it has failed, wanted memory, and was called; the output,
+-- and the error output
 pub record CallStreams : Type 0 where
   pub left : Option (List ℕ)
-  pub faults : ℕ
+  pub counts : SourceCounts
   pub output : SinkState
   pub errors : SinkState
 
--- an input that has this left and failed so often, and both outputs
-abbrev pub call_streams : Option (List ℕ) → ℕ → SinkState → SinkState → CallStreams
-call_streams left faults output errors =
-    record { left = left; faults = faults; output = output; errors = errors }
+-- an input that has this left, and these counts, and both outputs
+abbrev pub call_streams : Option (List ℕ) → SourceCounts → SinkState → SinkState → CallStreams
+call_streams left counts output errors =
+    record { left = left; counts = counts; output = output; errors = errors }
 
--- What is put
+-- what they tell of what they hold
+abbrev pub streams_of : CallStreams → Streams
+streams_of handed = record {
+  left = handed.left;
+  calls = handed.counts.calls;
+  output = handed.output.held;
+  errors = handed.errors.held;
+}
 
--- what came behind the first of these two texts was put on the sink
-pub record PutsAdded (before after : SinkState) (was now : List ℕ) : Type 0 where
-  pub text : List ℕ
-  pub is : now ≡ was ++ text
-  pub gains : Gains before.held after.held text
+-- how often an input has failed, and has wanted memory
+pub record FaultCounts : Type 0 where
+  pub faults : ℕ
+  pub wants : ℕ
 
--- some first part of what came behind the first of these two texts was put on the sink
-pub record PutsPart (before after : SinkState) (was now : List ℕ) : Type 0 where
-  pub text : List ℕ
-  pub is : now ≡ was ++ text
-  pub gains : GainsPart before.held after.held text
+-- these counts of an input, apart from how often it was called
+abbrev pub faults_of : SourceCounts → FaultCounts
+faults_of counts = record { faults = counts.faults; wants = counts.wants }
 
--- the outside that was has become the one that is now, and the input and the outputs tell so
+-- once more it has failed, or has wanted memory
+abbrev pub failed_once : FaultCounts → FaultCounts
+failed_once counts = record counts { faults = one_more counts.faults }
+
+abbrev pub wanted_once : FaultCounts → FaultCounts
+wanted_once counts = record counts { wants = one_more counts.wants }
+
+-- The outside that was has become the one that is now by some events, and the input and the outputs stand as
+-- these leave them.
 pub record Follows (before after : CallStreams) (was now : Outside) : Type 0 where
-  pub left : after.left ≡ Some now.left
-  pub output : PutsAdded before.output after.output was.output now.output
-  pub errors : PutsAdded before.errors after.errors was.errors now.errors
+  pub done : List Event
+  pub extends : ExtendsBy was done now
+  pub stands : StandsBehind was.left done (streams_of before) (streams_of after)
 
 -- Counts
 
@@ -54,9 +69,9 @@ pub record WantsOnce (before after : SinkState) : Type 0 where
   pub faults : after.faults ≡ before.faults
   pub wants : after.wants ≡ one_more before.wants
 
--- nothing has failed, and no sink has wanted memory
+-- nothing has failed or wanted memory
 pub record KeepsAllCounts (before after : CallStreams) : Type 0 where
-  pub faults : after.faults ≡ before.faults
+  pub faults : faults_of after.counts ≡ faults_of before.counts
   pub output : KeepsFaultCounts before.output after.output
   pub errors : KeepsFaultCounts before.errors after.errors
 
@@ -68,29 +83,32 @@ pub record LeavesSink (before after : SinkState) : Type 0 where
 -- nothing was read, put or failed
 pub record LeavesStreams (before after : CallStreams) : Type 0 where
   pub left : after.left ≡ before.left
-  pub faults : after.faults ≡ before.faults
+  pub faults : faults_of after.counts ≡ faults_of before.counts
+  pub calls : after.counts.calls ≡ before.counts.calls
   pub output : LeavesSink before.output after.output
   pub errors : LeavesSink before.errors after.errors
 
 -- the input has failed, once, and nothing was put
 pub record ReadingFails (before after : CallStreams) : Type 0 where
-  pub faults : after.faults ≡ one_more before.faults
+  pub faults : faults_of after.counts ≡ failed_once (faults_of before.counts)
   pub output : LeavesSink before.output after.output
   pub errors : LeavesSink before.errors after.errors
 
 -- the input was left alone, and one of the outputs has failed, once
 pub data WritingFails (before after : CallStreams) : Type 0 where
-  output_fails : after.left ≡ before.left → after.faults ≡ before.faults
+  output_fails : after.left ≡ before.left → faults_of after.counts ≡ faults_of before.counts
       → FailsOnce before.output after.output → KeepsFaultCounts before.errors after.errors
       → WritingFails before after
-  errors_fail : after.left ≡ before.left → after.faults ≡ before.faults
+  errors_fail : after.left ≡ before.left → faults_of after.counts ≡ faults_of before.counts
       → KeepsFaultCounts before.output after.output → FailsOnce before.errors after.errors
       → WritingFails before after
 
--- nothing has failed, and at most one of the outputs has wanted memory, once
+-- nothing has failed, and at most the input or one of the outputs has wanted memory, once
 pub data WantsMemory (before after : CallStreams) : Type 0 where
   uncounted : KeepsAllCounts before after → WantsMemory before after
-  output_wants : after.faults ≡ before.faults → WantsOnce before.output after.output
+  input_wants : faults_of after.counts ≡ wanted_once (faults_of before.counts)
+      → KeepsFaultCounts before.output after.output → KeepsFaultCounts before.errors after.errors → WantsMemory before after
+  output_wants : faults_of after.counts ≡ faults_of before.counts → WantsOnce before.output after.output
       → KeepsFaultCounts before.errors after.errors → WantsMemory before after
-  errors_want : after.faults ≡ before.faults → KeepsFaultCounts before.output after.output
+  errors_want : faults_of after.counts ≡ faults_of before.counts → KeepsFaultCounts before.output after.output
       → WantsOnce before.errors after.errors → WantsMemory before after

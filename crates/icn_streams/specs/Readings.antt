@@ -2,17 +2,18 @@
 use Rattle.std.specs.Prelude.{◌≡◌, ◌==◌, ℕ, Bool, not, List, length, drop, take, take_while, nat_lt, Option, None, Some, Result, Ok, Err}
 use Rattle.std.specs.Option.{option_map}
 use Rattle.icn_value.specs.declared.val.Span.{Span}
-use Rattle.icn_value.specs.Store.{Request, ALine, SomeBytes, Outside, with_reading}
+use Rattle.icn_value.specs.Store.{Request, ALine, SomeBytes, Outside}
 use Rattle.icn_defs.specs.Calls.{GoesOn, ComesTo}
 use Rattle.icn_defs.specs.Interruptions.{LosesPart, asked_of, after_reading}
 use Rattle.icn_defs.specs.Lines.{next_line, next_bytes}
 use Rattle.icn_defs.specs.Rows.{Finds, Fails, Error}
-use Rattle.icn_host.specs.Counts.{one_more}
+use Rattle.icn_host.specs.Sources.{SourceCounts}
 use Rattle.icn_heap.specs.Extents.{text_in, value_in}
 use Rattle.icn_heap.specs.Heaps.{extent_of}
 use Rattle.icn_vars.specs.declared.outcome.Halt.{Halt}
 use Rattle.icn_vars.specs.declared.outcome.Halt.TheVariants.{Error as ErrorHalt, Ends as EndsHalt, ReadFault, WriteFault, NoMemory}
 use Rattle.icn_streams.specs.Answers.{CallState, setting_with, with_left}
+use Rattle.icn_streams.specs.Handed.{FaultCounts, failed_once, faults_of, wanted_once}
 use Rattle.icn_streams.specs.declared.ask.Ask.{Ask}
 use Rattle.icn_streams.specs.declared.ask.Ask.TheVariants.{Line, Bytes}
 
@@ -57,8 +58,8 @@ Reads asked was before after (Ok (Some span)) =
     (setting_with (after_reading asked was) after)
     × (after.handed.left ≡ Some (after_reading asked was).left)
 Reads asked was before after (Ok None) =
-    ComesTo (next_read asked) (setting_with was before) (Fails (setting_with (with_reading asked was) after))
-    × (after.handed.left ≡ Some was.left)
+    ComesTo (next_read asked) (setting_with was before) (Fails (setting_with (after_reading asked was) after))
+    × (after.handed.left ≡ Some (after_reading asked was).left)
 Reads asked was before after (Err (ErrorHalt number offending)) =
     ComesTo (next_read asked) (setting_with was before)
     (Error number (option_map (value_in (extent_of after.world.heap)) offending)
@@ -77,12 +78,17 @@ pub record ReadsOfSome (asked : Request) (before after : CallState)
   pub reads : (was : Outside) → was.left ≡ had
       → Reads asked was (with_left had before) (with_left has after) result
 
--- The input's count of faults rose, once, where a fault of it is answered, and stayed where none is. A reading neither
--- ends the program nor writes.
-abbrev pub InputCause : ℕ → ℕ → Result (Option Span) Halt → Type 0
-InputCause before after (Ok found) = after ≡ before
-InputCause before after (Err (ErrorHalt number offending)) = after ≡ before
+-- Nothing has failed in the input, and at most it has wanted memory, once.
+pub data InputWants (before after : FaultCounts) : Type 0 where
+  others_want : after ≡ before → InputWants before after
+  input_wants : after ≡ wanted_once before → InputWants before after
+
+-- The input's count of faults rose, once, where a fault of it is answered, and that of its wants where memory was
+-- wanting to it; else both stayed. A reading neither ends the program nor writes.
+abbrev pub InputCause : SourceCounts → SourceCounts → Result (Option Span) Halt → Type 0
+InputCause before after (Ok found) = faults_of after ≡ faults_of before
+InputCause before after (Err (ErrorHalt number offending)) = faults_of after ≡ faults_of before
 InputCause before after (Err (EndsHalt status)) = ⊥
-InputCause before after (Err ReadFault) = after ≡ one_more before
+InputCause before after (Err ReadFault) = faults_of after ≡ failed_once (faults_of before)
 InputCause before after (Err WriteFault) = ⊥
-InputCause before after (Err NoMemory) = after ≡ before
+InputCause before after (Err NoMemory) = InputWants (faults_of before) (faults_of after)

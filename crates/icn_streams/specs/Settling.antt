@@ -18,6 +18,7 @@ SettlesSink before after (Err NoMemory) = Keeps before.held after.held × WantsO
 -- the input was left alone, and both outputs hold what they held
 pub record HoldsBoth (before after : CallStreams) : Type 0 where
   pub left : after.left ≡ before.left
+  pub calls : after.counts.calls ≡ before.counts.calls
   pub output : Keeps before.output.held after.output.held
   pub errors : Keeps before.errors.held after.errors.held
 

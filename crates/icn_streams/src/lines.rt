@@ -31,9 +31,9 @@ pub fn lines_row<L: Locals, I: Source, O: Sink, E: Sink>(
 ) -> Result<Outcome, Halt>
     requires { All (IsLive (extent_of w.old.heap)) (L.items l.now) }
     ensures row { Applies (rows.lines_row (file_of file)) (call_state w.old (L.items l.now)
-        (call_streams (I.left input.old) (I.faults input.old) (O.state out.old) (E.state err.old)))
+        (call_streams (I.left input.old) (I.counts input.old) (O.state out.old) (E.state err.old)))
         (call_state w.new (L.items l.now)
-        (call_streams (I.left input.new) (I.faults input.new) (O.state out.new) (E.state err.new))) result }
+        (call_streams (I.left input.new) (I.counts input.new) (O.state out.new) (E.state err.new))) result }
     ensures settled { IsSettledWhereRead result (O.pending out.new) (E.pending err.new) }
 {
     match file {
@@ -58,9 +58,9 @@ pub fn lines_again<L: Locals, I: Source, O: Sink, E: Sink>(
 ) -> Result<Outcome, Halt>
     requires { All (IsLive (extent_of w.old.heap)) (L.items l.now) }
     ensures row { Applies rows.lines_again (call_state w.old (L.items l.now)
-        (call_streams (I.left input.old) (I.faults input.old) (O.state out.old) (E.state err.old)))
+        (call_streams (I.left input.old) (I.counts input.old) (O.state out.old) (E.state err.old)))
         (call_state w.new (L.items l.now)
-        (call_streams (I.left input.new) (I.faults input.new) (O.state out.new) (E.state err.new))) result }
+        (call_streams (I.left input.new) (I.counts input.new) (O.state out.new) (E.state err.new))) result }
     ensures settled { IsSettled result (O.pending out.new) (E.pending err.new) }
 {
     settle(out, err)?;
@@ -76,8 +76,8 @@ fn next_line<L: Locals, I: Source>(
 ) -> Result<Outcome, Halt>
     requires { All (IsLive (extent_of w.old.heap)) (L.items l.now) }
     ensures { (output errors : SinkState) → Applies rows.lines_again (call_state w.old (L.items l.now)
-        (call_streams (I.left input.old) (I.faults input.old) output errors)) (call_state w.new
-        (L.items l.now) (call_streams (I.left input.new) (I.faults input.new) output errors)) result }
+        (call_streams (I.left input.old) (I.counts input.old) output errors)) (call_state w.new
+        (L.items l.now) (call_streams (I.left input.new) (I.counts input.new) output errors)) result }
 {
     match read_text(Ask::Line, w, l, buffer, input)? {
         Some(line) => Ok(Outcome::Suspends(Item::Val(Val::Text(line)), Residual::InputLines)),

@@ -1,6 +1,7 @@
 // Reading a text from the input.
 ghost use Rattle.std.specs.Prelude.{◌≡◌, List, length, IfErr, IfOk, IfSome, MatchResult, Some};
 ghost use Rattle.std.specs.List.{All};
+ghost use Rattle.icn_host.specs.Counts.{one_more};
 ghost use Rattle.icn_host.specs.Sinks.{SinkState};
 ghost use Rattle.icn_value.specs.Store.{Outside};
 ghost use Rattle.icn_defs.specs.Calls.{Passes};
@@ -36,12 +37,13 @@ pub fn read_text<L: Locals, I: Source>(
     requires locals { All (IsLive (extent_of w.old.heap)) (L.items l.now) }
     ensures reads { (was : Outside) (output errors : SinkState)
         → I.left input.old ≡ Some was.left → Reads (asked_in ask) was (call_state w.old (L.items l.now)
-        (call_streams (I.left input.old) (I.faults input.old) output errors)) (call_state w.new
-        (L.items l.now) (call_streams (I.left input.new) (I.faults input.new) output errors)) result }
+        (call_streams (I.left input.old) (I.counts input.old) output errors)) (call_state w.new
+        (L.items l.now) (call_streams (I.left input.new) (I.counts input.new) output errors)) result }
     ensures some { (output errors : SinkState) → ReadsOfSome (asked_in ask) (call_state w.old (L.items l.now)
-        (call_streams (I.left input.old) (I.faults input.old) output errors)) (call_state w.new
-        (L.items l.now) (call_streams (I.left input.new) (I.faults input.new) output errors)) result }
-    ensures cause { InputCause (I.faults input.old) (I.faults input.new) result }
+        (call_streams (I.left input.old) (I.counts input.old) output errors)) (call_state w.new
+        (L.items l.now) (call_streams (I.left input.new) (I.counts input.new) output errors)) result }
+    ensures cause { InputCause (I.counts input.old) (I.counts input.new) result }
+    ensures called { (I.counts input.new).calls ≡ one_more (I.counts input.old).calls }
     ensures live { IfOk result (λ found. IfSome found (IsText (extent_of w.new.heap))) }
     ensures halts { IfErr result (IsLiveHalt (reach_of w.new (L.items l.now))) }
     ensures locals { All (IsLive (extent_of w.new.heap)) (L.items l.now) }

@@ -5,7 +5,7 @@ use Rattle.std.proofs.lemmas.List.Folds.{concat-append}
 use Rattle.std.proofs.lemmas.Nat.{div-add-mod', mod_below}
 use Rattle.std.proofs.Math.Nat.{mul-le-mul_left}
 use Rattle.std.specs.List.{concat}
-use Rattle.icn_defs.specs.Strings.{filled_left, filled_right, filling}
+use Rattle.icn_defs.specs.Strings.{filled_left, filled_right, filling_text}
 
 -- a text so many times
 abbrev pub copies : ℕ → List ℕ → List ℕ
@@ -96,14 +96,14 @@ copies_right text count q r len is whole part most =
     ∙ (drop-append-le ((count - q) * len - r) (copies (count - q) text) (copies q text) (omega (arith, long))
     ∙ ap (λ front. front ++ copies q text) (last_part (count - q) r len text is (omega arith) few))))
 
-left_parts : (fill unit : List ℕ) (count : ℕ) → unit ≡ filling fill → 0 < length unit
+left_parts : (fill unit : List ℕ) (count : ℕ) → unit ≡ filling_text fill → 0 < length unit
     → copies (count / length unit) unit ++ take (count % length unit) unit ≡ filled_left fill count
 left_parts fill unit count is some =
     sym (copies_left unit count (count / length unit) (count % length unit) (length unit) refl
     (sym (div-add-mod' count (length unit))) (mod_below count (length unit) some) (no_less (count / length unit) (length unit) some))
     ∙ ap (λ text. take count (copies count text)) is
 
-right_parts : (fill unit : List ℕ) (count : ℕ) → unit ≡ filling fill → 0 < length unit
+right_parts : (fill unit : List ℕ) (count : ℕ) → unit ≡ filling_text fill → 0 < length unit
     → drop (length unit - count % length unit) unit ++ copies (count / length unit) unit ≡ filled_right fill count
 right_parts fill unit count is some =
     sym (copies_right unit count (count / length unit) (count % length unit) (length unit) refl
@@ -111,7 +111,7 @@ right_parts fill unit count is some =
     ∙ ap (λ text. drop (length (copies count text) - count) (copies count text)) is
 
 -- what is appended in two steps is appended
-pub filled_from_left : (old between now fill unit : List ℕ) (count : ℕ) → unit ≡ filling fill → 0 < length unit
+pub filled_from_left : (old between now fill unit : List ℕ) (count : ℕ) → unit ≡ filling_text fill → 0 < length unit
     → between ≡ old ++ copies (count / length unit) unit
     → now ≡ between ++ take (count % length unit) unit → now ≡ old ++ filled_left fill count
 filled_from_left old between now fill unit count is some first second =
@@ -119,7 +119,7 @@ filled_from_left old between now fill unit count is some first second =
     ∙ (append_assoc old (copies (count / length unit) unit) (take (count % length unit) unit)
     ∙ ap (λ rest. old ++ rest) (left_parts fill unit count is some)))
 
-pub filled_from_right : (old between now fill unit : List ℕ) (count : ℕ) → unit ≡ filling fill → 0 < length unit
+pub filled_from_right : (old between now fill unit : List ℕ) (count : ℕ) → unit ≡ filling_text fill → 0 < length unit
     → between ≡ old ++ drop (length unit - count % length unit) unit
     → now ≡ between ++ copies (count / length unit) unit → now ≡ old ++ filled_right fill count
 filled_from_right old between now fill unit count is some first second =

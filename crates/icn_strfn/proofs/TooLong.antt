@@ -1,12 +1,12 @@
 -- A text for which no room is left is refused.
-use Rattle.std.proofs.Common.{◌≡◌, refl, ap, ℕ, ◌+◌, ◌-◌, ◌*◌, ◌/◌, ◌^◌, ◌<◌, ◌≤◌, min, nat_le, Bool, true, false, Result, Ok, Err, if◌then◌else◌, List, [], ◌∷◌, ◌++◌, length, take, drop, None, arith, length-append, length-take, length-drop}
+use Rattle.std.proofs.Common.{◌≡◌, refl, ℕ, ◌+◌, ◌-◌, ◌*◌, ◌/◌, ◌<◌, ◌≤◌, min, nat_le, Bool, true, false, Result, Ok, Err, if◌then◌else◌, List, [], ◌∷◌, ◌++◌, length, take, drop, None, arith, length-append, length-take, length-drop}
 use Rattle.std.proofs.lemmas.Bool.{leb-false, lt-leb}
 use Rattle.icn_value.specs.declared.full.Full.{Full}
 use Rattle.icn_value.specs.declared.full.Full.TheVariants.{Strings}
 use Rattle.icn_value.specs.Changes.{charged_strings}
 use Rattle.icn_value.specs.Store.{Heap, Setting}
 use Rattle.icn_defs.specs.Rows.{Error, builds}
-use Rattle.icn_defs.specs.Strings.{filled_left, filled_right, filling}
+use Rattle.icn_defs.specs.Strings.{filled_left, filled_right, filling_text}
 use Rattle.icn_strfn.specs.declared.layouts.Layout.{Layout}
 use Rattle.icn_strfn.specs.declared.layouts.Layout.TheVariants.{Left, Right, Center}
 use Rattle.icn_strfn.specs.Layouts.{laid_out}
@@ -19,23 +19,23 @@ too_long text setting long =
     lt-leb (setting.world.heap.strings + length text) setting.world.heap.bounds.strings (omega arith) in
     rw test refl
 
-filling_some : (fill : List ℕ) → 1 ≤ length (filling fill)
+filling_some : (fill : List ℕ) → 1 ≤ length (filling_text fill)
 filling_some [] = omega arith
 filling_some (byte ∷ bytes) = omega arith
 
 length-filled_left : (fill : List ℕ) (count : ℕ) → length (filled_left fill count) ≡ count
 length-filled_left fill count =
-    let part : length (filled_left fill count) ≡ min count (length (copies count (filling fill))) = length-take count (copies count (filling fill)) in
-    let all : length (copies count (filling fill)) ≡ count * length (filling fill) = length-copies count (filling fill) in
-    let enough : count ≤ count * length (filling fill) = no_less count (length (filling fill)) (filling_some fill) in
+    let part : length (filled_left fill count) ≡ min count (length (copies count (filling_text fill))) = length-take count (copies count (filling_text fill)) in
+    let all : length (copies count (filling_text fill)) ≡ count * length (filling_text fill) = length-copies count (filling_text fill) in
+    let enough : count ≤ count * length (filling_text fill) = no_less count (length (filling_text fill)) (filling_some fill) in
     omega arith
 
 length-filled_right : (fill : List ℕ) (count : ℕ) → length (filled_right fill count) ≡ count
 length-filled_right fill count =
-    let part : length (filled_right fill count) ≡ length (copies count (filling fill)) - (length (copies count (filling fill)) - count) =
-    length-drop (length (copies count (filling fill)) - count) (copies count (filling fill)) in
-    let all : length (copies count (filling fill)) ≡ count * length (filling fill) = length-copies count (filling fill) in
-    let enough : count ≤ count * length (filling fill) = no_less count (length (filling fill)) (filling_some fill) in
+    let part : length (filled_right fill count) ≡ length (copies count (filling_text fill)) - (length (copies count (filling_text fill)) - count) =
+    length-drop (length (copies count (filling_text fill)) - count) (copies count (filling_text fill)) in
+    let all : length (copies count (filling_text fill)) ≡ count * length (filling_text fill) = length-copies count (filling_text fill) in
+    let enough : count ≤ count * length (filling_text fill) = no_less count (length (filling_text fill)) (filling_some fill) in
     omega arith
 
 -- a field has its width
@@ -60,14 +60,6 @@ length-laid_out Center text fill width =
     let left = length-drop lost text in
     let end = length-filled_right fill (missing - missing / 2) in
     omega (arith, whole, inner, front, middle, left, end)
-
--- so many copies are no shorter than their length as it is told, also where that is no number of 64 bits
-pub repeated_long : (count : ℕ) (text : List ℕ) (len product : ℕ) → len ≡ length text → product ≡ min (count * len) (2 ^ 64 - 1)
-    → product ≤ length (copies count text)
-repeated_long count text len product same is =
-    let whole : length (copies count text) ≡ count * length text = length-copies count text in
-    let turned : count * len ≡ count * length text = ap (λ k. count * k) same in
-    omega arith
 
 no_both : (heap : Heap) (full : Full) → (let refused : Result Heap Full = Err full in Ok heap ≡ refused) → ⊥
 no_both heap full is = cc

@@ -1,8 +1,8 @@
 -- What a row comes to, as a call answers it that neither ends the program nor meets a fault.
-use Rattle.std.specs.Prelude.{◌≡◌, List, Result, Ok, Err, MatchResult, ⊤}
+use Rattle.std.specs.Prelude.{◌≡◌, ◌+◌, ◌<◌, ℕ, List, length, None, Result, Ok, Err, MatchResult, ⊤}
 use Rattle.std.specs.Option.{option_map}
 use Rattle.icn_value.specs.declared.val.Val.{Val}
-use Rattle.icn_value.specs.Store.{Outside, Setting}
+use Rattle.icn_value.specs.Store.{Heap, Outside, Setting}
 use Rattle.icn_defs.specs.Rows.{Row, Error as ErrorOutcome}
 use Rattle.icn_heap.specs.Extents.{Extent, value_in}
 use Rattle.icn_heap.specs.Heaps.{extent_of}
@@ -27,6 +27,11 @@ abbrev pub Gives : World → World → List Val → Row → Result Outcome Stop 
 Gives old new locals row result =
     (outside : Outside) → ComesToOutcome (extent_of new.heap) row (setting_of outside old locals)
     (setting_of outside new locals) result
+
+-- where the limit refuses this text, that is the answer, and no want of memory
+abbrev pub RefusesFirst : Heap → List ℕ → Result Outcome Stop → Type 0
+RefusesFirst heap text result =
+    heap.bounds.strings < heap.strings + length text → result ≡ Err (Error 306 None)
 
 -- what was answered is of the world
 abbrev pub IsLiveGiven : Reach → Result Outcome Stop → Type 0

@@ -1,5 +1,5 @@
 // How rows that give a text end.
-ghost use Rattle.std.specs.Prelude.{◌≡◌, ◌+◌, ◌<◌, pos, MatchBool, ⊤};
+ghost use Rattle.std.specs.Prelude.{◌≡◌, ◌+◌, ◌<◌, ◌≤◌, ◌^◌, pos, MatchBool};
 ghost use Rattle.std.specs.List.{All};
 ghost use Rattle.icn_value.specs.Values.{Text};
 ghost use Rattle.icn_value.specs.declared.item.Item.TheVariants.{Val as ValItem};
@@ -29,7 +29,10 @@ pub fn build_text<L: Locals>(w: &mut World, l: &L, bytes: &[u8]) -> Result<Outco
 
 /// Whether so many bytes more may not be charged. A text that is longer needs not be made to be refused.
 pub fn lacks_room(heap: &Heap, bytes: u64) -> bool
-    ensures { MatchBool result ((heap_of heap.now).bounds.strings < (heap_of heap.now).strings + bytes) ⊤ }
+    ensures room { MatchBool result
+        ((heap_of heap.now).bounds.strings < (heap_of heap.now).strings + bytes)
+        ((heap_of heap.now).strings + bytes ≤ (heap_of heap.now).bounds.strings) }
+    ensures bits { (heap_of heap.now).bounds.strings < 2 ^ 64 }
 {
     match heap.room_for_bytes(bytes) {
         Ok(()) => false,

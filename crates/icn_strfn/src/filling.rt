@@ -1,7 +1,7 @@
 // A text put again and again.
 ghost use Rattle.std.specs.Prelude.{◌≡◌, ◌<◌, ◌++◌, length, replicate, OnOk};
 ghost use Rattle.std.specs.List.{concat};
-ghost use Rattle.icn_defs.specs.Strings.{filled_left, filled_right, filling};
+ghost use Rattle.icn_defs.specs.Strings.{filled_left, filled_right, filling_text};
 
 use std::alloc::AllocError;
 
@@ -41,7 +41,7 @@ pub fn push_filled_right(out: &mut Vec<u8>, fill: &[u8], count: usize) -> Result
 
 // What a field is filled with: an empty text counts as a blank.
 fn fill_text(fill: &[u8]) -> &[u8]
-    ensures value { result.now ≡ filling fill.now }
+    ensures value { result.now ≡ filling_text fill.now }
     ensures some { 0 < length result.now }
 {
     match fill {

@@ -13,10 +13,9 @@ ghost use Rattle.icn_strfn.specs.Stopping.{Gives, IsLiveGiven};
 ghost use Rattle.icn_strfn.specs.declared.layouts.Layout.{Layout as LayoutData};
 
 use crate::defaults::or_one;
-use crate::endings::{build_text, lacks_room};
 use crate::integers::natural_number;
-use crate::layouts::{Layout, laid_out};
-use crate::mapping::map_bytes;
+use crate::layouts::Layout;
+use crate::new_texts::{build_laid_out, build_mapped};
 use crate::text_arguments::{
     DefaultText, argument_len, lacks_argument, lacks_text, text_argument, two_texts,
 };
@@ -47,17 +46,7 @@ pub fn field_row<L: Locals>(
     let val = arg(args, 0);
     let other = arg(args, 2);
     let (span, fill) = two_texts(w, l, val, other, DefaultText::Blank)?;
-    if lacks_room(&w.heap, width) {
-        return Err(Stop::Error(306, None));
-    }
-    let made = laid_out(
-        *w.globals.allocator(),
-        layout,
-        w.heap.bytes(span),
-        width as usize,
-        fill.bytes(&w.heap),
-    )?;
-    build_text(w, l, &made)
+    build_laid_out(w, l, layout, span, width, fill)
 }
 
 // The width of a field, once all is checked.
@@ -106,17 +95,7 @@ pub fn map_row<L: Locals>(w: &mut World, l: &L, args: &[Val]) -> Result<Outcome,
     let to = arg(args, 2);
     let (span, first) = two_texts(w, l, val, from, DefaultText::Upper)?;
     let second = text_argument(w, l, to, DefaultText::Lower)?;
-    let len = w.heap.bytes(span).len() as u64;
-    if lacks_room(&w.heap, len) {
-        return Err(Stop::Error(306, None));
-    }
-    let made = map_bytes(
-        *w.globals.allocator(),
-        w.heap.bytes(span),
-        first.bytes(&w.heap),
-        second.bytes(&w.heap),
-    )?;
-    build_text(w, l, &made)
+    build_mapped(w, l, span, first, second)
 }
 
 // That the bytes of a text can become others.

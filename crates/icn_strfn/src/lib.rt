@@ -11,6 +11,7 @@ mod integers;
 mod laid_rows;
 mod layouts;
 mod mapping;
+mod new_texts;
 mod text_arguments;
 mod text_rows;
 mod trimming;

@@ -8,9 +8,9 @@ ghost use Rattle.icn_vars.specs.Worlds.{KeepsItems, reach_of};
 ghost use Rattle.icn_strfn.specs.Stopping.{Gives, IsLiveGiven};
 
 use crate::defaults::or_blank;
-use crate::endings::{build_text, byte_given, lacks_room, text};
-use crate::fields::{repeat_text, reverse_text};
+use crate::endings::{byte_given, text};
 use crate::integers::natural_number;
+use crate::new_texts::{build_repeated, build_reversed};
 use crate::text_arguments::{lacks_text, text_len};
 use crate::trimming::trimmed_len;
 use icn_args::{arg, text_of};
@@ -77,12 +77,7 @@ pub fn reverse_row<L: Locals>(w: &mut World, l: &L, args: &[Val]) -> Result<Outc
         return Err(Stop::Error(103, Some(val)));
     }
     let span = text_of(w, l, val)?;
-    let len = w.heap.bytes(span).len() as u64;
-    if lacks_room(&w.heap, len) {
-        return Err(Stop::Error(306, None));
-    }
-    let made = reverse_text(*w.globals.allocator(), w.heap.bytes(span))?;
-    build_text(w, l, &made)
+    build_reversed(w, l, span)
 }
 
 /// `repl(s, i)`: a text so many times, or error 103 or 101; 205 below 0. Others are 306 and want of memory.
@@ -108,12 +103,7 @@ pub fn repl_row<L: Locals>(w: &mut World, l: &L, args: &[Val]) -> Result<Outcome
         return Err(Stop::Error(205, Some(times)));
     };
     let span = text_of(w, l, val)?;
-    let len = w.heap.bytes(span).len() as u64;
-    if lacks_room(&w.heap, count.saturating_mul(len)) {
-        return Err(Stop::Error(306, None));
-    }
-    let made = repeat_text(*w.globals.allocator(), w.heap.bytes(span), count as usize)?;
-    build_text(w, l, &made)
+    build_repeated(w, l, span, count)
 }
 
 /// `trim(s, c)`: a text without the bytes at its end that a cset has, a blank where it is null; or error 103 or 104. Others are

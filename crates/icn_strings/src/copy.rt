@@ -4,8 +4,8 @@ ghost use Rattle.std.specs.Prelude.{◌≡◌, ◌+◌, ◌-◌, ◌≤◌, ◌+
 use std::alloc::AllocError;
 use std::ops::Range;
 
-// Appends the bytes of the first range and then of the second. The room is taken before, so that a failure leaves
-// no part.
+/// Appends the bytes of the first range and then of the second. The room is taken before, so that a failure leaves
+/// no part.
 pub fn append_both(
     bytes: &mut Vec<u8>,
     first: Range<usize>,

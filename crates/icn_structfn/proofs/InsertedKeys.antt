@@ -16,7 +16,7 @@ use Rattle.icn_value.specs.Store.{Heap, Outside, Setting, Table, having_heap, se
 use Rattle.icn_value.specs.Changes.{ChangedHeap, Refuses, and_then, having_member, with_pair, without_key as without_value}
 use Rattle.icn_defs.specs.Arguments.{Keeper, keeper, keeper_of}
 use Rattle.icn_defs.specs.Calls.{Passes}
-use Rattle.icn_defs.specs.Rows.{Row, here, passing, present, changes_heap, gives_value, Error, Fails, Gives}
+use Rattle.icn_defs.specs.Rows.{Row, here, fails_unless, present, changes_heap, gives_value, Error, Fails, Gives}
 use Rattle.icn_defs.specs.Structures.{has_key, without_key}
 use Rattle.icn_heap.specs.declared.heap.Heap.{Heap as HeldHeap}
 use Rattle.icn_heap.specs.Extents.{IsLive, KeepsValues}
@@ -34,22 +34,22 @@ use Rattle.icn_args.proofs.RowAnswers.{first_part_stops}
 
 -- the row of `member`, by its two values
 abbrev pub looks_for : Value → Value → Row
-looks_for kept key = present (keeper_of kept) 122 (Some kept) (λ found. here (λ setting. passing (has_key setting.world.heap found key) (gives_value key)))
+looks_for kept key = present (keeper_of kept) 122 (Some kept) (λ found. here (λ setting. fails_unless (has_key setting.world.heap found key) (gives_value key)))
 
 module _ (kept key : Value) (setting : Setting) where
   pub is_there : (keeper : Option Keeper) → (let some : Option Bool = Some true in some) ≡ option_map (λ found. has_key setting.world.heap found key) keeper
-      → present keeper 122 (Some kept) (λ found. here (λ setting. passing (has_key setting.world.heap found key) (gives_value key))) setting
+      → present keeper 122 (Some kept) (λ found. here (λ setting. fails_unless (has_key setting.world.heap found key) (gives_value key))) setting
       ≡ Gives (ItemVal key) setting
   is_there None is = cc
-  is_there (Some found) is = ap (λ b. passing b (gives_value key) setting) (sym (same_Some _ _ is))
+  is_there (Some found) is = ap (λ b. fails_unless b (gives_value key) setting) (sym (same_Some _ _ is))
 
   pub is_missing : (keeper : Option Keeper) → (let some : Option Bool = Some false in some) ≡ option_map (λ found. has_key setting.world.heap found key) keeper
-      → present keeper 122 (Some kept) (λ found. here (λ setting. passing (has_key setting.world.heap found key) (gives_value key))) setting ≡ Fails setting
+      → present keeper 122 (Some kept) (λ found. here (λ setting. fails_unless (has_key setting.world.heap found key) (gives_value key))) setting ≡ Fails setting
   is_missing None is = cc
-  is_missing (Some found) is = ap (λ b. passing b (gives_value key) setting) (sym (same_Some _ _ is))
+  is_missing (Some found) is = ap (λ b. fails_unless b (gives_value key) setting) (sym (same_Some _ _ is))
 
   pub is_none : (keeper : Option Keeper) → (let none : Option Bool = None in none) ≡ option_map (λ found. has_key setting.world.heap found key) keeper
-      → present keeper 122 (Some kept) (λ found. here (λ setting. passing (has_key setting.world.heap found key) (gives_value key))) setting
+      → present keeper 122 (Some kept) (λ found. here (λ setting. fails_unless (has_key setting.world.heap found key) (gives_value key))) setting
       ≡ Error 122 (Some kept) setting
   is_none None is = refl
   is_none (Some found) is = cc

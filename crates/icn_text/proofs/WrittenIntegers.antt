@@ -11,7 +11,7 @@ use Rattle.std.specs.Int.{w64}
 use Rattle.std.specs.List.{list_all}
 use Rattle.std.specs.Option.{option_and_then}
 use Rattle.std.specs.Str.Parse.{AllDigits}
-use Rattle.icn_text.specs.IntegerArithmetic.{fitting}
+use Rattle.icn_text.specs.IntegerArithmetic.{if_fits}
 use Rattle.icn_text.specs.Integers.{is_digit_of, WritesNumeral, decimal, with_sign, WritesSigned, plain, minus, WritesInteger}
 use Rattle.icn_text.specs.Reading.{integer_read, written_integer}
 use Rattle.icn_text.proofs.ReadingComplete.{integer_again}
@@ -21,11 +21,11 @@ use Rattle.icn_text.proofs.ReadingSound.{integer_sound}
 -- what the relation says is found
 pub written : (text : List ℕ) (n : ℤ) → WritesInteger text n → written_integer text ≡ Some n
 written text n w =
-    ap (option_and_then (λ (found : Bool × ℕ). fitting (with_sign found.0 found.1))) (integer_again w)
-    ∙ subst (λ z. fitting z ≡ Some n) w.value (fitting_so n w.fits)
+    ap (option_and_then (λ (found : Bool × ℕ). if_fits (with_sign found.0 found.1))) (integer_again w)
+    ∙ subst (λ z. if_fits z ≡ Some n) w.value (fitting_so n w.fits)
 
 so_read : (text : List ℕ) (n : ℤ) (read : Option (Bool × ℕ)) → integer_read text ≡ read
-    → option_and_then (λ (found : Bool × ℕ). fitting (with_sign found.0 found.1)) read ≡ Some n → WritesInteger text n
+    → option_and_then (λ (found : Bool × ℕ). if_fits (with_sign found.0 found.1)) read ≡ Some n → WritesInteger text n
 so_read text n None is h = absurd (none-some n h)
 so_read text n (Some found) is h =
     let both = so_fitting (with_sign found.0 found.1) n h in

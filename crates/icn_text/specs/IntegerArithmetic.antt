@@ -11,12 +11,12 @@ abbrev pub fits : ℤ → Bool
 fits n = int_le (negsuc greatest_integer) n && int_le n (pos greatest_integer)
 
 -- an integer that 64 bits hold
-abbrev pub fitting : ℤ → Option ℤ
-fitting n = if fits n then Some n else None
+abbrev pub if_fits : ℤ → Option ℤ
+if_fits n = if fits n then Some n else None
 
 -- an integer that 64 bits hold, else it overflows
 abbrev pub within_64_bits : ℤ → Result ℤ Arith
-within_64_bits n = ok_or (fitting n) Overflow
+within_64_bits n = ok_or (if_fits n) Overflow
 
 -- the sum of two integers, or that it does not fit 64 bits
 abbrev pub sum : ℤ → ℤ → Result ℤ Arith

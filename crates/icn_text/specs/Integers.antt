@@ -30,6 +30,7 @@ pub data WritesNumeral : List ℕ → ℕ → Type 0 where
       → IsDigits (digits_value 10 radix) digits
       → WritesNumeral (radix ++ mark ∷ digits) (digits_value (digits_value 10 radix) digits)
 
+-- a magnitude as an integer, negative or not
 abbrev pub with_sign : Bool → ℕ → ℤ
 with_sign is_negative n = if is_negative then neg_ℤ (pos n) else pos n
 

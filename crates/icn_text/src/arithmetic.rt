@@ -17,28 +17,29 @@ pub enum Arith {
     RemainderByZero,
 }
 
-/// The sum of two integers, or `Overflow`.
+/// The sum of two integers. The error is `Overflow`, where the sum is no integer of 64 bits.
 pub fn add(a: i64, b: i64) -> Result<i64, Arith>
     ensures { result ≡ sum a b }
 {
     a.checked_add(b).ok_or(Arith::Overflow)
 }
 
-/// The difference of two integers, or `Overflow`.
+/// The difference of two integers. The error is `Overflow`, where the difference is no integer of 64 bits.
 pub fn sub(a: i64, b: i64) -> Result<i64, Arith>
     ensures { result ≡ difference a b }
 {
     a.checked_sub(b).ok_or(Arith::Overflow)
 }
 
-/// The product of two integers, or `Overflow`.
+/// The product of two integers. The error is `Overflow`, where the product is no integer of 64 bits.
 pub fn mul(a: i64, b: i64) -> Result<i64, Arith>
     ensures { result ≡ product a b }
 {
     a.checked_mul(b).ok_or(Arith::Overflow)
 }
 
-/// The quotient, truncated toward zero; `DivideByZero` at the divisor 0, and `Overflow` at the least integer by -1.
+/// The quotient, truncated toward zero. The error is `DivideByZero` at the divisor 0, and `Overflow` at the least integer by
+/// -1.
 pub fn div(a: i64, b: i64) -> Result<i64, Arith>
     ensures { result ≡ quotient a b }
 {
@@ -49,7 +50,7 @@ pub fn div(a: i64, b: i64) -> Result<i64, Arith>
     }
 }
 
-/// The remainder, with the sign of the dividend; `RemainderByZero` at the divisor 0.
+/// The remainder, with the sign of the dividend. The error is `RemainderByZero`, at the divisor 0.
 pub fn rem(a: i64, b: i64) -> Result<i64, Arith>
     ensures { result ≡ remainder a b }
 {
@@ -60,8 +61,8 @@ pub fn rem(a: i64, b: i64) -> Result<i64, Arith>
     }
 }
 
-/// The power of an integer, or `Overflow`. Below the exponent 0 the powers of 1 and -1 are integers, 0 gives
-/// `DivideByZero`, and others give 0.
+/// The power of an integer. Below the exponent 0 the powers of 1 and -1 are integers, and others but 0 give 0. The error is
+/// `Overflow`, where the power is no integer of 64 bits, and `DivideByZero` for 0 below the exponent 0.
 pub fn power(base: i64, exponent: i64) -> Result<i64, Arith>
     ensures { result ≡ power base exponent }
 {

@@ -2,6 +2,7 @@
 -- has one for its count, or the labels of its bound or of its co-expression.
 use Rattle.std.specs.Prelude.{ℕ, ◌+◌, ◌<◌, List, [], ◌∷◌, length, ⊤}
 use Rattle.std.specs.List.{AllByRecursion}
+use Rattle.icn_profile.specs.Numbers.{number_limit}
 use Rattle.icn_tree.specs.Trees.{Declaration, Global, Link, Invocable, Record, ProcedureOf, Procedure, LocalDecl, Initial, NoInitial, Initially, Tree, MaybeTree, Trees, Clauses, Empty, Constant, Identifier, Keyword, Parentheses, Listing, Compound, Call, CoCall, Subscript, Section, Field, Prefix, Not, Binary, To, If, Case, Loop, Repeat, Create, Next, Fail, Break, Return, Suspend, Absent, Present, NoTrees, More, Default, Guarded, NoClauses, MoreClauses}
 
 -- The numbers that trees take, with those of their parts
@@ -73,7 +74,7 @@ HasRoom (Global place names) = ⊤
 HasRoom (Link place items) = ⊤
 HasRoom (Invocable place items) = ⊤
 HasRoom (Record place name fields) = ⊤
-HasRoom (ProcedureOf procedure) = procedure_numbers procedure < 4294967296
+HasRoom (ProcedureOf procedure) = procedure_numbers procedure < number_limit
 
 -- the numbers of each procedure's code have 32 bits
 abbrev pub HaveRoom : List Declaration → Type 0

@@ -1,5 +1,6 @@
 -- How many numbers are given in a draft, and how many more may be.
 use Rattle.std.specs.Prelude.{ℕ, ◌+◌, ◌<◌, ◌≤◌, length}
+use Rattle.icn_profile.specs.Numbers.{number_limit}
 use Rattle.icn_tree.specs.Trees.{Procedure, Clause, Clauses, Default, Guarded, NoClauses, MoreClauses}
 use Rattle.icn_translate.specs.Drafts.{Draft}
 use Rattle.icn_translate.specs.NumbersTaken.{local_numbers, numbers}
@@ -10,7 +11,7 @@ numbers_given d = d.labels + length d.names
 
 -- so many numbers more have 32 bits
 abbrev pub IsRoomFor : ℕ → Draft → Type 0
-IsRoomFor n d = numbers_given d + n < 4294967296
+IsRoomFor n d = numbers_given d + n < number_limit
 
 -- the later draft has at most so many numbers more
 abbrev pub TakesAtMost : ℕ → Draft → Draft → Type 0

@@ -1,5 +1,5 @@
 -- The translation of a tree: what each form adds to a draft, read from the left to the right as it is written.
-use Rattle.std.specs.Prelude.{ℕ, suc, pos, Bool, true, false, None}
+use Rattle.std.specs.Prelude.{ℕ, suc, pos, Bool, true, false, Option, None, Some}
 use Rattle.icn_text.specs.declared.op.Op.TheVariants as O
 use Rattle.icn_tree.specs.declared.tree.Infix.TheVariants.{Plain, Augmented}
 use Rattle.icn_tree.specs.declared.tree.LoopKind.{LoopKind}
@@ -8,11 +8,13 @@ use Rattle.icn_tree.specs.Trees.{Initial, NoInitial, Initially, Tree, MaybeTree,
 use Rattle.icn_unit.specs.declared.unit.UnitInstr.{UnitInstr}
 use Rattle.icn_unit.specs.declared.unit.UnitInstr.TheVariants as I
 use Rattle.icn_translate.specs.declared.forms.InfixForm.{InfixForm}
+use Rattle.icn_translate.specs.declared.forms.UpdateForm.{UpdateForm}
 use Rattle.icn_translate.specs.declared.forms.PrefixForm.{PrefixForm}
 use Rattle.icn_translate.specs.declared.forms.InfixForm.TheVariants.{Both, Scanning, Either, Limiting, Activating, Spreading, Operating}
+use Rattle.icn_translate.specs.declared.forms.UpdateForm.TheVariants.{Both as UpdatesBoth, Scanning as UpdatesScanning, Activating as UpdatesActivating, Operating as UpdatesOperating}
 use Rattle.icn_translate.specs.declared.forms.PrefixForm.TheVariants.{Activation, Repetition, Operation}
 use Rattle.icn_translate.specs.Drafts.{Draft, ◌▹◌, put, next_label, with_label, put_variable, no_ways, in_loop, outside_loop, aside, put_next, put_last, in_case, outside_case, put_end}
-use Rattle.icn_translate.specs.Instructions.{literal_instr, keyword_instr, section_op, infix_form, prefix_form}
+use Rattle.icn_translate.specs.Instructions.{literal_instr, keyword_instr, section_op, infix_form, update_form, prefix_form}
 use Rattle.icn_translate.specs.OpenMarks.{OpenMarks, Outermost, Marked, Looped, Each, unmarks_for_break, unmarks_for_next, around}
 
 -- the empty expression
@@ -108,37 +110,37 @@ loop_end instr d = d ▹ put_next I.Lab ▹ put instr ▹ put_last I.Lab ▹ out
 abbrev pub either_step : Bool → (Draft → Draft) → (Draft → Draft) → Draft → Draft
 either_step is step other d = elim is as (λ is. Draft) [ true ↦ d ▹ step | false ↦ d ▹ other ]
 
--- an operator before its operand, whose code is this, and this in a mark
-abbrev pub prefix_by : PrefixForm → (operand marked : Draft → Draft) → Draft → Draft
-prefix_by Activation operand marked d = d ▹ put I.Pnull ▹ operand ▹ put I.Coact
-prefix_by Repetition operand marked d = d ▹ with_label ▹ put (I.Lab (next_label d)) ▹ put I.Mark0 ▹ marked
+-- an operator before its operand, whose code is this, and this in a mark; one that never stands there has no code
+abbrev pub prefix_by : Option PrefixForm → (operand marked : Draft → Draft) → Draft → Draft
+prefix_by (Some Activation) operand marked d = d ▹ put I.Pnull ▹ operand ▹ put I.Coact
+prefix_by (Some Repetition) operand marked d = d ▹ with_label ▹ put (I.Lab (next_label d)) ▹ put I.Mark0 ▹ marked
     ▹ put (I.Chfail (next_label d)) ▹ put I.Esusp
-prefix_by (Operation op) operand marked d = d ▹ operand ▹ put (I.Op op)
+prefix_by (Some (Operation op)) operand marked d = d ▹ operand ▹ put (I.Op op)
+prefix_by None operand marked d = d
 
--- an operator between operands, where the code of the first in a mark is this
-abbrev pub plain_form : InfixForm → (left marked right : Draft → Draft) → Draft → Draft
-plain_form Both left marked right d = d ▹ left ▹ put I.Pop ▹ right
-plain_form Scanning left marked right d = d ▹ left ▹ put I.Bscan ▹ right ▹ put I.Escan
-plain_form Either left marked right d = d ▹ put_mark ▹ marked ▹ put I.Esusp ▹ alternative right (next_label d)
-plain_form Limiting left marked right d = d ▹ right ▹ put I.Limit ▹ marked ▹ put I.Lsusp
-plain_form Activating left marked right d = d ▹ left ▹ right ▹ put I.Coact
-plain_form Spreading left marked right d = d ▹ left ▹ right ▹ put I.Appl
-plain_form (Operating op) left marked right d = d ▹ left ▹ right ▹ put (I.Op op)
+-- an operator between operands, where the code of the first in a mark is this; one that never stands there has no code
+abbrev pub plain_form : Option InfixForm → (left marked right : Draft → Draft) → Draft → Draft
+plain_form (Some Both) left marked right d = d ▹ left ▹ put I.Pop ▹ right
+plain_form (Some Scanning) left marked right d = d ▹ left ▹ put I.Bscan ▹ right ▹ put I.Escan
+plain_form (Some Either) left marked right d = d ▹ put_mark ▹ marked ▹ put I.Esusp ▹ alternative right (next_label d)
+plain_form (Some Limiting) left marked right d = d ▹ right ▹ put I.Limit ▹ marked ▹ put I.Lsusp
+plain_form (Some Activating) left marked right d = d ▹ left ▹ right ▹ put I.Coact
+plain_form (Some Spreading) left marked right d = d ▹ left ▹ right ▹ put I.Appl
+plain_form (Some (Operating op)) left marked right d = d ▹ left ▹ right ▹ put (I.Op op)
+plain_form None left marked right d = d
 
 -- an instruction between a variable and `:=`
 abbrev pub update : UnitInstr → (left right : Draft → Draft) → Draft → Draft
 update instr left right d = d ▹ left ▹ put I.Dup ▹ right ▹ put instr ▹ put (I.Op O.Assign)
 
--- an operator with `:=` behind it; `|` and `\` never have that
-abbrev pub augmented_form : InfixForm → (left right : Draft → Draft) → Draft → Draft
-augmented_form Both left right d = d ▹ left ▹ right ▹ put (I.Op O.Assign)
-augmented_form Scanning left right d =
+-- an operator with `:=` behind it; one that never stands there has no code
+abbrev pub augmented_form : Option UpdateForm → (left right : Draft → Draft) → Draft → Draft
+augmented_form (Some UpdatesBoth) left right d = d ▹ left ▹ right ▹ put (I.Op O.Assign)
+augmented_form (Some UpdatesScanning) left right d =
     d ▹ left ▹ put I.Dup ▹ put I.Bscan ▹ right ▹ put I.Escan ▹ put (I.Op O.Assign)
-augmented_form Either left right d = d
-augmented_form Limiting left right d = d
-augmented_form Activating left right d = d ▹ update I.Coact left right
-augmented_form Spreading left right d = d ▹ update I.Appl left right
-augmented_form (Operating op) left right d = d ▹ update (I.Op op) left right
+augmented_form (Some UpdatesActivating) left right d = d ▹ update I.Coact left right
+augmented_form (Some (UpdatesOperating op)) left right d = d ▹ update (I.Op op) left right
+augmented_form None left right d = d
 
 -- the clauses of `case` behind its subject: those that are guarded, and the default
 abbrev pub case_of : (guards default : Draft → Draft) → Draft → Draft
@@ -173,7 +175,7 @@ abbrev mutual
   translate o (Binary place (Plain operator) a b) d =
       d ▹ plain_form (infix_form operator) (translate o a) (translate (Marked o) a) (translate o b)
   translate o (Binary place (Augmented operator) a b) d =
-      d ▹ augmented_form (infix_form operator) (translate o a) (translate o b)
+      d ▹ augmented_form (update_form operator) (translate o a) (translate o b)
   translate o (To place a b by) d = d ▹ translate o a ▹ translate o b ▹ to_step o by ▹ put (I.Op O.ToBy)
   translate o (If place c a b) d = d ▹ if_mark b ▹ translate (Marked o) c ▹ put I.Unmark ▹ translate o a
       ▹ otherwise o b (next_label d)

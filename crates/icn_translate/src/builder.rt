@@ -1,5 +1,6 @@
 // The code of a procedure as far as it is written.
 ghost use Rattle.std.specs.Prelude.{◌≡◌, ◌+◌, ◌<◌, ◌≤◌, [], IfOk, OnOk, length, map};
+ghost use Rattle.icn_profile.specs.Numbers.{number_limit};
 ghost use Rattle.icn_unit.specs.declared.unit.UnitInstr.TheVariants.{Cofail, Coret, Create as CreateInstr, Efail, Field as FieldInstr, Goto as GotoInstr, Lab as LabInstr, Mark as MarkInstr};
 ghost use Rattle.icn_translate.specs.Drafts.{case_end, end_number, in_case, in_loop, innermost, last_number, name_index, next_label, next_number, number_of, with_number, outside_case, outside_loop, put, put_end, put_last, put_next, put_variable, no_ways, with_end, with_label, with_last, with_name, with_next, ◌▹◌};
 ghost use Rattle.icn_translate.specs.Instructions.{literal_instr};
@@ -54,7 +55,7 @@ pub struct Builder<'a> {
 
 /// A count as an operand.
 pub fn count_operand(n: usize) -> u32
-    requires { n < 4294967296 }
+    requires { n < number_limit }
     ensures { result ≡ n }
 {
     n as u32
@@ -450,7 +451,7 @@ pub const UNMENTIONED: LoopLabels = LoopLabels {
 
 /// The place of a name among names, which it joins where it is new. `AllocError` is want of memory.
 pub fn enter_name<'a>(names: &mut IndexSet<&'a [u8]>, name: &'a [u8]) -> Result<u32, AllocError>
-    requires { length names.old.keys < 4294967296 }
+    requires { length names.old.keys < number_limit }
     ensures place { IfOk result
         (λ place. place ≡ name_index (map (λ name. name.now) names.old.keys) name.now) }
     ensures names { OnOk result

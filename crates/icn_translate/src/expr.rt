@@ -10,7 +10,10 @@ ghost use Rattle.icn_translate.specs.Translation.{alternative, arguments, augmen
 ghost use Rattle.icn_translate.specs.Views.{draft_of, open_of, pass_instr};
 
 use crate::builder::{Builder, Pass, UNMENTIONED, count_operand};
-use crate::forms::{InfixForm, PrefixForm, infix_form, keyword_instr, prefix_form, section_op};
+use crate::forms::{
+    InfixForm, PrefixForm, UpdateForm, infix_form, keyword_instr, prefix_form, section_op,
+    update_form,
+};
 use crate::marks::{OpenMarks, around};
 use icn_text::Op;
 use icn_tree::{Clause, Expr, Infix, LoopKind};
@@ -85,7 +88,7 @@ impl<'a> Builder<'a> {
                 left,
                 right,
                 ..
-            } => self.put_augmented(left, right, infix_form(*operator), within),
+            } => self.put_augmented(left, right, update_form(*operator), within),
             Expr::To { from, to, by, .. } => {
                 self.put_both(from, to, within)?;
                 match by {
@@ -241,13 +244,13 @@ impl<'a> Builder<'a> {
         self.put_two(UnitInstr::Lab(label), UnitInstr::Pnull)
     }
 
-    // An operator between its operands.
+    // An operator between its operands. One that never stands there has no code.
     #[cycle(translate)]
     fn put_infix(
         &mut self,
         left: &'a Expr,
         right: &'a Expr,
-        form: InfixForm,
+        form: Option<InfixForm>,
         within: OpenMarks<'_>,
     ) -> Result<(), AllocError>
         requires { IsRoomFor (2 + numbers (tree_of left.now) + numbers (tree_of right.now))
@@ -262,38 +265,39 @@ impl<'a> Builder<'a> {
             (draft_of self.new)) }
     {
         match form {
-            InfixForm::Both => {
+            None => Ok(()),
+            Some(InfixForm::Both) => {
                 self.put_expr(left, within)?;
                 self.put(UnitInstr::Pop)?;
                 self.put_expr(right, within)
             }
-            InfixForm::Scanning => {
+            Some(InfixForm::Scanning) => {
                 self.put_expr(left, within)?;
                 self.put(UnitInstr::Bscan)?;
                 self.put_expr(right, within)?;
                 self.put(UnitInstr::Escan)
             }
-            InfixForm::Either => {
+            Some(InfixForm::Either) => {
                 let label = self.put_mark()?;
                 self.put_expr(left, OpenMarks::Mark(&within))?;
                 self.put(UnitInstr::Esusp)?;
                 self.put_alternative(right, label, within)
             }
-            InfixForm::Limiting => {
+            Some(InfixForm::Limiting) => {
                 self.put_expr(right, within)?;
                 self.put(UnitInstr::Limit)?;
                 self.put_expr(left, OpenMarks::Mark(&within))?;
                 self.put(UnitInstr::Lsusp)
             }
-            InfixForm::Activating => {
+            Some(InfixForm::Activating) => {
                 self.put_both(left, right, within)?;
                 self.put(UnitInstr::Coact)
             }
-            InfixForm::Spreading => {
+            Some(InfixForm::Spreading) => {
                 self.put_both(left, right, within)?;
                 self.put(UnitInstr::Appl)
             }
-            InfixForm::Operating(op) => {
+            Some(InfixForm::Operating(op)) => {
                 self.put_both(left, right, within)?;
                 self.put(UnitInstr::Op(op))
             }
@@ -321,13 +325,13 @@ impl<'a> Builder<'a> {
         self.put_expr(right, within)
     }
 
-    // An operator with `:=` behind it.
+    // An operator with `:=` behind it. One that never stands there has no code.
     #[cycle(translate)]
     fn put_augmented(
         &mut self,
         left: &'a Expr,
         right: &'a Expr,
-        form: InfixForm,
+        form: Option<UpdateForm>,
         within: OpenMarks<'_>,
     ) -> Result<(), AllocError>
         requires { IsRoomFor (2 + numbers (tree_of left.now) + numbers (tree_of right.now))
@@ -340,26 +344,22 @@ impl<'a> Builder<'a> {
             (draft_of self.new)) }
     {
         match form {
-            InfixForm::Both => {
+            None => Ok(()),
+            Some(UpdateForm::Both) => {
                 self.put_both(left, right, within)?;
                 self.put(UnitInstr::Op(Op::Assign))
             }
-            InfixForm::Scanning => {
+            Some(UpdateForm::Scanning) => {
                 self.put_expr(left, within)?;
                 self.put_two(UnitInstr::Dup, UnitInstr::Bscan)?;
                 self.put_expr(right, within)?;
                 self.put_two(UnitInstr::Escan, UnitInstr::Op(Op::Assign))
             }
-            InfixForm::Either | InfixForm::Limiting => Ok(()),
-            InfixForm::Activating => {
+            Some(UpdateForm::Activating) => {
                 self.put_doubled(left, right, within)?;
                 self.put_two(UnitInstr::Coact, UnitInstr::Op(Op::Assign))
             }
-            InfixForm::Spreading => {
-                self.put_doubled(left, right, within)?;
-                self.put_two(UnitInstr::Appl, UnitInstr::Op(Op::Assign))
-            }
-            InfixForm::Operating(op) => {
+            Some(UpdateForm::Operating(op)) => {
                 self.put_doubled(left, right, within)?;
                 self.put_two(UnitInstr::Op(op), UnitInstr::Op(Op::Assign))
             }
@@ -522,12 +522,12 @@ impl<'a> Builder<'a> {
         self.put_bounded(body, OpenMarks::Mark(&marked))
     }
 
-    // An operator before its operand.
+    // An operator before its operand. One that never stands there has no code.
     #[cycle(translate)]
     fn put_prefix(
         &mut self,
         operand: &'a Expr,
-        form: PrefixForm,
+        form: Option<PrefixForm>,
         within: OpenMarks<'_>,
     ) -> Result<(), AllocError>
         requires { IsRoomFor (1 + numbers (tree_of operand.now)) (draft_of self.old) }
@@ -538,18 +538,19 @@ impl<'a> Builder<'a> {
             (TakesAtMost (1 + numbers (tree_of operand.now)) (draft_of self.old) (draft_of self.new)) }
     {
         match form {
-            PrefixForm::Activation => {
+            None => Ok(()),
+            Some(PrefixForm::Activation) => {
                 self.put(UnitInstr::Pnull)?;
                 self.put_expr(operand, within)?;
                 self.put(UnitInstr::Coact)
             }
-            PrefixForm::Repetition => {
+            Some(PrefixForm::Repetition) => {
                 let again = self.put_label()?;
                 self.put(UnitInstr::Mark0)?;
                 self.put_expr(operand, OpenMarks::Mark(&within))?;
                 self.put_two(UnitInstr::Chfail(again), UnitInstr::Esusp)
             }
-            PrefixForm::Operation(op) => {
+            Some(PrefixForm::Operation(op)) => {
                 self.put_expr(operand, within)?;
                 self.put(UnitInstr::Op(op))
             }

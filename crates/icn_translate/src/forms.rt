@@ -1,6 +1,6 @@
 // What literals, keywords and operators are translated to.
 ghost use Rattle.std.specs.Prelude.{◌≡◌, IfOk};
-ghost use Rattle.icn_translate.specs.Instructions.{infix_form, keyword_instr, known_keyword, literal_instr, prefix_form, section_op};
+ghost use Rattle.icn_translate.specs.Instructions.{infix_form, keyword_instr, known_keyword, literal_instr, prefix_form, section_op, update_form};
 
 use icn_text::{Keyword, Op};
 use icn_tree::{Bytes, Literal, Operator, SectionKind};
@@ -23,6 +23,19 @@ pub enum InfixForm {
     /// `p ! L`.
     Spreading,
     /// An operation of both operands.
+    Operating(Op),
+}
+
+/// What an operator with `:=` behind it is.
+#[derive(Clone, Copy)]
+pub enum UpdateForm {
+    /// `v &:= e`.
+    Both,
+    /// `v ?:= e`.
+    Scanning,
+    /// `v @:= C`.
+    Activating,
+    /// An operation of the variable and the operand.
     Operating(Op),
 }
 
@@ -78,17 +91,18 @@ pub fn section_op(kind: SectionKind) -> Op
     }
 }
 
-/// What an operator between operands is.
-pub fn infix_form(operator: Operator) -> InfixForm
+/// What an operator between operands is. `.` and `~` never stand there, and are nothing.
+pub fn infix_form(operator: Operator) -> Option<InfixForm>
     ensures { result ≡ infix_form operator }
 {
     let op = match operator {
-        Operator::Ampersand | Operator::Dot | Operator::Tilde => return InfixForm::Both,
-        Operator::Question => return InfixForm::Scanning,
-        Operator::Bar => return InfixForm::Either,
-        Operator::Backslash => return InfixForm::Limiting,
-        Operator::At => return InfixForm::Activating,
-        Operator::Bang => return InfixForm::Spreading,
+        Operator::Dot | Operator::Tilde => return None,
+        Operator::Ampersand => return Some(InfixForm::Both),
+        Operator::Question => return Some(InfixForm::Scanning),
+        Operator::Bar => return Some(InfixForm::Either),
+        Operator::Backslash => return Some(InfixForm::Limiting),
+        Operator::At => return Some(InfixForm::Activating),
+        Operator::Bang => return Some(InfixForm::Spreading),
         Operator::Star => Op::Multiply,
         Operator::StarStar => Op::Intersection,
         Operator::Plus => Op::Add,
@@ -119,16 +133,58 @@ pub fn infix_form(operator: Operator) -> InfixForm
         Operator::ReversibleAssign => Op::ReversibleAssign,
         Operator::ReversibleSwap => Op::ReversibleSwap,
     };
-    InfixForm::Operating(op)
+    Some(InfixForm::Operating(op))
 }
 
-/// What an operator before its operand is.
-pub fn prefix_form(operator: Operator) -> PrefixForm
+/// What an operator with `:=` behind it is. An assignment never stands there, nor do `!`, `\`, `|`, `.` and `~`: they are nothing.
+pub fn update_form(operator: Operator) -> Option<UpdateForm>
+    ensures { result ≡ update_form operator }
+{
+    let op = match operator {
+        Operator::Bang | Operator::Backslash | Operator::Bar | Operator::Dot | Operator::Tilde => {
+            return None;
+        }
+        Operator::Assign | Operator::Swap | Operator::ReversibleAssign | Operator::ReversibleSwap =>
+            return None,
+        Operator::Ampersand => return Some(UpdateForm::Both),
+        Operator::Question => return Some(UpdateForm::Scanning),
+        Operator::At => return Some(UpdateForm::Activating),
+        Operator::Star => Op::Multiply,
+        Operator::StarStar => Op::Intersection,
+        Operator::Plus => Op::Add,
+        Operator::PlusPlus => Op::Union,
+        Operator::Minus => Op::Subtract,
+        Operator::MinusMinus => Op::Difference,
+        Operator::Slash => Op::Divide,
+        Operator::Percent => Op::Remainder,
+        Operator::Caret => Op::Power,
+        Operator::BarBar => Op::Concatenate,
+        Operator::BarBarBar => Op::ConcatenateLists,
+        Operator::Equal => Op::Equal,
+        Operator::NotEqual => Op::NotEqual,
+        Operator::EqualEqual => Op::LexicallyEqual,
+        Operator::NotEqualEqual => Op::LexicallyNotEqual,
+        Operator::EqualEqualEqual => Op::Equivalent,
+        Operator::NotEqualEqualEqual => Op::NotEquivalent,
+        Operator::Less => Op::Less,
+        Operator::LessEqual => Op::LessOrEqual,
+        Operator::Greater => Op::Greater,
+        Operator::GreaterEqual => Op::GreaterOrEqual,
+        Operator::LessLess => Op::LexicallyLess,
+        Operator::LessLessEqual => Op::LexicallyLessOrEqual,
+        Operator::GreaterGreater => Op::LexicallyGreater,
+        Operator::GreaterGreaterEqual => Op::LexicallyGreaterOrEqual,
+    };
+    Some(UpdateForm::Operating(op))
+}
+
+/// What an operator before its operand is. The others never stand there, and are nothing.
+pub fn prefix_form(operator: Operator) -> Option<PrefixForm>
     ensures { result ≡ prefix_form operator }
 {
     let op = match operator {
-        Operator::At => return PrefixForm::Activation,
-        Operator::Bar => return PrefixForm::Repetition,
+        Operator::At => return Some(PrefixForm::Activation),
+        Operator::Bar => return Some(PrefixForm::Repetition),
         Operator::Bang => Op::Elements,
         Operator::Star => Op::Size,
         Operator::Plus => Op::Number,
@@ -139,7 +195,31 @@ pub fn prefix_form(operator: Operator) -> PrefixForm
         Operator::Dot => Op::Dereference,
         Operator::Question => Op::Random,
         Operator::Tilde => Op::Complement,
-        _ => Op::TabMatch,
+        Operator::Equal => Op::TabMatch,
+        Operator::Ampersand
+        | Operator::StarStar
+        | Operator::PlusPlus
+        | Operator::MinusMinus
+        | Operator::Percent
+        | Operator::BarBar
+        | Operator::BarBarBar
+        | Operator::NotEqual
+        | Operator::EqualEqual
+        | Operator::NotEqualEqual
+        | Operator::EqualEqualEqual
+        | Operator::NotEqualEqualEqual
+        | Operator::Less
+        | Operator::LessEqual
+        | Operator::Greater
+        | Operator::GreaterEqual
+        | Operator::LessLess
+        | Operator::LessLessEqual
+        | Operator::GreaterGreater
+        | Operator::GreaterGreaterEqual
+        | Operator::Assign
+        | Operator::Swap
+        | Operator::ReversibleAssign
+        | Operator::ReversibleSwap => return None,
     };
-    PrefixForm::Operation(op)
+    Some(PrefixForm::Operation(op))
 }

@@ -1,6 +1,7 @@
 // The code of a procedure.
 ghost use Rattle.std.specs.Prelude.{◌≡◌, ◌+◌, ◌<◌, ◌≤◌, ◌++◌, ◌∷◌, [], IfOk, OnOk, drop, length, map};
 ghost use Rattle.std.specs.List.{flat_map};
+ghost use Rattle.icn_profile.specs.Numbers.{number_limit};
 ghost use Rattle.icn_tree.specs.TreeOf.{all_of, initial_of, locals_of, procedure_of, tree_of};
 ghost use Rattle.icn_unit.specs.declared.unit.NameKind.TheVariants.{Undeclared};
 ghost use Rattle.icn_unit.specs.UnitViews.{proc_seen};
@@ -27,7 +28,7 @@ use std::alloc::{AllocError, Global};
 ///
 /// Want of memory.
 pub fn proc_code(alloc: Global, procedure: &Procedure) -> Result<ProcCode, AllocError>
-    requires room { procedure_numbers (procedure_of procedure.now) < 4294967296 }
+    requires room { procedure_numbers (procedure_of procedure.now) < number_limit }
     ensures { IfOk result (λ code. proc_seen code ≡ proc_code (procedure_of procedure.now)) }
 {
     let mut builder = begin_draft(alloc, procedure)?;
@@ -45,7 +46,7 @@ pub fn proc_code(alloc: Global, procedure: &Procedure) -> Result<ProcCode, Alloc
 
 // The draft before the first instruction: its names are those that are declared.
 fn begin_draft<'a>(alloc: Global, procedure: &'a Procedure) -> Result<Builder<'a>, AllocError>
-    requires { declared_numbers (procedure_of procedure.now) < 4294967296 }
+    requires { declared_numbers (procedure_of procedure.now) < number_limit }
     ensures draft { IfOk result (λ builder. draft_of builder ≡ first_draft (procedure_of procedure.now)) }
     ensures given { IfOk result
         (λ builder. numbers_given (draft_of builder) ≤ declared_numbers (procedure_of procedure.now)) }
@@ -59,7 +60,7 @@ fn declared_names<'a>(
     alloc: Global,
     procedure: &'a Procedure,
 ) -> Result<IndexSet<&'a [u8]>, AllocError>
-    requires { declared_numbers (procedure_of procedure.now) < 4294967296 }
+    requires { declared_numbers (procedure_of procedure.now) < number_limit }
     ensures names { IfOk result (λ names. map (λ name. name.now) names.keys
         ≡ with_names [] (declared_texts (procedure_of procedure.now))) }
     ensures given { IfOk result
@@ -75,7 +76,7 @@ fn enter_locals<'a>(
     names: &mut IndexSet<&'a [u8]>,
     locals: &'a [LocalDecl],
 ) -> Result<(), AllocError>
-    requires { length names.old.keys + local_numbers (map locals_of locals.now) < 4294967296 }
+    requires { length names.old.keys + local_numbers (map locals_of locals.now) < number_limit }
     ensures names { OnOk result (map (λ name. name.now) names.new.keys ≡ with_names
         (map (λ name. name.now) names.old.keys) (flat_map local_texts (map locals_of locals.now))) }
     ensures given { OnOk result
@@ -88,7 +89,7 @@ fn enter_locals<'a>(
 }
 
 fn enter_names<'a>(names: &mut IndexSet<&'a [u8]>, entries: &'a [Name]) -> Result<(), AllocError>
-    requires { length names.old.keys + length entries.now < 4294967296 }
+    requires { length names.old.keys + length entries.now < number_limit }
     ensures names { OnOk result (map (λ name. name.now) names.new.keys
         ≡ with_names (map (λ name. name.now) names.old.keys) (texts_of entries.now)) }
     ensures given { OnOk result

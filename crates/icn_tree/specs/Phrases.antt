@@ -34,8 +34,8 @@ sign_at place kind here after = here ≡ token_at place kind ∷ after
 abbrev pub sign : Kind → Phrase
 sign kind here after = (place : Place) × sign_at place kind here after
 
--- one phrase and then another
 infixr 20 ◌⨾◌
+-- one phrase and then another
 abbrev pub ◌⨾◌ : Phrase → Phrase → Phrase
 (p ⨾ q) here after = (between : List Token) × p here between × q between after
 

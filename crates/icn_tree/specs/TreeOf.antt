@@ -14,6 +14,7 @@ use Rattle.icn_tree.specs.declared.tree.Decl.TheVariants as D
 use Rattle.icn_tree.specs.declared.tree.SourceFile.{SourceFile}
 use Rattle.icn_tree.specs.Trees.{LocalDecl, Initial, NoInitial, Initially, Procedure, Declaration, Global, Link, Invocable, Record, ProcedureOf, Tree, MaybeTree, Trees, Clause, Clauses, Empty, Constant, Identifier, Keyword, Parentheses, Listing, Compound, Call, CoCall, Subscript, Section, Field, Prefix, Not, Binary, To, If, Case, Loop, Repeat, Create, Next, Fail, Break, Return, Suspend, Absent, Present, NoTrees, More, Default, Guarded, NoClauses, MoreClauses}
 
+-- trees, lists of trees and clauses, as definitions see them
 abbrev mutual
   -- an expression of the program, as definitions see it
   pub tree_of : Expr → Tree

@@ -14,7 +14,7 @@ pub record PlainProc : Type 0 where
   pub names : List UnitName
   pub instrs : List UnitInstr
 
--- a declaration: of globals, a procedure, a linked unit, or a record with its fields
+-- a declaration: of a global, a procedure, a linked unit, or a record with its fields
 pub data PlainDecl : Type 0 where
   Global : List ℕ → PlainDecl
   Procedure : List ℕ → PlainDecl

@@ -4,7 +4,7 @@ use Rattle.std.specs.Fmt.{decimal}
 use Rattle.std.specs.List.{prefix_len, list_all}
 use Rattle.std.specs.Option.{option_map}
 use Rattle.std.specs.Str.{bytes_eq}
-use Rattle.icn_profile.specs.Numbers.{greatest_number}
+use Rattle.icn_profile.specs.Numbers.{greatest_number, most_bytes_of_name, most_hexadecimal_digits}
 use Rattle.icn_text.specs.declared.keyword.Keyword.{Keyword}
 use Rattle.icn_text.specs.declared.keyword.Keyword.TheVariants.{Ascii, Cset, Current, Digits, Errout, Fail, Input, Lcase, Letters, Level, Main, Null, Output, Pos, Random, Source, Subject, Ucase, Error, ErrorNumber, ErrorValue, ErrorText}
 use Rattle.icn_text.specs.Keywords.{keyword_name}
@@ -39,10 +39,11 @@ abbrev pub label_of : List ℕ → Option ℕ
 label_of [] = None
 label_of (b ∷ rest) = if b == 76 then number_of greatest_number rest else None
 
--- a letter or an underscore, and letters, underscores and digits
+-- a letter or an underscore, and letters, underscores and digits: no longer than a name
 abbrev pub is_name : List ℕ → Bool
 is_name [] = false
-is_name (b ∷ rest) = begins_identifier b && list_all continues_identifier rest && nat_le (length rest) 65534
+is_name (b ∷ rest) =
+    begins_identifier b && list_all continues_identifier rest && nat_le (length (b ∷ rest)) most_bytes_of_name
 
 -- a lower-case hexadecimal digit
 abbrev pub is_hexadecimal : ℕ → Bool
@@ -63,7 +64,7 @@ hexadecimal_bytes (a ∷ b ∷ rest) = if is_hexadecimal a && is_hexadecimal b t
 abbrev pub bytes_of : List ℕ → Option (List ℕ)
 bytes_of text =
     if bytes_eq text (codes "-") then Some []
-    else (if nat_le 1 (length text) && nat_le (length text) 131070 then hexadecimal_bytes text else None)
+    else (if nat_le 1 (length text) && nat_le (length text) most_hexadecimal_digits then hexadecimal_bytes text else None)
 
 -- each byte is below the next
 abbrev pub ascends : List ℕ → Bool

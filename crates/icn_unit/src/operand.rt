@@ -7,7 +7,9 @@ ghost use Rattle.icn_tree.specs.Characters.{begins_identifier, continues_identif
 ghost use Rattle.icn_unit.specs.UnitOperands.{ascends, behind, bytes_of, first_field, hexadecimal_bytes, hexadecimal_value, is_hexadecimal, is_inside, is_name, keyword_of, label_of, number_of};
 ghost use Rattle.icn_unit.specs.OperandViews.{below_first, byte_item, is_in_line, within_limit, value_limited};
 
-use icn_profile::{GREATEST_INTEGER, GREATEST_NUMBER, UNDERSCORE};
+use icn_profile::{
+    GREATEST_INTEGER, GREATEST_NUMBER, MOST_BYTES_OF_NAME, MOST_HEXADECIMAL_DIGITS, UNDERSCORE,
+};
 use icn_text::{Keyword, decimal, keyword_named};
 use std::alloc::{AllocError, Global};
 
@@ -93,7 +95,11 @@ pub fn is_name(text: &[u8]) -> bool
     ensures { result ≡ is_name text.now }
 {
     match text.split_first() {
-        Some((first, rest)) => begins_identifier(*first) && continues(rest) && rest.len() <= 65534,
+        Some((first, rest)) => {
+            begins_identifier(*first)
+                && continues(rest)
+                && text.len() <= MOST_BYTES_OF_NAME as usize
+        }
         None => false,
     }
 }
@@ -169,7 +175,7 @@ pub fn byte_text(alloc: Global, text: &[u8]) -> Result<Option<Vec<u8>>, AllocErr
 {
     if text == b"-".as_slice() {
         Ok(Some(Vec::new(alloc)))
-    } else if 1 <= text.len() && text.len() <= 131070 {
+    } else if 1 <= text.len() && text.len() <= MOST_HEXADECIMAL_DIGITS as usize {
         hexadecimal_bytes(alloc, text)
     } else {
         Ok(None)

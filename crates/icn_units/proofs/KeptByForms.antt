@@ -19,10 +19,12 @@ use Rattle.icn_unit.specs.UnitRules.{label_in, own_label}
 use Rattle.icn_unit.specs.UnitOperands.{keyword_of}
 use Rattle.icn_translate.specs.declared.forms.InfixForm.{InfixForm}
 use Rattle.icn_translate.specs.declared.forms.InfixForm.TheVariants.{Both, Scanning, Either, Limiting, Activating, Spreading, Operating}
+use Rattle.icn_translate.specs.declared.forms.UpdateForm.{UpdateForm}
+use Rattle.icn_translate.specs.declared.forms.UpdateForm.TheVariants.{Both as UpdatesBoth, Scanning as UpdatesScanning, Activating as UpdatesActivating, Operating as UpdatesOperating}
 use Rattle.icn_translate.specs.declared.forms.PrefixForm.{PrefixForm}
 use Rattle.icn_translate.specs.declared.forms.PrefixForm.TheVariants.{Activation, Repetition, Operation}
 use Rattle.icn_translate.specs.Drafts.{Draft, ◌▹◌, put, next_label, with_label, no_ways, in_loop, outside_loop, aside, put_next, put_last, in_case, put_end}
-use Rattle.icn_translate.specs.Instructions.{literal_instr, known_keyword, keyword_by, keyword_instr, section_op, infix_form, prefix_form}
+use Rattle.icn_translate.specs.Instructions.{literal_instr, known_keyword, keyword_by, keyword_instr, section_op, infix_form, update_form, prefix_form}
 use Rattle.icn_translate.specs.OpenMarks.{OpenMarks, Outermost, Marked, Looped, Each, unmarks_for_break, unmarks_for_next, around}
 use Rattle.icn_translate.specs.Translation.{is_empty, is_nothing, is_no_element, elements, bounded_code, create_code, if_mark, unless_empty, either_step, control_part, in_control, in_body, back, loop_end, prefix_by, plain_form, update, augmented_form, case_of, looped_body, translate, operands, arguments, conjunction, conjuncts, compound, creations, other_creations, subscripts, to_step, otherwise, looped_part, suspended_part, guarded_part, guarded_clause, default_part, default_clause, initially, body}
 use Rattle.icn_units.specs.Written.{operand_fits, name_fits, literal_fits, tree_fits, maybe_fits, trees_fit, clause_fits, clauses_fit, initial_fits}
@@ -261,7 +263,7 @@ module _ (S : Keeps) where
   -- Operators
 
   repetition_runs : {n : ℕ} {marked : Draft → Draft} → Runs S n marked → (operand : Draft → Draft)
-      → Runs S n (prefix_by Repetition operand marked)
+      → Runs S n (prefix_by (Some Repetition) operand marked)
   repetition_runs {n = n} {marked = marked} r operand = record {
     run = λ d h.
         let m = next_label d in
@@ -279,31 +281,33 @@ module _ (S : Keeps) where
         (S.instr d _ [] (I.Chfail m) may all);
   }
 
-  prefix_runs : {n : ℕ} (form : PrefixForm) {operand marked : Draft → Draft} → Runs S n operand → Runs S n marked
+  prefix_runs : {n : ℕ} (form : Option PrefixForm) {operand marked : Draft → Draft} → Runs S n operand → Runs S n marked
       → Runs S n (prefix_by form operand marked)
-  prefix_runs Activation r q = record {
+  prefix_runs None r q = nothing_runs
+  prefix_runs (Some Activation) r q = record {
     run =
         λ d h. (from d h ▸ chain_plain I.Pnull refl refl refl (λ h. refl) ▸ chain_step r
         ▸ chain_plain I.Coact refl refl refl (λ h. refl)).leads;
   }
-  prefix_runs Repetition {operand = operand} r q = repetition_runs q operand
-  prefix_runs (Operation op) r q = record {
+  prefix_runs (Some Repetition) {operand = operand} r q = repetition_runs q operand
+  prefix_runs (Some (Operation op)) r q = record {
     run =
         λ d h. (from d h ▸ chain_step r ▸ chain_plain (I.Op op) refl refl refl (λ h. refl)).leads;
   }
 
-  plain_runs : {n : ℕ} (form : InfixForm) {a marked b : Draft → Draft} → Runs S n a → Runs S n marked → Runs S n b
+  plain_runs : {n : ℕ} (form : Option InfixForm) {a marked b : Draft → Draft} → Runs S n a → Runs S n marked → Runs S n b
       → Runs S n (plain_form form a marked b)
-  plain_runs Both a m b = record {
+  plain_runs None a m b = nothing_runs
+  plain_runs (Some Both) a m b = record {
     run = λ d h.
         (from d h ▸ chain_step a ▸ chain_plain I.Pop refl refl refl (λ h. refl) ▸ chain_step b).leads;
   }
-  plain_runs Scanning a m b = record {
+  plain_runs (Some Scanning) a m b = record {
     run =
         λ d h. (from d h ▸ chain_step a ▸ chain_plain I.Bscan refl refl refl (λ h. refl) ▸ chain_step b
         ▸ chain_plain I.Escan refl refl refl (λ h. refl)).leads;
   }
-  plain_runs Either a m b = record {
+  plain_runs (Some Either) a m b = record {
     run =
         λ d h. (from d h ▸ labelled I.Mark (λ l. record
         { label = refl; place = refl; variable = refl; operand = λ passes. refl }) ▸ chain_step m
@@ -312,20 +316,20 @@ module _ (S : Keeps) where
         ▸ second_placed ▸ chain_step b
         ▸ placed).leads;
   }
-  plain_runs Limiting a m b = record {
+  plain_runs (Some Limiting) a m b = record {
     run =
         λ d h. (from d h ▸ chain_step b ▸ chain_plain I.Limit refl refl refl (λ h. refl) ▸ chain_step m
         ▸ chain_plain I.Lsusp refl refl refl (λ h. refl)).leads;
   }
-  plain_runs Activating a m b = record {
+  plain_runs (Some Activating) a m b = record {
     run =
         λ d h. (from d h ▸ chain_step a ▸ chain_step b ▸ chain_plain I.Coact refl refl refl (λ h. refl)).leads;
   }
-  plain_runs Spreading a m b = record {
+  plain_runs (Some Spreading) a m b = record {
     run =
         λ d h. (from d h ▸ chain_step a ▸ chain_step b ▸ chain_plain I.Appl refl refl refl (λ h. refl)).leads;
   }
-  plain_runs (Operating op) a m b = record
+  plain_runs (Some (Operating op)) a m b = record
       { run = λ d h. (from d h ▸ chain_step a ▸ chain_step b ▸ chain_plain (I.Op op) refl refl refl (λ h. refl)).leads }
 
   update_runs : {n : ℕ} (i : UnitInstr) → label_in i ≡ None → own_label i ≡ None → variable_in i ≡ None
@@ -338,29 +342,27 @@ module _ (S : Keeps) where
         ▸ chain_plain (I.Op O.Assign) refl refl refl (λ h. refl)).leads;
   }
 
-  augmented_runs : {n : ℕ} (form : InfixForm) {a b : Draft → Draft} → Runs S n a → Runs S n b
+  augmented_runs : {n : ℕ} (form : Option UpdateForm) {a b : Draft → Draft} → Runs S n a → Runs S n b
       → Runs S n (augmented_form form a b)
-  augmented_runs Both a b = record {
+  augmented_runs None a b = nothing_runs
+  augmented_runs (Some UpdatesBoth) a b = record {
     run =
         λ d h. (from d h ▸ chain_step a ▸ chain_step b ▸ chain_plain (I.Op O.Assign) refl refl refl (λ h. refl)).leads;
   }
-  augmented_runs Scanning a b = record {
+  augmented_runs (Some UpdatesScanning) a b = record {
     run =
         λ d h. (from d h ▸ chain_step a ▸ chain_plain I.Dup refl refl refl (λ h. refl)
         ▸ chain_plain I.Bscan refl refl refl (λ h. refl) ▸ chain_step b
         ▸ chain_plain I.Escan refl refl refl (λ h. refl) ▸ chain_plain (I.Op O.Assign) refl refl refl (λ h. refl)).leads;
   }
-  augmented_runs Either a b = nothing_runs
-  augmented_runs Limiting a b = nothing_runs
-  augmented_runs Activating a b = update_runs I.Coact refl refl refl (λ h. refl) a b
-  augmented_runs Spreading a b = update_runs I.Appl refl refl refl (λ h. refl) a b
-  augmented_runs (Operating op) a b = update_runs (I.Op op) refl refl refl (λ h. refl) a b
+  augmented_runs (Some UpdatesActivating) a b = update_runs I.Coact refl refl refl (λ h. refl) a b
+  augmented_runs (Some (UpdatesOperating op)) a b = update_runs (I.Op op) refl refl refl (λ h. refl) a b
 
   binary_runs : {n : ℕ} (o : OpenMarks) (place : Place) (infix_ : Infix) (a b : Tree) → Runs S n (translate o a)
       → Runs S n (translate (Marked o) a) → Runs S n (translate o b)
       → Runs S n (translate o (Binary place infix_ a b))
   binary_runs o place (Plain operator) a b x m y = plain_runs (infix_form operator) x m y
-  binary_runs o place (Augmented operator) a b x m y = augmented_runs (infix_form operator) x y
+  binary_runs o place (Augmented operator) a b x m y = augmented_runs (update_form operator) x y
 
   -- Loops
 

@@ -198,7 +198,7 @@ codes_kept met (ProcedureOf p ∷ others) f w n =
 
 short_name : (text : List ℕ) → is_name text ≡ true → nat_le (length text) 65535 ≡ true
 short_name [] h = absurd (cc)
-short_name (b ∷ rest) h = let k = le_of_nat_le (length rest) 65534 (and_second _ (nat_le (length rest) 65534) h) in
+short_name (b ∷ rest) h = let k = le_of_nat_le (length (b ∷ rest)) 65535 (and_second _ (nat_le (length (b ∷ rest)) 65535) h) in
     nat_le_of_le (suc (length rest)) 65535 (omega arith)
 
 short_item : (item : DeclItem) → item_fits is_short item ≡ true → nat_le (length (item_text item)) 65535 ≡ true

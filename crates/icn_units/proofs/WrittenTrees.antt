@@ -69,7 +69,7 @@ le_of_nat_le a b h = by (leb_tells a b)
 
 name_by : (text : List ℕ) → length text ≤ 65535 → Bounds.is_name text ≡ true → is_name text ≡ true
 name_by [] h g = absurd (cc)
-name_by (b ∷ rest) h g = and_intro g (nat_le_of_le (length rest) 65534 (omega arith))
+name_by (b ∷ rest) h g = and_intro g (nat_le_of_le (length (b ∷ rest)) 65535 (omega arith))
 
 same_ascends : (members : List ℕ) → Bounds.ascends members ≡ ascends members
 same_ascends [] = refl

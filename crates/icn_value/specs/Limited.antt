@@ -1,6 +1,6 @@
 -- The limits of a run, as definitions and laws see them.
 use Rattle.std.specs.Prelude.{ℕ, ◌-◌}
-use Rattle.icn_profile.specs.Numbers.{default_cells, default_levels, default_strings}
+use Rattle.icn_profile.specs.Numbers.{default_cells, default_levels, default_strings, most_turns}
 use Rattle.icn_value.specs.declared.limits.Limits.{Limits}
 
 -- the limits of a run: its turns, the string bytes and the cells that it may be charged, and how deep procedures call
@@ -19,7 +19,7 @@ limits_of limits =
 abbrev pub default_limits : Bounds
 default_limits =
     record {
-      turns = 18446744073709551615;
+      turns = most_turns;
       strings = default_strings;
       cells = default_cells;
       levels = default_levels;

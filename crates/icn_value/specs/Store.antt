@@ -1,5 +1,5 @@
 -- What a heap stands for, the world round it, and the outside.
-use Rattle.std.specs.Prelude.{ℕ, ℤ, List, [], ◌∷◌, length, slice_get, slice_set, slice_index, unwrap_or, pos, Option}
+use Rattle.std.specs.Prelude.{ℕ, zero, suc, ℤ, List, [], ◌∷◌, ◌++◌, slice_get, slice_set, slice_index, unwrap_or, pos, Option}
 use Rattle.icn_structs.specs.Numbered.{NumberedList}
 use Rattle.icn_value.specs.Limited.{Bounds}
 use Rattle.icn_value.specs.Values.{Value, Null}
@@ -47,37 +47,49 @@ pub data Request : Type 0 where
   ALine : Request
   SomeBytes : ℕ → Request
 
--- a reading: what it asks for, the input that is left before it, and how much stands on the output and on
--- the error output by then
-pub record Reading : Type 0 where
-  pub asked : Request
-  pub left : List ℕ
-  pub output : ℕ
-  pub errors : ℕ
+-- what a program does outside: it reads, or it puts a byte on the output or on the error output
+pub data Event : Type 0 where
+  AReading : Request → Event
+  OutputByte : ℕ → Event
+  ErrorByte : ℕ → Event
 
--- the input left, what was put on the output and on the error output, and the readings that were made, the
--- last one first
+-- the bytes that these events put on the output, in their order
+abbrev pub output_in : List Event → List ℕ
+output_in [] = []
+output_in (AReading asked ∷ later) = output_in later
+output_in (OutputByte byte ∷ later) = byte ∷ output_in later
+output_in (ErrorByte byte ∷ later) = output_in later
+
+-- the bytes that they put on the error output
+abbrev pub errors_in : List Event → List ℕ
+errors_in [] = []
+errors_in (AReading asked ∷ later) = errors_in later
+errors_in (OutputByte byte ∷ later) = errors_in later
+errors_in (ErrorByte byte ∷ later) = byte ∷ errors_in later
+
+-- how many readings are among them
+abbrev pub readings_in : List Event → ℕ
+readings_in [] = zero
+readings_in (AReading asked ∷ later) = suc (readings_in later)
+readings_in (OutputByte byte ∷ later) = readings_in later
+readings_in (ErrorByte byte ∷ later) = readings_in later
+
+-- the input left, and all that was done outside so far, in its order
 pub record Outside : Type 0 where
   pub left : List ℕ
-  pub output : List ℕ
-  pub errors : List ℕ
-  pub readings : List Reading
+  pub history : List Event
 
 -- a program begins with its input, before anything is put or read
 abbrev pub outside_of : List ℕ → Outside
-outside_of input = record { left = input; output = []; errors = []; readings = [] }
+outside_of input = record { left = input; history = [] }
+
+-- these events more were done
+abbrev pub with_events : List Event → Outside → Outside
+with_events done outside = record outside { history = outside.history ++ done }
 
 -- a reading is made: the history keeps it, whatever it finds
 abbrev pub with_reading : Request → Outside → Outside
-with_reading asked outside =
-    let seen : Reading =
-    record {
-      asked = asked;
-      left = outside.left;
-      output = length outside.output;
-      errors = length outside.errors;
-    } in
-    record outside { readings = seen ∷ outside.readings }
+with_reading asked outside = with_events (AReading asked ∷ []) outside
 
 -- what an operation is applied in: the world, the locals of the activation at hand, and the outside
 pub record Setting : Type 0 where

@@ -2,7 +2,7 @@
 ghost use Rattle.std.specs.Prelude.{◌≡◌, ◌≤◌};
 ghost use Rattle.icn_profile.specs.Numbers.{most_cells, most_levels, most_strings};
 
-use icn_profile::{DEFAULT_CELLS, DEFAULT_LEVELS, DEFAULT_STRINGS};
+use icn_profile::{DEFAULT_CELLS, DEFAULT_LEVELS, DEFAULT_STRINGS, MOST_TURNS};
 
 /// What a run may use.
 #[derive(Clone, Copy, Debug, PartialEq, Eq)]
@@ -29,7 +29,7 @@ impl Limits {
         ensures { limits_of result ≡ default_limits }
     {
         Limits {
-            turns: u64::MAX,
+            turns: MOST_TURNS,
             strings: DEFAULT_STRINGS,
             cells: DEFAULT_CELLS,
             levels: DEFAULT_LEVELS,

@@ -11,3 +11,4 @@ pub mod Exchanges
 pub mod StartWorlds
 pub mod HeldValues
 pub mod HeapRows
+pub mod UndoMemory

@@ -2,7 +2,7 @@
 ghost use Rattle.std.specs.Prelude.{◌≡◌, false, true, List, IfSome};
 ghost use Rattle.icn_value.specs.declared.val.Val.{Val};
 ghost use Rattle.std.specs.Option.{option_map};
-ghost use Rattle.icn_defs.specs.Errors.{ends_run, is_fatal, lowered, with_kept};
+ghost use Rattle.icn_defs.specs.Errors.{ends_run, is_fatal, one_less, with_kept};
 ghost use Rattle.icn_defs.specs.RowFacts.{is_error_number};
 ghost use Rattle.icn_heap.specs.Extents.{IsLive, value_in};
 ghost use Rattle.icn_heap.specs.Heaps.{extent_of};
@@ -27,8 +27,8 @@ fn ends_run(number: u16, count: i64) -> bool
 }
 
 // One less, but that the least integer stays.
-fn lowered(count: i64) -> i64
-    ensures { result ≡ lowered count }
+fn one_less(count: i64) -> i64
+    ensures { result ≡ one_less count }
 {
     if count > i64::MIN { count - 1 } else { count }
 }
@@ -49,7 +49,7 @@ pub fn ends_by(w: &mut World, number: u16, value: Option<Val>) -> bool
     if ends_run(number, w.words.error) {
         return true;
     }
-    w.words.error = lowered(w.words.error);
+    w.words.error = one_less(w.words.error);
     w.words.kept = Some(HeldError { number, value });
     false
 }

@@ -1,12 +1,13 @@
 // Exchanging two variables.
-ghost use Rattle.std.specs.Prelude.{◌≡◌, ◌<◌, ◌-◌, ◌^◌, List, ℕ, length, IfErr, OnOk};
+ghost use Rattle.std.specs.Prelude.{◌≡◌, ◌<◌, ◌-◌, ◌^◌, List, ℕ, length, true, IfErr, OnOk};
 ghost use Rattle.std.specs.List.{All};
 ghost use Rattle.icn_value.specs.Store.{Outside};
 ghost use Rattle.icn_value.specs.Values.{Text};
 ghost use Rattle.icn_defs.specs.ReadAndAssign.{assigns_both};
+ghost use Rattle.icn_defs.specs.RowFacts.{can_hold};
 ghost use Rattle.icn_heap.specs.Extents.{IsLive, value_in};
 ghost use Rattle.icn_heap.specs.Heaps.{extent_of};
-ghost use Rattle.icn_vars.specs.Assignments.{ExchangesAs, HoldAlike, HoldsShort, IsLiveExchange, assigns_moved, assigns_right, exchange_of};
+ghost use Rattle.icn_vars.specs.Assignments.{ExchangesAs, HoldAlike, HoldsShort, IsError, IsLiveExchange, assigns_moved, assigns_right, exchange_of, takes_no_memory};
 ghost use Rattle.icn_vars.specs.Outcomes.{mover_of};
 ghost use Rattle.icn_vars.specs.Worlds.{IsLiveVariable, IsShort, KeepsItems, reach_of, setting_of, variable_in};
 ghost use Rattle.icn_vars.specs.declared.stop.Stop.TheVariants.{NoMemory};
@@ -53,7 +54,8 @@ pub fn exchange<L: Locals>(
 }
 
 /// Assigns to the left side, and then to the right one. The assignment of the mover moves the other side. `Stop` is the
-/// error that an assignment stops with, or want of memory.
+/// error that an assignment stops with, or want of memory. Neither side moves the other, and both take none, where both are whole
+/// variables that can hold these values, and none is a key of a table.
 pub fn assign_both<L: Locals>(
     w: &mut World,
     l: &mut L,
@@ -76,6 +78,12 @@ pub fn assign_both<L: Locals>(
     ensures live { IsLiveExchange (reach_of w.new (L.items l.new)) result }
     ensures holds { HoldAlike (extent_of w.new.heap) (variable_in (extent_of w.old.heap) left)
         (variable_in (extent_of w.old.heap) right) result }
+    ensures memory { mover ≡ Mover.Neither → takes_no_memory (variable_in (extent_of w.old.heap) left) ≡ true
+        → takes_no_memory (variable_in (extent_of w.old.heap) right) ≡ true
+        → can_hold (variable_in (extent_of w.old.heap) left) (value_in (extent_of w.old.heap) to_left) ≡ true
+        → can_hold (variable_in (extent_of w.old.heap) right) (value_in (extent_of w.old.heap) to_right)
+        ≡ true
+        → IfErr result IsError }
     ensures locals { All (IsLive (extent_of w.new.heap)) (L.items l.new) }
     ensures kept { KeepsItems (reach_of w.old (L.items l.old)) (reach_of w.new (L.items l.new)) }
 {
@@ -145,6 +153,10 @@ fn assign_right<L: Locals>(
     ensures live { IsLiveExchange (reach_of w.new (L.items l.new)) result }
     ensures holds { HoldAlike (extent_of w.new.heap) (variable_in (extent_of w.old.heap) left)
         (variable_in (extent_of w.old.heap) right) result }
+    ensures memory { takes_no_memory (variable_in (extent_of w.old.heap) right) ≡ true
+        → can_hold (variable_in (extent_of w.old.heap) right) (value_in (extent_of w.old.heap) to_right)
+        ≡ true
+        → IfErr result IsError }
     ensures locals { All (IsLive (extent_of w.new.heap)) (L.items l.new) }
     ensures kept { KeepsItems (reach_of w.old (L.items l.old)) (reach_of w.new (L.items l.new)) }
 {

@@ -2,7 +2,7 @@
 ghost use Rattle.std.specs.Prelude.{◌≡◌, ◌≤◌, ◌+◌, ◌-◌, ◌<◌, ◌^◌, ◌%◌, true, List, length, is_some, IfErr, IfOk, IfSome};
 ghost use Rattle.std.specs.List.{All};
 ghost use Rattle.icn_value.specs.Store.{Outside};
-ghost use Rattle.icn_defs.specs.Conversions.{held_text, place_of};
+ghost use Rattle.icn_defs.specs.Conversions.{held_text, position_of};
 ghost use Rattle.icn_defs.specs.RowFacts.{word_holds};
 ghost use Rattle.icn_defs.specs.ReadAndAssign.{assigns_keyword};
 ghost use Rattle.icn_heap.specs.Extents.{IsLive, value_in};
@@ -98,7 +98,7 @@ fn assign_position<L: Locals>(w: &mut World, l: &L, val: Val) -> Result<bool, St
         None => return Err(Stop::Error(101, Some(val))),
     };
     short_text(&w.heap, w.pair.subject);
-    match place_of(n, w.heap.bytes(w.pair.subject).len() as u64) {
+    match position_of(n, w.heap.bytes(w.pair.subject).len() as u64) {
         Some(place) => {
             w.pair.position = place;
             Ok(true)
@@ -153,9 +153,9 @@ fn assign_error<L: Locals>(w: &mut World, l: &L, val: Val) -> Result<bool, Stop>
 
 /// The place that a position means in a text of so many bytes, from 1 on: at or below 0 it counts from the end. `None` comes exactly
 /// where it is out of range. It takes no memory.
-pub fn place_of(position: i64, size: u64) -> Option<u64>
+pub fn position_of(position: i64, size: u64) -> Option<u64>
     requires { size < 2 ^ 63 }
-    ensures place { result ≡ place_of position size }
+    ensures place { result ≡ position_of position size }
     ensures low { IfSome result (λ place. 1 ≤ place) }
     ensures high { IfSome result (λ place. place ≤ size + 1) }
 {

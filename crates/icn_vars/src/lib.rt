@@ -25,7 +25,7 @@ pub use change_laws::{
 };
 pub use errors::ends_by;
 pub use exchanging::exchange;
-pub use keywords::place_of;
+pub use keywords::position_of;
 pub use locals::Locals;
 pub use movers::mover_of;
 pub use outcome::{Halt, Outcome};

@@ -43,7 +43,8 @@ pub fn undo<L: Locals>(w: &mut World, l: &mut L, variable: VarRef, old: Val) -> 
 }
 
 /// Gives both sides of an exchange their old values back, the left side first. The mover moves the other side back. The errors are
-/// those of `exchange`, and 205 where `&pos` is out of range by now.
+/// those of `exchange`, and 205 where `&pos` is out of range by now. Whole variables that are no keys of tables come back without
+/// memory.
 pub fn undo_exchange<L: Locals>(
     w: &mut World,
     l: &mut L,
@@ -64,6 +65,9 @@ pub fn undo_exchange<L: Locals>(
         (variable_in (extent_of w.old.heap) left) (variable_in (extent_of w.old.heap) right)
         (value_in (extent_of w.old.heap) old_left) (value_in (extent_of w.old.heap) old_right))
         (setting_of outside w.old (L.items l.old)) (setting_of outside w.new (L.items l.new))) }
+    ensures memory { mover ≡ Mover.Neither → takes_no_memory (variable_in (extent_of w.old.heap) left) ≡ true
+        → takes_no_memory (variable_in (extent_of w.old.heap) right) ≡ true
+        → IfErr result IsError }
     ensures stops { IfErr result (IsLiveStop (extent_of w.new.heap)) }
     ensures locals { All (IsLive (extent_of w.new.heap)) (L.items l.new) }
     ensures kept { KeepsItems (reach_of w.old (L.items l.old)) (reach_of w.new (L.items l.new)) }

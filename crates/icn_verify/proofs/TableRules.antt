@@ -2,10 +2,11 @@
 use Rattle.std.proofs.Common.{◌≡◌, ℕ, zero, suc, ◌+◌, ◌<◌, ◌≤◌, ◌^◌, Bool, true, false, ◌&&◌, ◌||◌, not, IsTrue, nat_le, nat_lt, List, [], ◌∷◌, length, slice_get, Option, None, Some, refl, sym, ap, ◌∙◌, true≢false, arith}
 use Rattle.std.specs.List.{list_all, sum_by}
 use Rattle.std.proofs.lemmas.Bool.Decides.{nat_tests}
+use Rattle.icn_profile.specs.Numbers.{number_limit}
 use Rattle.icn_code.specs.declared.instr.Instr.{Instr}
 use Rattle.icn_code.specs.declared.instr.Instr.TheVariants.{Mark, Chfail, Goto, Loop, Init, Create}
 use Rattle.icn_code.specs.Codes.{Proc, Tables}
-use Rattle.icn_code.specs.Rules.{keeps_rules, number_limit, is_number, are_counts, are_procs, is_proc, is_head, is_instr}
+use Rattle.icn_code.specs.Rules.{keeps_rules, is_number, are_counts, are_procs, is_proc, is_head, is_instr}
 use Rattle.icn_verify.specs.Rows.{is_within}
 use Rattle.icn_verify.specs.ReachingShapes.{AreWithin}
 use Rattle.icn_verify.specs.Refusals.{AreBounded}

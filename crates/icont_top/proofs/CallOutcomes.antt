@@ -10,6 +10,7 @@ use Rattle.icn_host.proofs.ToldPuts.{puts_nothing}
 use Rattle.icn_host.proofs.SinkSteps.{gains_nothing}
 use Rattle.icn_host.specs.Puts.{all, LeadsBy}
 use Rattle.icn_host.specs.Sinks.{SinkState}
+use Rattle.icn_host.specs.Sources.{SourceCounts}
 use Rattle.icn_host.specs.declared.fault.Fault.TheVariants.{NoMemory as Wants}
 use Rattle.icn_tree.specs.Trees.{Declaration}
 use Rattle.icn_code.specs.Codes.{Tables}
@@ -22,6 +23,7 @@ use Rattle.icn_image.specs.Reading.{image_read}
 use Rattle.icn_image.specs.Spelling.{image_of}
 use Rattle.law_simulation.specs.FirstLaw.{IsLinked, FilesMean, RunsFlat}
 use Rattle.icn_streams.specs.Handed.{CallStreams, call_streams}
+use Rattle.icn_running.specs.Reported.{ending_seen}
 use Rattle.icn_answer.specs.declared.answer.Answer.{Answer}
 use Rattle.icn_answer.specs.declared.answer.Answer.TheVariants.{Wrote, Ran, Refused, Command, Missing, BadUcode, BadImage, FileFault, ReadFault, WriteFault, NoMemory}
 use Rattle.icn_answer.specs.Answers.{IsFault}
@@ -40,12 +42,12 @@ use Rattle.icont_units.specs.Units.{FilesCome, Member, units_of}
 use Rattle.icont_top.specs.declared.loading.LoadedProgram.{LoadedProgram}
 use Rattle.icont_top.specs.declared.top.Plan.{Plan as PlanHeld}
 use Rattle.icont_top.specs.Answered.{IsAnswered, fault as answered_fault, refused as answered_refused, translated as answered_translated, wrote as answered_wrote, ran as answered_ran}
-use Rattle.icont_top.specs.Answering.{IsDone}
+use Rattle.icont_top.specs.Answering.{IsDone, RunsAsAsked}
 use Rattle.icont_top.specs.Asking.{IsProgram, IsProgramOf, IsReadyProgram, plan_seen}
 use Rattle.icont_top.specs.Job.{IsJob, Job, IsPlanned, AsksForUnits, Plan, Plans, RefusesCommand, WrittenFile, behind, image_file, image_name, run_launch, no_members, no_program, no_units, refusal, refuses, run_job, runs, translates, ucode_files, writes, files_job}
 use Rattle.icont_top.specs.Outcomes.{AreWritten, HasWritten, HoldsNow, HoldsWritten, IsBehindFiles, IsIdleFault, IsImage, IsReadBack, IsUnwritten, AnswersCommand, WritesAll, WritesPart, all_written, broke, broke_behind, done, fault, idle, left_alone, part_written, torn}
 use Rattle.icont_top.specs.Programs.{Behaves, Links, RunsBy, files_of, is_program, linked_code, not_linked, unverified}
-use Rattle.icont_top.specs.Running.{HasRun, has_ended, was_broken, was_broken_behind}
+use Rattle.icont_top.specs.Running.{HasRun, IsOver, WasOver, has_ended, was_broken, was_broken_behind}
 use Rattle.icont_top.specs.Usage.{usage}
 use Rattle.icont_top.proofs.LinkingRules.{image_within}
 use Rattle.icont_top.proofs.WrittenTexts.{writes_none}
@@ -80,21 +82,45 @@ idle_short {left = left} answer before between is (inr short) = inr (refusal lef
 
 -- nothing was done but to put a line
 refused : {words : List (List ℕ)} {files : FileMap} {left : List ℕ} (answer given : Answer) (held held' : Option FileMap) (left' : Option (List ℕ))
-    (input : ℕ) (out before after : SinkState) → Asked words files answer → (answer ≡ WriteFault → ⊥) → (answer ≡ ReadFault → ⊥)
+    (input : SourceCounts) (out before after : SinkState) → Asked words files answer → (answer ≡ WriteFault → ⊥) → (answer ≡ ReadFault → ⊥)
     → held' ≡ held → left' ≡ Some left → PutsRefusal usage [] answer before after given
     → AnswersCommand words files left given (call_objects held (call_streams left' input out before)) (call_objects held' (call_streams left' input out after))
 refused answer given held held' left' input out before after (inl f) no_write no_read same d (put n h) = absurd (n f)
 refused {left = left} answer given held held' left' input out before after (inr is) no_write no_read same d (put n h) =
     done (refusal left answer) (refuses answer is)
-    (record { answered = refl; files = writes_none held held' same; left = d; output = gains_nothing out.held; errors = h.gains })
+    (record { answered = refl; files = writes_none held held' same; left = d; calls = refl; output = gains_nothing out.held; errors = h.gains })
 refused {words} {files} {left} answer given held held' left' input out before after asks no_write no_read same d (own f puts) =
-    fault f (idle before same refl refl (idle_of (IsJob words files left) answer before f no_write no_read) (puts_own _ _ answer puts))
+    fault f (idle (record {
+      between = before;
+      files_stay = same;
+      input_stays = refl;
+      counts_stay = refl;
+      output_stays = refl;
+      cause = idle_of (IsJob words files left) answer before f no_write no_read;
+      line = puts_own _ _ answer puts;
+    }))
 refused answer given held held' left' input out before after (inl f) no_write no_read same d (write_fault n stops) = absurd (n f)
 refused {left = left} answer given held held' left' input out before after (inr is) no_write no_read same d (write_fault n stops) =
-    fault refl (idle after same refl refl (refusal left answer, refuses answer is, refl, stops) (all (puts_nothing after)))
+    fault refl (idle (record {
+      between = after;
+      files_stay = same;
+      input_stays = refl;
+      counts_stay = refl;
+      output_stays = refl;
+      cause = (refusal left answer, refuses answer is, refl, stops);
+      line = all (puts_nothing after);
+    }))
 refused answer given held held' left' input out before after (inl f) no_write no_read same d (want n between leads puts) = absurd (n f)
 refused answer given held held' left' input out before after (inr is) no_write no_read same d (want n between leads puts) =
-    fault refl (idle between same refl refl (idle_short answer before between is leads) puts)
+    fault refl (idle (record {
+      between = between;
+      files_stay = same;
+      input_stays = refl;
+      counts_stay = refl;
+      output_stays = refl;
+      cause = idle_short answer before between is leads;
+      line = puts;
+    }))
 
 asked_answer : {words : List (List ℕ)} {files : FileMap} (answer : Answer) → Asked words files answer → IsAnswered words files answer
 asked_answer answer (inl f) = answered_fault answer f
@@ -136,8 +162,23 @@ given_unwritten answer _ is (own f puts) = is
 given_unwritten answer _ is (write_fault n stops) = tt
 given_unwritten answer _ is (want n between leads puts) = tt
 
+-- an answer that no file was written for is of no run
+runs_unless : (words : List (List ℕ)) (files : FileMap) (before after : CallStreams) (answer : Answer) → (HasWritten answer → ⊥)
+    → RunsAsAsked words files answer before after
+runs_unless words files before after (Ran ending) none = absurd (none tt)
+runs_unless words files before after Wrote none = tt
+runs_unless words files before after (Refused file line rule) none = tt
+runs_unless words files before after (Command kind) none = tt
+runs_unless words files before after (Missing name) none = tt
+runs_unless words files before after (BadUcode name rule) none = tt
+runs_unless words files before after (BadImage rule) none = tt
+runs_unless words files before after FileFault none = tt
+runs_unless words files before after ReadFault none = tt
+runs_unless words files before after WriteFault none = tt
+runs_unless words files before after NoMemory none = tt
+
 pub refused_done : {words : List (List ℕ)} {files : FileMap} (answer given : Answer) (held held' : Option FileMap) (left : Option (List ℕ))
-    (input : ℕ) (out before after : SinkState) → (HasWritten answer → ⊥) → (answer ≡ WriteFault → ⊥) → (answer ≡ ReadFault → ⊥)
+    (input : SourceCounts) (out before after : SinkState) → (HasWritten answer → ⊥) → (answer ≡ WriteFault → ⊥) → (answer ≡ ReadFault → ⊥)
     → Asked words files answer → held' ≡ held → PutsRefusal usage [] answer before after given
     → IsDone words files given (call_objects held (call_streams left input out before)) (call_objects held' (call_streams left input out after))
 refused_done answer given held held' left input out before after none no_write no_read asks same line = record {
@@ -145,6 +186,7 @@ refused_done answer given held held' left input out before after none no_write n
   headline = λ w. absurd (given_none HasWritten answer given none (λ x. x) (λ x. x) line w);
   leaves = left_alone (given_unwritten answer given (unwritten answer none no_read) line) same;
   answered = answer_put answer given (asked_answer answer asks) line;
+  ran = runs_unless _ _ _ _ given (given_none HasWritten answer given none (λ x. x) (λ x. x) line);
 }
 
 -- the files as they were before they were read
@@ -258,10 +300,19 @@ wrote_done members plan program streams back alike ready e sets no_run =
     record {
       outcome = if_some_intro streams.left _ (λ left d. done (files_job (plan_file plan members ∷ []) left)
           (writes (plan_seen plan) members (linked_code members) (planned ready) none)
-          (record { answered = refl; files = sets; left = d; output = gains_nothing streams.output.held; errors = gains_nothing streams.errors.held }));
+          (record {
+            answered = refl;
+            files = sets;
+            left = d;
+            calls = refl;
+            output = gains_nothing streams.output.held;
+            errors = gains_nothing
+                streams.errors.held;
+          }));
       headline = λ w. holds_image members plan program back alike ready e sets;
       leaves = all_written _ (AreWritten.image (plan_seen plan) members (linked_code members) (planned ready)) tt sets;
       answered = answered_wrote (plan_seen plan) members (linked_code members) (planned ready) none;
+      ran = tt;
     }
 
 -- which answers a run can give
@@ -298,31 +349,97 @@ ran_outcome : {words : List (List ℕ)} {files : FileMap} {held held' : Option F
     → WritesAll held held' (plan_file plan members ∷ []) → (plan_seen plan).run ≡ Some run
     → HasRun (tables_of program.made.code.code) (run_launch run left) (plan_seen plan).number answer before after
     → AnswersCommand words files left answer (call_objects held before) (call_objects held' after)
-ran_outcome left members plan program run answer before after alike ready sets e (has_ended seen flat same left' out err) =
+ran_outcome left members plan program run answer before after alike ready sets e (has_ended seen flat same left' calls out err) =
     done (run_job (plan_file plan members) seen (behind (plan_seen plan).number seen.ending))
     (runs (plan_seen plan) members (linked_code members) run seen (planned ready) e (behaves alike members program ready.is (run_launch run left) seen flat))
-    (record { answered = same; files = sets; left = left'; output = out; errors = err })
+    (record { answered = same; files = sets; left = left'; calls = calls; output = out; errors = err })
 ran_outcome left members plan program run answer before after alike ready sets e (was_broken wrong between same first off behind) =
     fault (rw same (is_run_fault wrong))
-    (broke (plan_seen plan) members (linked_code members) run wrong between (planned ready) e sets same first
-    (record { seen = off.0; behaves = behaves alike members program ready.is (run_launch run left) off.0 off.1.0; leaves = off.1.1 }) behind)
+    (broke (record {
+      plan = plan_seen plan;
+      members = members;
+      tables = linked_code members;
+      run = run;
+      stopped = wrong;
+      between = between;
+      asked = planned ready;
+      runs = e;
+      image = sets;
+      answered = same;
+      first = first;
+      broken = record { seen = off.0; behaves = behaves alike members program ready.is (run_launch run left) off.0 off.1.0; leaves = off.1.1 };
+      line = behind;
+    }))
 ran_outcome left members plan program run answer before after alike ready sets e
     (was_broken_behind n wrong between seen number stops same first flat leaves puts) =
     fault (rw same (is_run_fault wrong))
-    (broke_behind (plan_seen plan) members (linked_code members) run n wrong between (planned ready) e number sets stops same first
-    (record { seen = seen; behaves = behaves alike members program ready.is (run_launch run left) seen flat; leaves = leaves }) puts)
+    (broke_behind (record {
+      plan = plan_seen plan;
+      members = members;
+      tables = linked_code members;
+      run = run;
+      number = n;
+      stopped = wrong;
+      between = between;
+      asked = planned ready;
+      runs = e;
+      numbered = number;
+      image = sets;
+      stops = stops;
+      answered = same;
+      first = first;
+      broken = record { seen = seen; behaves = behaves alike members program ready.is (run_launch run left) seen flat; leaves = leaves };
+      line = puts;
+    }))
+
+-- a run of the program that words and files ask for
+runs_asked : {words : List (List ℕ)} {files : FileMap} (members : List Member) (plan : PlanHeld) (program : LoadedProgram) (run : Run) (answer : Answer)
+    (before after : CallStreams) → IsReadyProgram words files members plan program → (plan_seen plan).run ≡ Some run
+    → IsOver (tables_of program.made.code.code) (run_launch run []) (plan_seen plan).number answer before after
+    → RunsAsAsked words files answer before after
+runs_asked members plan program run (Ran ending) before after ready asks over = (
+  plan_seen plan,
+  (
+    members,
+    (
+      linked_code members,
+      (
+        run,
+        (
+          planned ready,
+          (
+            asks,
+            subst (λ t. WasOver t (run_launch run []) (plan_seen plan).number (ending_seen ending) before after) ready.is.made.code over,
+          ),
+        ),
+      ),
+    ),
+  ),
+)
+runs_asked members plan program run Wrote before after ready asks over = tt
+runs_asked members plan program run (Refused file line rule) before after ready asks over = tt
+runs_asked members plan program run (Command kind) before after ready asks over = tt
+runs_asked members plan program run (Missing name) before after ready asks over = tt
+runs_asked members plan program run (BadUcode name rule) before after ready asks over = tt
+runs_asked members plan program run (BadImage rule) before after ready asks over = tt
+runs_asked members plan program run FileFault before after ready asks over = tt
+runs_asked members plan program run ReadFault before after ready asks over = tt
+runs_asked members plan program run WriteFault before after ready asks over = tt
+runs_asked members plan program run NoMemory before after ready asks over = tt
 
 pub ran_done : {words : List (List ℕ)} {files : FileMap} {held held' : Option FileMap} (members : List Member) (plan : PlanHeld) (program : LoadedProgram)
     (run : Run) (answer : Answer) (before after : CallStreams) → ReadBack → EndsAlike → IsReadyProgram words files members plan program → held ≡ Some files
     → WritesAll held held' (plan_file plan members ∷ []) → (plan_seen plan).run ≡ Some run → IsOfRun answer
     → IfSome before.left (λ left. HasRun (tables_of program.made.code.code) (run_launch run left) (plan_seen plan).number answer before after)
+    → IsOver (tables_of program.made.code.code) (run_launch run []) (plan_seen plan).number answer before after
     → IsDone words files answer (call_objects held before) (call_objects held' after)
-ran_done members plan program run answer before after back alike ready e sets asks o has = record {
+ran_done members plan program run answer before after back alike ready e sets asks o has over = record {
   outcome = if_some_intro before.left _ (λ left d. ran_outcome left members plan program run answer before after alike ready sets asks
       (if_some_elim _ before.left left d has));
   headline = λ w. holds_image members plan program back alike ready e sets;
   leaves = all_written _ (AreWritten.image (plan_seen plan) members (linked_code members) (planned ready)) (behind_files answer o) sets;
   answered = run_answered answer (planned ready) asks o;
+  ran = runs_asked members plan program run answer before after ready asks over;
 }
 
 -- A file that was not written whole
@@ -332,18 +449,28 @@ torn_no_image answer (inl e) w = rw e at w
 torn_no_image answer (inr e) w = rw e at w
 
 torn_done : {words : List (List ℕ)} {files : FileMap} {held held' : Option FileMap} (written : List WrittenFile) (answer : Answer)
-    (left : Option (List ℕ)) (input : ℕ) (out before after : SinkState) → AreWritten words files written → WritesPart held held' written
+    (left : Option (List ℕ)) (input : SourceCounts) (out before after : SinkState) → AreWritten words files written → WritesPart held held' written
     → (answer ≡ FileFault) ⊎ (answer ≡ NoMemory) → PutsOwn answer before after
     → IsDone words files answer (call_objects held (call_streams left input out before)) (call_objects held' (call_streams left input out after))
 torn_done written answer left input out before after are part is puts = record {
-  outcome = if_some_intro left _ (λ bytes d. fault (is_torn answer is) (torn written (torn_fault answer is) are part refl refl (puts_own _ _ answer puts)));
+  outcome = if_some_intro left _ (λ bytes d. fault (is_torn answer is) (torn (record {
+    written = written;
+    answers_torn = torn_fault answer is;
+    asked = are;
+    part = part;
+    input_stays = refl;
+    counts_stay = refl;
+    output_stays = refl;
+    line = puts_own _ _ answer puts;
+  })));
   headline = λ w. absurd (torn_no_image answer is w);
   leaves = part_written written are (torn_fault answer is) part;
   answered = answered_fault answer (is_torn answer is);
+  ran = runs_unless _ _ _ _ answer (torn_no_image answer is);
 }
 
 pub image_torn : {words : List (List ℕ)} {files : FileMap} {held held' : Option FileMap} (members : List Member) (plan : PlanHeld) (program : LoadedProgram)
-    (answer : Answer) (left : Option (List ℕ)) (input : ℕ) (out before after : SinkState) → IsReadyProgram words files members plan program
+    (answer : Answer) (left : Option (List ℕ)) (input : SourceCounts) (out before after : SinkState) → IsReadyProgram words files members plan program
     → WritesPart held held' (plan_file plan members ∷ []) → (answer ≡ FileFault) ⊎ (answer ≡ NoMemory) → PutsOwn answer before after
     → IsDone words files answer (call_objects held (call_streams left input out before)) (call_objects held' (call_streams left input out after))
 image_torn members plan program answer left input out before after ready part is puts =
@@ -359,14 +486,23 @@ units_done {held = held} {held'} members texts streams is e read h sets =
     let there : WritesAll held held' (ucode_files members) = subst (WritesAll held held') e sets in
     record {
       outcome = if_some_intro streams.left _ (λ left d. done (files_job (ucode_files members) left) (translates members is)
-          (record { answered = refl; files = there; left = d; output = gains_nothing streams.output.held; errors = gains_nothing streams.errors.held }));
+          (record {
+            answered = refl;
+            files = there;
+            left = d;
+            calls = refl;
+            output = gains_nothing streams.output.held;
+            errors = gains_nothing
+                streams.errors.held;
+          }));
       headline = λ w. HoldsWritten.ucode members is (subst (λ (was : Option FileMap). WritesAll was held' (ucode_files members)) h there) read;
       leaves = all_written (ucode_files members) (AreWritten.ucode members is) tt there;
       answered = answered_translated members is;
+      ran = tt;
     }
 
 pub units_torn : {words : List (List ℕ)} {files : FileMap} {held held' : Option FileMap} (members : List Member) (texts : List WrittenFile)
-    (answer : Answer) (left : Option (List ℕ)) (input : ℕ) (out before after : SinkState) → AsksForUnits words files (Ok members)
+    (answer : Answer) (left : Option (List ℕ)) (input : SourceCounts) (out before after : SinkState) → AsksForUnits words files (Ok members)
     → texts ≡ ucode_files members → WritesPart held held' texts → (answer ≡ FileFault) ⊎ (answer ≡ NoMemory) → PutsOwn answer before after
     → IsDone words files answer (call_objects held (call_streams left input out before)) (call_objects held' (call_streams left input out after))
 units_torn {held = held} {held'} members texts answer left input out before after is e part t puts =

@@ -6,7 +6,7 @@ mod GeneratedBytes
 mod LinkingRules
 mod LoadedProgram
 mod UnitPrograms
-mod OneJob
+pub mod OneJob
 mod RunsUnder
 mod SizesLine
 mod SomeJob

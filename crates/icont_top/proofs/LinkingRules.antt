@@ -10,7 +10,7 @@ use Rattle.icn_image.specs.Spelling.{image_of}
 use Rattle.icn_link.specs.declared.fault.LinkFault.{LinkFault}
 use Rattle.icn_link.specs.declared.fault.LinkFault.TheVariants.{NoMemory}
 use Rattle.icn_link.specs.Joined.{joined_code, joined_of}
-use Rattle.icn_link.specs.LinkFaults.{all_statics, kind_counts, Owner, count_fault, first_fault, local_counts, missing, missing_fault, missing_from, missing_in, over, owner_named, owners_from, record_sizes, repeat_of, repeated_name, repeated_from, size_of, static_counts, table_sizes, too_large_of, unit_names}
+use Rattle.icn_link.specs.LinkFaults.{all_statics, kind_counts, Owner, count_fault, first_fault, local_counts, missing_unit, missing_fault, missing_from, missing_in, over, owner_named, owners_from, record_sizes, repeat_of, repeated_name, repeated_from, size_of, static_counts, table_sizes, too_large_of, unit_names}
 use Rattle.icn_link.specs.Mentions.{globals, all_mentions}
 use Rattle.icn_link.specs.Units.{all_decls, all_procs}
 
@@ -97,7 +97,7 @@ abbrev large : List UnitRead → Option LinkFault
 large units = too_large_of (all_decls units) (all_procs units)
 
 first_none : (units : List UnitRead) → IsNoWant (first_fault units)
-first_none units = or_none (missing units) (option_or (repeated_name units) (large units)) (missing_none (unit_names units) 0 units)
+first_none units = or_none (missing_unit units) (option_or (repeated_name units) (large units)) (missing_none (unit_names units) 0 units)
     (or_none (repeated_name units) (large units) (repeated_none [] (owners_from 0 units)) (large_none (all_decls units) (all_procs units)))
 
 -- no unit has a fault that is want of memory
@@ -123,4 +123,4 @@ image_counted D P e = right_none (statics D P) (bytes D P) (right_none (locals D
 -- where the linker finds no fault, the image is within the bound
 pub image_within : (units : List UnitRead) → first_fault units ≡ None → length (image_of (joined_code units)) ≤ 1073741824
 image_within units e = within_count 1073741824 (length (image_of (joined_code units))) (image_counted (all_decls units) (all_procs units)
-    (right_none (repeated_name units) (large units) (right_none (missing units) (option_or (repeated_name units) (large units)) e)))
+    (right_none (repeated_name units) (large units) (right_none (missing_unit units) (option_or (repeated_name units) (large units)) e)))

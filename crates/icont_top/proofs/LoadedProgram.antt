@@ -1,7 +1,7 @@
 -- What the files that the words name come to as a program.
 use Rattle.std.proofs.Common.{◌≡◌, ◌⊎◌, inl, inr, ℕ, List, [], ◌∷◌, Some, Result, Ok, Err, refl, sym, ap, subst}
 use Rattle.icn_link.specs.declared.fault.LinkFault.TheVariants.{K2}
-use Rattle.icn_link.specs.LinkFaults.{missing}
+use Rattle.icn_link.specs.LinkFaults.{missing_unit}
 use Rattle.icn_answer.specs.declared.answer.Answer.{Answer}
 use Rattle.icn_answer.specs.declared.answer.Answer.TheVariants.{NoMemory}
 use Rattle.icn_host.specs.Counts.{Rose}
@@ -18,7 +18,7 @@ use Rattle.icont_top.specs.Programs.{Links}
 -- where the first linked file is not there, the count tells so, or its name is no text
 pub told_of : {before now : ℕ} (held : Members) (members : List Member) → HoldsMembers held members → AreSought before now (kept_of held).units
     → IsTold (Rose before now) members
-told_of held members stands sought unit name e = sought.missed unit name (subst (λ units. missing units ≡ Some (K2 unit name)) (sym stands.units) e)
+told_of held members stands sought unit name e = sought.missed unit name (subst (λ units. missing_unit units ≡ Some (K2 unit name)) (sym stands.units) e)
 
 -- units that are no program
 pub no_program_of : {rose : Type 0} (Comes : Result (List Member) Answer → Type 0) (members : List Member) (answer : Answer) → Comes (Ok members)

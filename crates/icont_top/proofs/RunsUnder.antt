@@ -1,21 +1,23 @@
 -- Runs under the bound of turns that is said.
-use Rattle.std.proofs.Common.{◌≡◌, ℕ, List, Err, refl, ap, subst}
+use Rattle.std.proofs.Common.{◌≡◌, ℕ, List, [], append-nil, Option, None, Err, refl, ap, subst, sym}
+use Rattle.icn_host.specs.Sinks.{Gains, SinkState}
 use Rattle.icn_code.specs.Codes.{Tables}
 use Rattle.icn_value.specs.Limited.{Bounds}
-use Rattle.icn_defs.specs.Running.{Launch, launch_of}
+use Rattle.icn_value.specs.Store.{output_in}
+use Rattle.icn_defs.specs.Running.{Launch, launch_of, Ending as SeenEnding}
 use Rattle.icn_defs.specs.declared.ending.Ending.{Ending}
 use Rattle.icn_streams.specs.Handed.{CallStreams}
 use Rattle.icn_running.specs.declared.fault.RunFault.{RunFault}
-use Rattle.icn_running.specs.Reported.{ending_seen}
-use Rattle.icn_running.specs.Runs.{EndsAtFirst as RunEnds, IsBrokenOff, RunsTo}
+use Rattle.icn_running.specs.declared.fault.RunFault.TheVariants as Runs
+use Rattle.icn_running.specs.Reported.{PutsReport, ending_seen}
+use Rattle.icn_running.specs.Runs.{EndsAtFirst as RunEnds, IsBrokenOff, RunsOver, RunsTo}
 use Rattle.icn_answer.specs.declared.answer.Answer.TheVariants.{Ran}
 use Rattle.icn_run_answer.specs.CountCauses.{EndsBehind}
 use Rattle.icn_run_answer.specs.FaultAnswers.{of_run}
-use Rattle.icn_run_answer.specs.Reporting.{PutsSome}
-use Rattle.icn_run_answer.proofs.Reports.{broken_puts}
+use Rattle.icn_run_answer.specs.Reporting.{ReportStands}
 use Rattle.icont_words.specs.Words.{Run}
 use Rattle.icont_top.specs.Job.{bounds_with, run_launch}
-use Rattle.icont_top.specs.Running.{IsRanOrBroken, broken, ran}
+use Rattle.icont_top.specs.Running.{IsOver, IsRanOrBroken, WasOver, broken, ran}
 
 launched_as : (run : Run) (bounds : Bounds) (left : List ℕ) → bounds ≡ bounds_with run.turns → launch_of run.arguments bounds left ≡ run_launch run left
 launched_as run bounds left e = ap (λ b. launch_of run.arguments b left) e
@@ -26,10 +28,29 @@ pub run_ended : {before after : CallStreams} (tables : Tables) (run : Run) (left
 run_ended {before} {after} tables run left bounds ending e ends =
     ran ending refl (subst (λ launch. RunsTo tables launch (ending_seen ending) before after) (launched_as run bounds left e) ends)
 
--- what a run put that was broken off
-pub off_puts : (tables : Tables) (launch : Launch) (wrong : RunFault) (before after : CallStreams) → IsBrokenOff tables launch wrong before after
-    → PutsSome before.errors after.errors
-off_puts tables launch wrong before after off = broken_puts wrong launch.outside.left off.0 before after off.1.1
+-- the report of a run under the bound that is said
+pub run_reported : {before after : SinkState} (tables : Tables) (run : Run) (bounds : Bounds) (ending : Ending)
+    → PutsReport tables (launch_of run.arguments bounds []) (ending_seen ending) before after → ReportStands ending before after
+run_reported tables run bounds ending report = (tables, (launch_of run.arguments bounds [], report))
+
+-- how it was over, whatever the input tells
+pub run_over : {before after : CallStreams} (tables : Tables) (run : Run) (bounds : Bounds) (ending : SeenEnding) → bounds ≡ bounds_with run.turns
+    → RunsOver tables (launch_of run.arguments bounds []) ending before after → WasOver tables (run_launch run []) None ending before after
+run_over {before} {after} tables run bounds ending e over =
+    let there : RunsOver tables (run_launch run []) ending before after =
+    subst (λ launch. RunsOver tables launch ending before after) (launched_as run bounds [] e) over in
+    record {
+      report = there.report;
+      calls = there.calls;
+      output = subst (Gains before.output.held after.output.held) (sym (append-nil (output_in there.report.now.history))) there.output;
+    }
+
+-- of one that was broken off nothing is said
+pub never_over : (tables : Tables) (launch : Launch) (number : Option ℕ) (before after : CallStreams) (wrong : RunFault)
+    → IsOver tables launch number (of_run wrong) before after
+never_over tables launch number before after Runs.ReadFault = tt
+never_over tables launch number before after Runs.WriteFault = tt
+never_over tables launch number before after Runs.NoMemory = tt
 
 pub run_broken : {before between after : CallStreams} (tables : Tables) (run : Run) (left : List ℕ) (bounds : Bounds) (wrong : RunFault)
     → bounds ≡ bounds_with run.turns → RunEnds {A = Ending} (Err wrong) before between

@@ -1,17 +1,19 @@
 -- The line of the sizes of the program of a number, behind its run.
-use Rattle.std.proofs.Common.{◌≡◌, inl, inr, ℕ, true, false, List, [], ◌++◌, take, Option, None, Some, IfSome, Err, refl, sym, ap, ◌∙◌, subst, append-nil}
-use Rattle.icn_host.specs.Counts.{one_more}
+use Rattle.std.proofs.Common.{◌≡◌, inl, inr, ℕ, true, false, List, [], ◌++◌, take, Option, None, Some, Err, refl, sym, ap, ◌∙◌, subst, append-nil}
+use Rattle.icn_host.specs.Counts.{one_more, raised}
 use Rattle.icn_host.specs.declared.fault.Fault.{Fault}
 use Rattle.icn_host.specs.declared.fault.Fault.TheVariants as Faults
 use Rattle.icn_host.proofs.SinkSteps.{gains_nothing, gains_then}
 use Rattle.icn_host.specs.Puts.{LeadsBy}
 use Rattle.icn_host.specs.Sinks.{Gains, SinkState}
+use Rattle.icn_host.specs.Sources.{SourceCounts}
+use Rattle.icn_value.specs.Store.{errors_in, output_in, readings_in}
 use Rattle.icn_code.specs.Codes.{Tables}
 use Rattle.icn_defs.specs.Running.{Launch, Observation, Done, Exit, Errored, AtBound, Ending as SeenEnding}
 use Rattle.icn_defs.specs.declared.ending.Ending.{Ending}
 use Rattle.icn_defs.specs.declared.ending.Ending.TheVariants as Endings
 use Rattle.law_simulation.specs.FirstLaw.{RunsFlat}
-use Rattle.icn_streams.specs.Handed.{CallStreams, KeepsAllCounts, KeepsFaultCounts, call_streams, uncounted, output_wants}
+use Rattle.icn_streams.specs.Handed.{CallStreams, KeepsAllCounts, KeepsFaultCounts, call_streams, faults_of, uncounted, output_wants}
 use Rattle.icn_machine.specs.Stepping.{output_fails}
 use Rattle.icn_running.specs.declared.fault.RunFault.{RunFault}
 use Rattle.icn_running.specs.declared.fault.RunFault.TheVariants as Runs
@@ -25,12 +27,12 @@ use Rattle.icn_run_answer.proofs.CountCauses.{broken_counts, own_behind, ran_cou
 use Rattle.icn_run_answer.specs.CountCauses.{RunEndsAtFirst}
 use Rattle.icn_answer.specs.Endings.{ending_held}
 use Rattle.icn_run_answer.specs.FaultAnswers.{of_run}
-use Rattle.icn_run_answer.specs.Reporting.{PutsSome, Reports}
-use Rattle.icn_run_answer.proofs.Reports.{fault_reports, puts_own}
+use Rattle.icn_run_answer.specs.Reporting.{PutsSome, Reports, put as put_whole, own as put_own, broke}
+use Rattle.icn_run_answer.proofs.Reports.{fault_reports, is_run_fault, puts_own}
 use Rattle.icont_units.specs.Generated.{sizes_line}
 use Rattle.icont_top.specs.Job.{sizes_behind}
 use Rattle.icont_top.specs.Outcomes.{StopsPut}
-use Rattle.icont_top.specs.Running.{HasRun, IsRanOrBroken, PutsSizes, broken, has_ended, is_done, put_answer, ran, sizes_broken, sizes_put, was_broken, was_broken_behind}
+use Rattle.icont_top.specs.Running.{HasRun, IsOver, IsRanOrBroken, PutsSizes, WasOver, broken, has_ended, is_done, put_answer, ran, sizes_broken, sizes_put, was_broken, was_broken_behind}
 use Rattle.icont_top.specs.Usage.{usage}
 
 -- What was observed of a run
@@ -52,8 +54,8 @@ gains_alone {before} {after} text more none gains = subst (Gains before after) (
 pub ran_alone : {tables : Tables} {launch : Launch} {answer : Answer} {before after : CallStreams} → IsRanOrBroken tables launch answer before after
     → HasRun tables launch None answer before after
 ran_alone {answer = answer} (ran ending same to) =
-    has_ended to.0 to.1.1.0 (answered_seen answer ending to.0.ending same to.1.0) to.1.1.1.left
-    (gains_alone to.0.outside.output [] refl to.1.1.1.output) to.1.1.1.errors
+    has_ended to.0 to.1.1.0 (answered_seen answer ending to.0.ending same to.1.0) to.1.1.1.left to.1.1.1.calls
+    (gains_alone (output_in to.0.outside.history) [] refl to.1.1.1.output) to.1.1.1.errors
 ran_alone (broken wrong between same first off puts) = was_broken wrong between same first off puts
 
 none_behind : (n : ℕ) (seen : SeenEnding) → is_done (Ran (ending_held seen)) ≡ false → sizes_behind n seen ≡ []
@@ -67,8 +69,8 @@ pub ran_undone : {tables : Tables} {launch : Launch} {answer : Answer} {before a
     → IsRanOrBroken tables launch answer before after → HasRun tables launch (Some n) answer before after
 ran_undone {answer = answer} n undone (ran ending same to) =
     let seen = answered_seen answer ending to.0.ending same to.1.0 in
-    has_ended to.0 to.1.1.0 seen to.1.1.1.left
-    (gains_alone to.0.outside.output (sizes_behind n to.0.ending) (none_behind n to.0.ending (sym (ap is_done seen) ∙ undone)) to.1.1.1.output)
+    has_ended to.0 to.1.1.0 seen to.1.1.1.left to.1.1.1.calls
+    (gains_alone (output_in to.0.outside.history) (sizes_behind n to.0.ending) (none_behind n to.0.ending (sym (ap is_done seen) ∙ undone)) to.1.1.1.output)
     to.1.1.1.errors
 ran_undone n undone (broken wrong between same first off puts) = was_broken wrong between same first off puts
 
@@ -96,8 +98,9 @@ record HasDone (tables : Tables) (launch : Launch) (before after : CallStreams) 
   pub flat : RunsFlat tables launch seen
   pub done : seen.ending ≡ Done
   pub left : after.left ≡ Some seen.outside.left
-  pub output : Gains before.output.held after.output.held seen.outside.output
-  pub errors : Gains before.errors.held after.errors.held seen.outside.errors
+  pub calls : after.counts.calls ≡ raised before.counts.calls (readings_in seen.outside.history)
+  pub output : Gains before.output.held after.output.held (output_in seen.outside.history)
+  pub errors : Gains before.errors.held after.errors.held (errors_in seen.outside.history)
 
 seen_done : (ending : Ending) → is_done (Ran ending) ≡ true → ending_seen ending ≡ Done
 seen_done Endings.Done e = refl
@@ -117,6 +120,7 @@ has_done e (ran ending same to) = record {
   flat = to.1.1.0;
   done = to.1.0 ∙ seen_done ending (sym (ap is_done same) ∙ e);
   left = to.1.1.1.left;
+  calls = to.1.1.1.calls;
   output = to.1.1.1.output;
   errors = to.1.1.1.errors;
 }
@@ -127,7 +131,7 @@ counts_kept : {before after : CallStreams} (answer : Answer) → is_done answer 
 counts_kept {before} {after} answer e ends =
     let there : RunEndsAtFirst (Ran Endings.Done) before after = rw (done_of answer e) at ends in
     record {
-      faults = there.behind.faults ∙ there.first.faults;
+      faults = ap faults_of there.behind.counts ∙ there.first.faults;
       output = subst (λ (sink : SinkState). KeepsFaultCounts before.output sink) (sym there.behind.output) there.first.output;
       errors = subst (λ (sink : SinkState). KeepsFaultCounts before.errors sink) (sym there.behind.own_line) there.first.errors;
     }
@@ -145,7 +149,7 @@ stops_put Faults.Failed = tt
 stops_put Faults.NoMemory = tt
 
 -- the count of the output rose, if any did
-ends_behind : (left : Option (List ℕ)) (input : ℕ) (before : CallStreams) (out out' err : SinkState) (fault : Fault) (line : List ℕ)
+ends_behind : (left : Option (List ℕ)) (input : SourceCounts) (before : CallStreams) (out out' err : SinkState) (fault : Fault) (line : List ℕ)
     → KeepsAllCounts before (call_streams left input out err) → LeadsBy fault out out' line
     → RunEnds {A = Ending} (Err (run_fault fault)) before (call_streams left input out' err)
 ends_behind left input before out out' err Faults.Failed line kept stops =
@@ -172,26 +176,26 @@ part_put {out} {out'} Faults.NoMemory line (inl same) =
     record { count = 0; gains = subst (λ (sink : SinkState). Gains out.held sink.held []) (sym same) (gains_nothing out.held) }
 part_put Faults.NoMemory line (inr short) = record { count = short.part.count; gains = record { appends = short.part.appends } }
 
-pub sizes_run : {tables : Tables} {launch : Launch} {left : Option (List ℕ)} {input : ℕ} {before : CallStreams} {out out' err err' : SinkState}
+pub sizes_run : {tables : Tables} {launch : Launch} {left : Option (List ℕ)} {input : SourceCounts} {before : CallStreams} {out out' err err' : SinkState}
     (n : ℕ) (answer given : Answer) → is_done answer ≡ true → IsRanOrBroken tables launch answer before (call_streams left input out err)
     → RunEndsAtFirst answer before (call_streams left input out err) → PutsSizes n given out out' err err'
     → HasRun tables launch (Some n) given before (call_streams left input out' err')
 sizes_run {before = before} {out' = out'} n answer given e run ends (sizes_put same put kept) =
     let was = has_done e run in
-    has_ended was.seen was.flat (same ∙ ap (λ ending. Ran (ending_held ending)) (sym was.done)) was.left
-    (subst (λ (behind : List ℕ). Gains before.output.held out'.held (was.seen.outside.output ++ behind)) (sym (ap (sizes_behind n) was.done))
+    has_ended was.seen was.flat (same ∙ ap (λ ending. Ran (ending_held ending)) (sym was.done)) was.left was.calls
+    (subst (λ (behind : List ℕ). Gains before.output.held out'.held (output_in was.seen.outside.history ++ behind)) (sym (ap (sizes_behind n) was.done))
     (gains_then was.output put.gains))
-    (subst (λ (sink : SinkState). Gains before.errors.held sink.held was.seen.outside.errors) (sym kept) was.errors)
+    (subst (λ (sink : SinkState). Gains before.errors.held sink.held (errors_in was.seen.outside.history)) (sym kept) was.errors)
 sizes_run {left = left} {input} {before} {out} {out'} {err} n answer given e run ends (sizes_broken fault same leads own) =
     let was = has_done e run in
     let part = part_put fault (sizes_line n) leads in
     was_broken_behind n (run_fault fault) err was.seen refl (stops_put fault) (same ∙ as_run fault)
     (ends_behind left input before out out' err fault (sizes_line n) (counts_kept answer e ends) leads) was.flat
-    (record { done = was.done; input = was.left; count = part.count; output = gains_then was.output part.gains; errors = was.errors })
+    (record { done = was.done; input = was.left; calls = was.calls; count = part.count; output = gains_then was.output part.gains; errors = was.errors })
     (puts_own _ _ given own)
 
 -- which counts rose, behind both
-pub sizes_end : {left : Option (List ℕ)} {input : ℕ} {before : CallStreams} {out out' err err' : SinkState} (n : ℕ) (answer given : Answer)
+pub sizes_end : {left : Option (List ℕ)} {input : SourceCounts} {before : CallStreams} {out out' err err' : SinkState} (n : ℕ) (answer given : Answer)
     → is_done answer ≡ true → RunEndsAtFirst answer before (call_streams left input out err) → PutsSizes n given out out' err err'
     → RunEndsAtFirst given before (call_streams left input out' err')
 sizes_end {left} {input} {before} {out} {out'} {err} n answer given e ends (sizes_put same put kept) =
@@ -213,21 +217,61 @@ pub is_put_fault : (fault : Fault) → IsFault (put_answer fault)
 is_put_fault Faults.Failed = refl
 is_put_fault Faults.NoMemory = refl
 
--- what the run put on the error output
-put_some : {tables : Tables} {launch : Launch} {before after : CallStreams} → HasDone tables launch before after → PutsSome before.errors after.errors
-put_some was = record { own = was.seen.outside.errors; gains = was.errors }
+-- what a run that was done put on the error output
+some_reported : {before after : SinkState} (answer : Answer) → is_done answer ≡ true → Reports usage [] before after answer → PutsSome before after
+some_reported {before} {after} answer e reports = by_done (subst (λ (a : Answer). Reports usage [] before after a) (done_of answer e) reports)
+  where
+    by_done : {before after : SinkState} → Reports usage [] before after (Ran Endings.Done) → PutsSome before after
+    by_done (put_whole n stands) = record { own = errors_in stands.1.1.now.history ++ stands.1.1.report; gains = stands.1.1.gains }
+    by_done (put_own f other n between leads puts) = absurd (ran_no_fault Endings.Done f)
+    by_done (broke fault e between counts some puts) = absurd (ran_no_fault Endings.Done (subst IsFault (sym e) (is_run_fault fault)))
 
-pub some_put : {tables : Tables} {launch : Launch} {before after : CallStreams} (answer : Answer) → is_done answer ≡ true
-    → IsRanOrBroken tables launch answer before after → PutsSome before.errors after.errors
-some_put answer e run = put_some (has_done e run)
-
-pub sizes_reports : {told left : Option (List ℕ)} {input : ℕ} {before : CallStreams} {out out' err err' : SinkState} (n : ℕ) (answer given : Answer)
-    → is_done answer ≡ true → RunEndsAtFirst answer before (call_streams left input out err) → Reports usage [] told before.errors err answer
-    → IfSome told (λ _. PutsSome before.errors err) → PutsSizes n given out out' err err' → Reports usage [] told before.errors err' given
-sizes_reports {told} {before = before} {err = err} n answer given e ends reports some (sizes_put same put kept) =
-    let there : Reports usage [] told before.errors err given = subst (Reports usage [] told before.errors err) (done_of answer e ∙ sym same) reports in
-    subst (λ (sink : SinkState). Reports usage [] told before.errors sink given) (sym kept) there
-sizes_reports {left = left} {input} {before} {out} {out'} {err} {err'} n answer given e ends reports some (sizes_broken fault same leads own) =
+pub sizes_reports : {left : Option (List ℕ)} {input : SourceCounts} {before : CallStreams} {out out' err err' : SinkState} (n : ℕ) (answer given : Answer)
+    → is_done answer ≡ true → RunEndsAtFirst answer before (call_streams left input out err) → Reports usage [] before.errors err answer
+    → PutsSizes n given out out' err err' → Reports usage [] before.errors err' given
+sizes_reports {before = before} {err = err} n answer given e ends reports (sizes_put same put kept) =
+    let there : Reports usage [] before.errors err given = subst (Reports usage [] before.errors err) (done_of answer e ∙ sym same) reports in
+    subst (λ (sink : SinkState). Reports usage [] before.errors sink given) (sym kept) there
+sizes_reports {left} {input} {before} {out} {out'} {err} {err'} n answer given e ends reports (sizes_broken fault same leads own) =
     let run = same ∙ as_run fault in
     rw run (fault_reports before (call_streams left input out' err) err' (run_fault fault)
-    (ends_behind left input before out out' err fault (sizes_line n) (counts_kept answer e ends) leads) some (rw run at own))
+    (ends_behind left input before out out' err fault (sizes_line n) (counts_kept answer e ends) leads) (some_reported answer e reports) (rw run at own))
+
+-- How a run was over, whatever the input tells
+
+-- one that was not done, or no run that ended
+pub over_undone : (tables : Tables) (launch : Launch) (before after : CallStreams) (n : ℕ) (answer : Answer) → is_done answer ≡ false
+    → IsOver tables launch None answer before after → IsOver tables launch (Some n) answer before after
+over_undone tables launch before after n (Ran Endings.Done) e over = absurd (let wrong : true ≡ false = e in cc)
+over_undone tables launch before after n (Ran (Endings.Exit status)) e over = record { report = over.report; calls = over.calls; output = over.output }
+over_undone tables launch before after n (Ran (Endings.Errored number)) e over = record { report = over.report; calls = over.calls; output = over.output }
+over_undone tables launch before after n (Ran Endings.AtBound) e over = record { report = over.report; calls = over.calls; output = over.output }
+over_undone tables launch before after n Wrote e over = tt
+over_undone tables launch before after n (Refused file line rule) e over = tt
+over_undone tables launch before after n (Command kind) e over = tt
+over_undone tables launch before after n (Missing name) e over = tt
+over_undone tables launch before after n (BadUcode name rule) e over = tt
+over_undone tables launch before after n (BadImage rule) e over = tt
+over_undone tables launch before after n FileFault e over = tt
+over_undone tables launch before after n ReadFault e over = tt
+over_undone tables launch before after n WriteFault e over = tt
+over_undone tables launch before after n NoMemory e over = tt
+
+put_over : (tables : Tables) (launch : Launch) (number : Option ℕ) (before after : CallStreams) (fault : Fault)
+    → IsOver tables launch number (put_answer fault) before after
+put_over tables launch number before after Faults.Failed = tt
+put_over tables launch number before after Faults.NoMemory = tt
+
+-- one that was done, with the line of the sizes behind it
+pub sizes_over : {out out' err err' : SinkState} (tables : Tables) (launch : Launch) (left : Option (List ℕ)) (input : SourceCounts)
+    (before : CallStreams) (n : ℕ) (answer given : Answer) → is_done answer ≡ true → IsOver tables launch None answer before (call_streams left input out err)
+    → PutsSizes n given out out' err err' → IsOver tables launch (Some n) given before (call_streams left input out' err')
+sizes_over {out} {out'} {err} tables launch left input before n answer given e over (sizes_put same put kept) =
+    let there : WasOver tables launch None Done before (call_streams left input out err) = rw (done_of answer e) at over in
+    rw (same, kept) (record {
+      report = there.report;
+      calls = there.calls;
+      output = subst (λ (text : List ℕ). Gains before.output.held out'.held (text ++ sizes_line n)) (append-nil (output_in there.report.now.history))
+          (gains_then there.output put.gains);
+    })
+sizes_over tables launch left input before n answer given e over (sizes_broken fault same leads own) = rw same (put_over _ _ _ _ _ fault)

@@ -3,6 +3,7 @@ use Rattle.std.proofs.Common.{◌≡◌, ◌⊎◌, inl, inr, ℕ, true, false, 
 use Rattle.std.specs.Str.{is_utf8}
 use Rattle.icn_host.specs.FileMaps.{FileMap}
 use Rattle.icn_host.specs.Sinks.{SinkState}
+use Rattle.icn_host.specs.Sources.{SourceCounts}
 use Rattle.icn_answer.specs.declared.answer.Answer.{Answer}
 use Rattle.icn_answer.specs.declared.answer.Answer.TheVariants.{NoMemory}
 use Rattle.icn_answer.specs.Answers.{IsFault, IsAbsence}
@@ -24,7 +25,7 @@ use Rattle.icont_units.specs.Files.{files_named}
 use Rattle.icn_text.specs.WordTexts.{texts}
 use Rattle.icont_units.specs.Units.{Load, Member}
 use Rattle.icont_top.specs.Answered.{IsAnswered, IsCommanded, MissesText}
-use Rattle.icont_top.specs.Answering.{IsDone}
+use Rattle.icont_top.specs.Answering.{IsDone, RunsAsAsked}
 use Rattle.icont_top.specs.Asking.{IsTold, words_answer}
 use Rattle.icont_top.specs.Outcomes.{HasWritten, HoldsWritten, IsComplete, LeavesFiles, AnswersCommand}
 use Rattle.icont_top.specs.Usage.{usage}
@@ -67,6 +68,10 @@ module _ (words : List (List ℕ)) (answer : Answer) (before after : CallObjects
   pub written_of : (held : Option FileMap) → DoneBy held → IfSome held (λ files. LeavesFiles words files answer before.files after.files)
   written_of None is = tt
   written_of (Some files) is = is.leaves
+
+  pub ran_of : (held : Option FileMap) → DoneBy held → IfSome held (λ files. RunsAsAsked words files answer before.streams after.streams)
+  ran_of None is = tt
+  ran_of (Some files) is = is.ran
 
   pub complete_by : OneReading → HaveOneFault → HaveNoFault → (held : Option FileMap) → DoneBy held → IfSome held (λ files. IsComplete words files answer)
   complete_by one fault sound None is = tt
@@ -123,7 +128,7 @@ module _ (words : List (List ℕ)) (fault : WordsFault) (answer given : Answer) 
   line_again : PutsRefusal usage [] (words_answer fault) before after given
   line_again = subst (λ (a : Answer). PutsRefusal usage [] a before after given) same line
 
-  pub words_done : (held : Option FileMap) (left : Option (List ℕ)) (input : ℕ) (out : SinkState)
+  pub words_done : (held : Option FileMap) (left : Option (List ℕ)) (input : SourceCounts) (out : SinkState)
       → (let found : Result TaskHeld WordsFault = Err fault in IsReading words found)
       → IfSome held (λ files. IsDone words files given (call_objects held (call_streams left input out before))
       (call_objects held (call_streams left input out after)))
@@ -132,15 +137,15 @@ module _ (words : List (List ℕ)) (fault : WordsFault) (answer given : Answer) 
       refused_done (words_answer fault) given (Some files) (Some files) left input out before after
       (words_no_image fault) (words_no_write fault) (words_no_read fault) (words_asked fault is) refl line_again
 
-  pub words_end : (files absences input : ℕ) (left : Option (List ℕ)) (out : SinkState)
+  pub words_end : (files absences : ℕ) (input : SourceCounts) (left : Option (List ℕ)) (out : SinkState)
       → EndsAtFirst given (IsAbsence given) (outside files absences (call_streams left input out before))
       (outside files absences (call_streams left input out after))
   words_end files absences input left out =
       refused_ends (words_answer fault) given (words_no_write fault) (words_no_read fault) (unmoved (words_no_file fault)) (no_cause (words_no_absence fault))
       (absence_of (words_answer fault) given line_again) line_again
 
-  pub words_reported : (left : Option (List ℕ)) → Reports usage [] left before after given
-  words_reported left = reports_of (words_no_run fault) line_again
+  pub words_reported : Reports usage [] before after given
+  words_reported = reports_of (words_no_run fault) line_again
 
   pub words_called : OneReading → (let found : Result TaskHeld WordsFault = Err fault in IsReading words found) → IsCommanded words given
   words_called one is = words_commanded one words fault given is line_again

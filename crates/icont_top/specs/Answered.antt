@@ -4,7 +4,7 @@ use Rattle.std.specs.Str.{is_utf8}
 use Rattle.icn_host.specs.FileMaps.{FileMap}
 use Rattle.icn_code.specs.Codes.{Tables}
 use Rattle.icn_link.specs.declared.fault.LinkFault.TheVariants.{K2}
-use Rattle.icn_link.specs.LinkFaults.{missing}
+use Rattle.icn_link.specs.LinkFaults.{missing_unit}
 use Rattle.icn_defs.specs.declared.ending.Ending.{Ending}
 use Rattle.icn_answer.specs.declared.answer.Answer.{Answer}
 use Rattle.icn_answer.specs.declared.answer.Answer.TheVariants.{Wrote, Ran, Command}
@@ -40,5 +40,5 @@ pub record MissesText (words : List (List ℕ)) (files : FileMap) : Type 0 where
   pub name : List ℕ
   pub asks : ComeTo words (Asks (Link names image run))
   pub load : Load files (files_named names) (Ok members)
-  pub absent : missing (units_of members) ≡ Some (K2 unit name)
+  pub absent : missing_unit (units_of members) ≡ Some (K2 unit name)
   pub text : is_utf8 name ≡ true

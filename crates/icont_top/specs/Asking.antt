@@ -4,7 +4,7 @@ use Rattle.std.specs.Option.{option_map}
 use Rattle.std.specs.Str.{is_utf8}
 use Rattle.icn_host.specs.FileMaps.{FileMap}
 use Rattle.icn_link.specs.declared.fault.LinkFault.TheVariants.{K2}
-use Rattle.icn_link.specs.LinkFaults.{missing}
+use Rattle.icn_link.specs.LinkFaults.{missing_unit}
 use Rattle.icn_answer.specs.declared.answer.Answer.{Answer}
 use Rattle.icn_answer.specs.declared.answer.Answer.TheVariants.{Command, NoMemory}
 use Rattle.icn_answer.specs.Answers.{IsFault}
@@ -39,6 +39,7 @@ AreTranslated files names (Err answer) =
 
 -- Programs
 
+-- a plan, as definitions see it
 abbrev pub plan_seen : PlanHeld → Plan
 plan_seen plan = record {
   image = option_map (λ name. name.now) plan.image;
@@ -53,7 +54,7 @@ pub record IsProgram (members : List Member) (program : LoadedProgram) : Type 0 
 
 -- where the first linked file is not there, a count tells so, or its name is no text
 abbrev pub IsTold : Type 0 → List Member → Type 0
-IsTold rose members = (unit : ℕ) (name : List ℕ) → missing (units_of members) ≡ Some (K2 unit name)
+IsTold rose members = (unit : ℕ) (name : List ℕ) → missing_unit (units_of members) ≡ Some (K2 unit name)
     → rose ⊎ (is_utf8 name ≡ false)
 
 -- What comes to these units is this program; or what refuses it is answered, or a fault.

@@ -3,6 +3,7 @@ use Rattle.std.specs.Prelude.{◌≡◌, ℕ, List, [], ◌∷◌, ◌++◌, map
 use Rattle.std.specs.List.{flat_map}
 use Rattle.icn_host.specs.FileMaps.{FileMap}
 use Rattle.icn_value.specs.Limited.{Bounds, default_limits}
+use Rattle.icn_value.specs.Store.{errors_in, output_in, readings_in}
 use Rattle.icn_code.specs.Codes.{Tables}
 use Rattle.icn_image.specs.Spelling.{image_of}
 use Rattle.icn_defs.specs.Running.{Ending, Done, Exit, Errored, AtBound, Launch, Observation, launch_of}
@@ -28,17 +29,25 @@ pub record Job : Type 0 where
   pub answer : Answer
   pub written : List WrittenFile
   pub left : List ℕ
+  pub readings : ℕ
   pub output : List ℕ
   pub errors : List ℕ
 
 -- nothing is done but to put the answer's own line
 abbrev pub refusal : List ℕ → Answer → Job
-refusal left answer =
-    record { answer = answer; written = []; left = left; output = []; errors = line_of usage [] answer }
+refusal left answer = record {
+  answer = answer;
+  written = [];
+  left = left;
+  readings = 0;
+  output = [];
+  errors = line_of usage [] answer;
+}
 
 -- files were written, and nothing else was done
 abbrev pub files_job : List WrittenFile → List ℕ → Job
-files_job written left = record { answer = Wrote; written = written; left = left; output = []; errors = [] }
+files_job written left =
+    record { answer = Wrote; written = written; left = left; readings = 0; output = []; errors = [] }
 
 -- the image was written, and then the program ran, behind which this was put on the output
 abbrev pub run_job : WrittenFile → Observation → List ℕ → Job
@@ -46,12 +55,14 @@ run_job image seen behind = record {
   answer = Ran (ending_held seen.ending);
   written = image ∷ [];
   left = seen.outside.left;
-  output = seen.outside.output ++ behind;
-  errors = seen.outside.errors;
+  readings = readings_in seen.outside.history;
+  output = output_in seen.outside.history ++ behind;
+  errors = errors_in seen.outside.history;
 }
 
 -- Files that are written
 
+-- a name and what it holds, as a file that is written
 abbrev pub as_written : List ℕ × List ℕ → WrittenFile
 as_written text = record { name = text.0; bytes = text.1 }
 
@@ -59,6 +70,7 @@ as_written text = record { name = text.0; bytes = text.1 }
 abbrev pub ucode_files : List Member → List WrittenFile
 ucode_files members = map as_written (flat_map unit_texts (units_of members))
 
+-- the name of the first unit
 abbrev pub first_base : List Member → List ℕ
 first_base [] = []
 first_base (member ∷ members) = (unit_of member).name
@@ -67,11 +79,13 @@ first_base (member ∷ members) = (unit_of member).name
 abbrev pub image_name : Option (List ℕ) → List Member → List ℕ
 image_name name members = unwrap_or name (first_base members)
 
+-- the image of a program, as a file that is written
 abbrev pub image_file : Option (List ℕ) → List Member → Tables → WrittenFile
 image_file name members tables = record { name = image_name name members; bytes = image_of tables }
 
 -- Runs
 
+-- the limits that stand where none are said, but for the bound of turns
 abbrev pub bounds_with : ℕ → Bounds
 bounds_with turns = record default_limits { turns = turns }
 

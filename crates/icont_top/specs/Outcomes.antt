@@ -3,9 +3,11 @@ use Rattle.std.specs.Prelude.{◌≡◌, ◌⊎◌, ◌≤◌, ℕ, List, [], �
 use Rattle.std.specs.Map.{update}
 use Rattle.std.specs.Str.{bytes_eq}
 use Rattle.icn_profile.specs.Numbers.{most_bytes_of_image}
+use Rattle.icn_host.specs.Counts.{raised}
 use Rattle.icn_host.specs.FileMaps.{FileMap, Follows, IsLeftBehind}
 use Rattle.icn_host.specs.Puts.{FailsPutting, Puts, RunsShort}
 use Rattle.icn_host.specs.Sinks.{Gains, SinkState}
+use Rattle.icn_value.specs.Store.{errors_in, output_in, readings_in}
 use Rattle.icn_code.specs.Codes.{Tables}
 use Rattle.icn_defs.specs.Running.{Done, Launch, Observation}
 use Rattle.icn_unit.specs.UnitTexts.{decls_text, procs_text}
@@ -57,6 +59,7 @@ pub record Completes (job : Job) (answer : Answer) (before after : CallObjects) 
   pub answered : answer ≡ job.answer
   pub files : WritesAll before.files after.files job.written
   pub left : after.streams.left ≡ Some job.left
+  pub calls : after.streams.counts.calls ≡ raised before.streams.counts.calls job.readings
   pub output : Gains before.streams.output.held after.streams.output.held job.output
   pub errors : Gains before.streams.errors.held after.streams.errors.held job.errors
 
@@ -102,10 +105,11 @@ StopsPut RunFaults.NoMemory = Unit {0}
 pub record LeavesBehind (number : ℕ) (seen : Observation) (before after : CallStreams) : Type 0 where
   pub done : seen.ending ≡ Done
   pub input : after.left ≡ Some seen.outside.left
+  pub calls : after.counts.calls ≡ raised before.counts.calls (readings_in seen.outside.history)
   pub count : ℕ
   pub output : Gains before.output.held after.output.held
-      (seen.outside.output ++ take count (sizes_line number))
-  pub errors : Gains before.errors.held after.errors.held seen.outside.errors
+      (output_in seen.outside.history ++ take count (sizes_line number))
+  pub errors : Gains before.errors.held after.errors.held (errors_in seen.outside.history)
 
 -- The program of a number was done, and the line of its sizes was put in part behind its output.
 pub record BrokenBehind (members : List Member) (run : Run) (number : ℕ) (left : List ℕ)
@@ -114,38 +118,75 @@ pub record BrokenBehind (members : List Member) (run : Run) (number : ℕ) (left
   pub behaves : Behaves members (run_launch run left) seen
   pub leaves : LeavesBehind number seen before after
 
+-- nothing was done: the outside failed, or memory was wanting, before anything was
+pub record EndsIdle (words : List (List ℕ)) (files : FileMap) (left : List ℕ) (answer : Answer)
+    (before after : CallObjects) : Type 0 where
+  pub between : SinkState
+  pub files_stay : after.files ≡ before.files
+  pub input_stays : after.streams.left ≡ before.streams.left
+  pub counts_stay : after.streams.counts ≡ before.streams.counts
+  pub output_stays : after.streams.output.held ≡ before.streams.output.held
+  pub cause : IsIdleFault (IsJob words files left) answer before.streams.errors between
+  pub line : Puts between after.streams.errors (fault_line answer)
+
+-- a file could not be written whole
+pub record EndsTorn (words : List (List ℕ)) (files : FileMap) (left : List ℕ) (answer : Answer)
+    (before after : CallObjects) : Type 0 where
+  pub written : List WrittenFile
+  pub answers_torn : IsTornFault answer
+  pub asked : AreWritten words files written
+  pub part : WritesPart before.files after.files written
+  pub input_stays : after.streams.left ≡ before.streams.left
+  pub counts_stay : after.streams.counts ≡ before.streams.counts
+  pub output_stays : after.streams.output.held ≡ before.streams.output.held
+  pub line : Puts before.streams.errors after.streams.errors (fault_line answer)
+
+-- the image was written, and its run broke off
+pub record EndsBroken (words : List (List ℕ)) (files : FileMap) (left : List ℕ) (answer : Answer)
+    (before after : CallObjects) : Type 0 where
+  pub plan : Plan
+  pub members : List Member
+  pub tables : Tables
+  pub run : Run
+  pub stopped : RunFault
+  pub between : CallStreams
+  pub asked : IsPlanned words files plan members tables
+  pub runs : plan.run ≡ Some run
+  pub image : WritesAll before.files after.files (image_file plan.image members tables ∷ [])
+  pub answered : answer ≡ of_run stopped
+  pub first : EndsAtFirst {A = Ending} (Err stopped) before.streams between
+  pub broken : ProgramBrokenOff members run left stopped before.streams between
+  pub line : EndsBehind answer between after.streams
+
+-- the image was written and its run ended; the line of sizes behind it could not be put
+pub record EndsBrokenBehind (words : List (List ℕ)) (files : FileMap) (left : List ℕ) (answer : Answer)
+    (before after : CallObjects) : Type 0 where
+  pub plan : Plan
+  pub members : List Member
+  pub tables : Tables
+  pub run : Run
+  pub number : ℕ
+  pub stopped : RunFault
+  pub between : SinkState
+  pub asked : IsPlanned words files plan members tables
+  pub runs : plan.run ≡ Some run
+  pub numbered : plan.number ≡ Some number
+  pub image : WritesAll before.files after.files (image_file plan.image members tables ∷ [])
+  pub stops : StopsPut stopped
+  pub answered : answer ≡ of_run stopped
+  pub first : EndsAtFirst {A = Ending} (Err stopped) before.streams (with_errors between after.streams)
+  pub broken : BrokenBehind members run number left before.streams (with_errors between after.streams)
+  pub line : Puts between after.streams.errors (fault_line answer)
+
 -- What a fault leaves, told apart by the answer, with its own line behind, as far as the error output took it. Nothing was done but that a
 -- refusal's line may be begun; or a file could not be written whole; or the image was written, and the program was broken off as it ran,
 -- or the line behind its output was.
 pub data EndsByFault (words : List (List ℕ)) (files : FileMap) (left : List ℕ) (answer : Answer)
     (before after : CallObjects) : Type 0 where
-  idle : (between : SinkState) → after.files ≡ before.files → after.streams.left ≡ before.streams.left
-      → after.streams.output.held ≡ before.streams.output.held
-      → IsIdleFault (IsJob words files left) answer before.streams.errors between
-      → Puts between after.streams.errors (fault_line answer)
-      → EndsByFault words files left answer before after
-  torn : (written : List WrittenFile) → IsTornFault answer → AreWritten words files written
-      → WritesPart before.files after.files written
-      → after.streams.left ≡ before.streams.left
-      → after.streams.output.held ≡ before.streams.output.held
-      → Puts before.streams.errors after.streams.errors (fault_line answer)
-      → EndsByFault words files left answer before after
-  broke : (plan : Plan) (members : List Member) (tables : Tables) (run : Run) (fault : RunFault)
-      (between : CallStreams)
-      → IsPlanned words files plan members tables → plan.run ≡ Some run
-      → WritesAll before.files after.files (image_file plan.image members tables ∷ []) → answer ≡ of_run fault
-      → EndsAtFirst {A = Ending} (Err fault) before.streams between
-      → ProgramBrokenOff members run left fault before.streams between
-      → EndsBehind answer between after.streams
-      → EndsByFault words files left answer before after
-  broke_behind : (plan : Plan) (members : List Member) (tables : Tables) (run : Run) (number : ℕ)
-      (fault : RunFault) (between : SinkState)
-      → IsPlanned words files plan members tables → plan.run ≡ Some run → plan.number ≡ Some number
-      → WritesAll before.files after.files (image_file plan.image members tables ∷ []) → StopsPut fault
-      → answer ≡ of_run fault
-      → EndsAtFirst {A = Ending} (Err fault) before.streams (with_errors between after.streams)
-      → BrokenBehind members run number left before.streams (with_errors between after.streams)
-      → Puts between after.streams.errors (fault_line answer)
+  idle : EndsIdle words files left answer before after → EndsByFault words files left answer before after
+  torn : EndsTorn words files left answer before after → EndsByFault words files left answer before after
+  broke : EndsBroken words files left answer before after → EndsByFault words files left answer before after
+  broke_behind : EndsBrokenBehind words files left answer before after
       → EndsByFault words files left answer before after
 
 -- the job was done, or a fault is answered

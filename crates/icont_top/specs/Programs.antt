@@ -27,6 +27,7 @@ abbrev pub ucode_base : Member → Option (List ℕ)
 ucode_base (FromSource base file) = None
 ucode_base (FromUcode unit) = Some unit.name
 
+-- that of the first member which has one
 abbrev pub first_ucode : List Member → Option (List ℕ)
 first_ucode [] = None
 first_ucode (member ∷ members) = option_or (ucode_base member) (first_ucode members)
@@ -35,6 +36,7 @@ first_ucode (member ∷ members) = option_or (ucode_base member) (first_ucode me
 abbrev pub with_file : List Declaration → Option (List (List Declaration)) → Option (List (List Declaration))
 with_file file files = option_map (λ others. file ∷ others) files
 
+-- the declarations of each file, where all members are sources
 abbrev pub files_of : List Member → Option (List (List Declaration))
 files_of [] = Some []
 files_of (FromSource base file ∷ members) = with_file file (files_of members)
@@ -55,5 +57,6 @@ abbrev pub RunsBy : Option (List (List Declaration)) → Tables → Launch → O
 RunsBy (Some files) tables launch seen = FilesMean files launch seen
 RunsBy None tables launch seen = RunsFlat tables launch seen
 
+-- an observation of a run is one of the program of these members
 abbrev pub Behaves : List Member → Launch → Observation → Type 0
 Behaves members launch seen = RunsBy (files_of members) (linked_code members) launch seen

@@ -1,17 +1,19 @@
 -- What a run leaves, as the code tells it.
-use Rattle.std.specs.Prelude.{◌≡◌, ℕ, Bool, true, false, ◌++◌, Option, Some, Err}
+use Rattle.std.specs.Prelude.{◌≡◌, ℕ, Bool, true, false, ◌++◌, Option, Some, Err, ⊤}
+use Rattle.icn_host.specs.Counts.{raised}
 use Rattle.icn_host.specs.declared.fault.Fault.{Fault}
 use Rattle.icn_host.specs.declared.fault.Fault.TheVariants as Faults
 use Rattle.icn_host.specs.Puts.{LeadsBy, Puts, PutsAll}
 use Rattle.icn_host.specs.Sinks.{Gains, SinkState}
 use Rattle.icn_code.specs.Codes.{Tables}
-use Rattle.icn_defs.specs.Running.{Launch, Observation}
+use Rattle.icn_value.specs.Store.{errors_in, output_in, readings_in}
+use Rattle.icn_defs.specs.Running.{Launch, Observation, Ending as SeenEnding}
 use Rattle.icn_defs.specs.declared.ending.Ending.{Ending}
 use Rattle.icn_defs.specs.declared.ending.Ending.TheVariants as Endings
 use Rattle.law_simulation.specs.FirstLaw.{RunsFlat}
 use Rattle.icn_streams.specs.Handed.{CallStreams}
 use Rattle.icn_running.specs.declared.fault.RunFault.{RunFault}
-use Rattle.icn_running.specs.Reported.{ending_seen}
+use Rattle.icn_running.specs.Reported.{PutsReport, ending_seen}
 use Rattle.icn_running.specs.Runs.{EndsAtFirst, IsBrokenOff, RunsTo}
 use Rattle.icn_answer.specs.declared.answer.Answer.{Answer}
 use Rattle.icn_answer.specs.declared.answer.Answer.TheVariants.{Wrote, Ran, Refused, Command, Missing, BadUcode, BadImage, FileFault, ReadFault, WriteFault, NoMemory}
@@ -72,8 +74,10 @@ pub data HasRun (tables : Tables) (launch : Launch) (number : Option ℕ) (answe
     (before after : CallStreams) : Type 0 where
   has_ended : (seen : Observation) → RunsFlat tables launch seen → answer ≡ Ran (ending_held seen.ending)
       → after.left ≡ Some seen.outside.left
-      → Gains before.output.held after.output.held (seen.outside.output ++ behind number seen.ending)
-      → Gains before.errors.held after.errors.held seen.outside.errors
+      → after.counts.calls ≡ raised before.counts.calls (readings_in seen.outside.history)
+      → Gains before.output.held after.output.held
+      (output_in seen.outside.history ++ behind number seen.ending)
+      → Gains before.errors.held after.errors.held (errors_in seen.outside.history)
       → HasRun tables launch number answer before after
   was_broken : (fault : RunFault) (between : CallStreams) → answer ≡ of_run fault
       → EndsAtFirst {A = Ending} (Err fault) before between
@@ -85,3 +89,27 @@ pub data HasRun (tables : Tables) (launch : Launch) (number : Option ℕ) (answe
       → RunsFlat tables launch seen
       → LeavesBehind n seen before (with_errors between after) → Puts between after.errors (fault_line answer)
       → HasRun tables launch number answer before after
+
+-- A run was over so, whatever the input tells: over some input, which may be another before each step, with its report behind what it
+-- put, and with the line of the sizes where it is the program of a number.
+pub record WasOver (tables : Tables) (launch : Launch) (number : Option ℕ) (ending : SeenEnding)
+    (before after : CallStreams) : Type 0 where
+  pub report : PutsReport tables launch ending before.errors after.errors
+  pub calls : after.counts.calls ≡ raised before.counts.calls (readings_in report.now.history)
+  pub output : Gains before.output.held after.output.held
+      (output_in report.now.history ++ behind number ending)
+
+-- the same of an answer; of one that is no run that ended, nothing is said
+abbrev pub IsOver : Tables → Launch → Option ℕ → Answer → CallStreams → CallStreams → Type 0
+IsOver tables launch number (Ran ending) before after =
+    WasOver tables launch number (ending_seen ending) before after
+IsOver tables launch number Wrote before after = ⊤
+IsOver tables launch number (Refused file line rule) before after = ⊤
+IsOver tables launch number (Command kind) before after = ⊤
+IsOver tables launch number (Missing name) before after = ⊤
+IsOver tables launch number (BadUcode name rule) before after = ⊤
+IsOver tables launch number (BadImage rule) before after = ⊤
+IsOver tables launch number FileFault before after = ⊤
+IsOver tables launch number ReadFault before after = ⊤
+IsOver tables launch number WriteFault before after = ⊤
+IsOver tables launch number NoMemory before after = ⊤

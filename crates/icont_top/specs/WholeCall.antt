@@ -14,6 +14,7 @@ use Rattle.icn_run_answer.specs.PendingBytes.{LeavesSettled, PendingBytes}
 use Rattle.icn_run_answer.specs.Reporting.{LineStands, Reports}
 use Rattle.icn_run_answer.specs.ToldObjects.{call_objects}
 use Rattle.icont_top.specs.Answered.{IsAnswered, IsCommanded, MissesText}
+use Rattle.icont_top.specs.Answering.{RunsAsAsked}
 use Rattle.icont_top.specs.Outcomes.{AnswersCommand, HasWritten, HoldsWritten, IsComplete, LeavesFiles}
 use Rattle.icont_top.specs.Usage.{usage}
 
@@ -24,14 +25,15 @@ pub record IsWholeCall (words : List (List ℕ)) (held now : Option FileMap) (be
   pub outcome : IfSome held (λ files. IfSome before.streams.left
       (λ left. AnswersCommand words files left answer
       (call_objects held before.streams) (call_objects now after.streams)))
-  pub faultless : ¬ Rose before.faults after.faults → ¬ Rose before.streams.faults after.streams.faults
+  pub faultless : ¬ Rose before.faults after.faults
+      → ¬ Rose before.streams.counts.faults after.streams.counts.faults
       → ¬ Rose before.streams.output.faults after.streams.output.faults
       → ¬ Rose before.streams.errors.faults after.streams.errors.faults → IsFault answer → answer ≡ NoMemory
   pub headline : HasWritten answer → IfSome held (λ files. HoldsWritten words files now)
   pub written : IfSome held (λ files. LeavesFiles words files answer held now)
   pub line : IsFault answer
-      ⊎ LineStands usage [] before.streams.left answer before.streams.errors after.streams.errors
-  pub fault_line : Reports usage [] before.streams.left before.streams.errors after.streams.errors answer
+      ⊎ LineStands usage [] answer before.streams.errors after.streams.errors
+  pub fault_line : Reports usage [] before.streams.errors after.streams.errors answer
   pub answered : IfSome held (λ files. IsAnswered words files answer)
   pub complete : IfSome held (λ files. IsComplete words files answer)
   pub command : IsCommanded words answer
@@ -41,7 +43,9 @@ pub record IsWholeCall (words : List (List ℕ)) (held now : Option FileMap) (be
   pub untouched : IsRefusal answer → now ≡ held
   pub refused : (IsOfRun answer → ⊥) → after.streams.output.held ≡ before.streams.output.held
   pub unread : (IsOfRun answer → ⊥) → after.streams.left ≡ before.streams.left
+  pub uncalled : (IsOfRun answer → ⊥) → after.streams.counts ≡ before.streams.counts
   pub causes : EndsAtFirst answer (IsAbsence answer) before after
+  pub ran : IfSome held (λ files. RunsAsAsked words files answer before.streams after.streams)
   pub settled : LeavesSettled answer kept keeps
 
 -- The program ends with the status of such an answer.

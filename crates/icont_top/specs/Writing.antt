@@ -6,6 +6,7 @@ use Rattle.icont_units.specs.Files.{CommandFile, first_name, second_name}
 use Rattle.icont_top.specs.declared.writing.FileToWrite.{FileToWrite}
 use Rattle.icont_top.specs.Job.{WrittenFile}
 
+-- a file that is written, as definitions see it
 abbrev pub text_seen : FileToWrite → WrittenFile
 text_seen text = record { name = string_bytes text.name; bytes = text.bytes.items }
 

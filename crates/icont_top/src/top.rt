@@ -1,10 +1,11 @@
 // The top call.
-ghost use Rattle.std.specs.Prelude.{◌≡◌, ◌⊎◌, ℕ, All, List, [], Option, Some, Ok, map, string_bytes, IfErr, IfSome, OnOk};
+ghost use Rattle.std.specs.Prelude.{◌≡◌, ◌⊎◌, ℕ, All, List, [], Option, Some, Ok, map, string_bytes, IfErr, IfSome, OnOk, None};
 ghost use Rattle.std.specs.Option.{option_map};
 ghost use Rattle.icn_host.specs.Counts.{Rose};
 ghost use Rattle.icn_host.specs.FileMaps.{FileMap};
 ghost use Rattle.icn_host.specs.Puts.{LeadsBy, PutsAll};
 ghost use Rattle.icn_host.specs.Sinks.{SinkState};
+ghost use Rattle.icn_host.specs.Sources.{SourceCounts};
 ghost use Rattle.icn_code.specs.CodeTables.{tables_of};
 ghost use Rattle.icn_streams.specs.Handed.{call_streams};
 ghost use Rattle.icn_answer.specs.Answers.{IsFault, IsRefusal, IsAbsence, IsCommand};
@@ -22,18 +23,18 @@ ghost use Rattle.icn_run_answer.specs.OutsideLeft.{LeavesOutside};
 ghost use Rattle.icn_run_answer.specs.PendingBytes.{LeavesSettled, pending_bytes};
 ghost use Rattle.icont_units.specs.Units.{Load, Member};
 ghost use Rattle.icont_top.specs.Answered.{IsAnswered, IsCommanded, MissesText};
-ghost use Rattle.icont_top.specs.Answering.{IsDone};
+ghost use Rattle.icont_top.specs.Answering.{IsDone, RunsAsAsked};
 ghost use Rattle.icont_top.specs.Asking.{IsReadyProgram, IsTold, words_answer};
 ghost use Rattle.icont_top.specs.Job.{AsksForUnits, run_launch, ucode_files};
 ghost use Rattle.icont_top.specs.Outcomes.{HasWritten, HoldsWritten, IsComplete, IsReadBack, LeavesFiles, AnswersCommand};
-ghost use Rattle.icont_top.specs.Running.{HasRun, IsRanOrBroken, PutsSizes, is_done, put_answer};
+ghost use Rattle.icont_top.specs.Running.{HasRun, IsOver, IsRanOrBroken, PutsSizes, is_done, put_answer};
 ghost use Rattle.icont_top.specs.Usage.{usage};
 ghost use Rattle.icont_top.specs.Writing.{texts_seen};
 
 use crate::loading::{LoadedProgram, linked_program, numbered_program, translate_sources};
 use crate::writing::{FileToWrite, write_all};
 use icn_answer::{Answer, own_line, refuse, torn_answer};
-use icn_defs::{Ending, broken_off};
+use icn_defs::Ending;
 use icn_frames::Cell;
 use icn_host::{Fault, Files, Sink, Source, put_line};
 use icn_image::one_spelling;
@@ -44,7 +45,7 @@ use icn_value::Limits;
 use icn_verify::{Verified, one_fault};
 use icont_units::sizes_line;
 use icont_words::{Run, Task, WordsFault, one_reading, read_command};
-use law_outside::runs_leave;
+use law_outside::outsides_grow;
 use law_simulation::same_ends;
 use std::alloc::Global;
 
@@ -76,13 +77,13 @@ pub fn icont_main<F: Files, I: Source, O: Sink, E: Sink>(
         (λ held. IfSome (I.left input.old)
         (λ left. AnswersCommand (map string_bytes words.now) held left result
         (call_objects (F.held files.old)
-        (call_streams (I.left input.old) (I.faults input.old) (O.state out.old) (E.state err.old)))
+        (call_streams (I.left input.old) (I.counts input.old) (O.state out.old) (E.state err.old)))
         (call_objects (F.held files.new)
-        (call_streams (I.left input.new) (I.faults input.new) (O.state out.new) (E.state err.new))))) }
+        (call_streams (I.left input.new) (I.counts input.new) (O.state out.new) (E.state err.new))))) }
 
     // Where no count of faults rose, no fault is answered but want of memory.
     ensures faultless { ¬ Rose (F.faults files.old) (F.faults files.new)
-        → ¬ Rose (I.faults input.old) (I.faults input.new)
+        → ¬ Rose (I.counts input.old).faults (I.counts input.new).faults
         → ¬ Rose (O.state out.old).faults (O.state out.new).faults
         → ¬ Rose (E.state err.old).faults (E.state err.new).faults
         → IsFault result → result ≡ Answer.NoMemory }
@@ -97,14 +98,13 @@ pub fn icont_main<F: Files, I: Source, O: Sink, E: Sink>(
     ensures written { IfSome (F.held files.old)
         (λ held. LeavesFiles (map string_bytes words.now) held result (F.held files.old) (F.held files.new)) }
 
-    // Every other answer's line was put, whatever the files and the input tell; of a run, its report behind what it put, where the
-    // input tells its content.
+    // Every other answer's line was put, whatever the files and the input tell; of a run, its report behind what it put.
     ensures line { IsFault result
-        ⊎ LineStands usage [] (I.left input.old) result (E.state err.old) (E.state err.new) }
+        ⊎ LineStands usage [] result (E.state err.old) (E.state err.new) }
 
     // A fault's own line was put too, behind what was put of another answer's line or by a run: less than the whole of it is there
     // only where the error output's count of faults, or of its wants of memory, rose in that put.
-    ensures fault_line { Reports usage [] (I.left input.old) (E.state err.old) (E.state err.new) result }
+    ensures fault_line { Reports usage [] (E.state err.old) (E.state err.new) result }
 
     // Where the files tell their content, the answer is the one that the words and the files ask for, or a fault.
     ensures answered { IfSome (F.held files.old)
@@ -128,15 +128,22 @@ pub fn icont_main<F: Files, I: Source, O: Sink, E: Sink>(
     ensures untouched { IsRefusal result → F.held files.new ≡ F.held files.old }
     ensures refused { (IsOfRun result → ⊥) → (O.state out.new).held ≡ (O.state out.old).held }
     ensures unread { (IsOfRun result → ⊥) → I.left input.new ≡ I.left input.old }
+    ensures uncalled { (IsOfRun result → ⊥) → I.counts input.new ≡ I.counts input.old }
 
     // The first fault ends the call: its object's count rose once, and no other count of faults did but of the output as it is
     // settled at want of memory, and at the put of the fault's own line. An absence (also of an included file) is answered only
     // where that count rose.
     ensures causes { EndsAtFirst result (IsAbsence result)
         (outside (F.faults files.old) (F.absences files.old)
-        (call_streams (I.left input.old) (I.faults input.old) (O.state out.old) (E.state err.old)))
+        (call_streams (I.left input.old) (I.counts input.old) (O.state out.old) (E.state err.old)))
         (outside (F.faults files.new) (F.absences files.new)
-        (call_streams (I.left input.new) (I.faults input.new) (O.state out.new) (E.state err.new))) }
+        (call_streams (I.left input.new) (I.counts input.new) (O.state out.new) (E.state err.new))) }
+
+    // Where the files tell their content, and a run is answered, it is the run that words and files ask for, whatever the input tells.
+    ensures ran { IfSome (F.held files.old)
+        (λ held. RunsAsAsked (map string_bytes words.now) held result
+        (call_streams (I.left input.old) (I.counts input.old) (O.state out.old) (E.state err.old))
+        (call_streams (I.left input.new) (I.counts input.new) (O.state out.new) (E.state err.new))) }
 
     // Where nothing was pending on the outputs before, and no fault is answered, nothing is pending behind.
     ensures settled { LeavesSettled result (pending_bytes (O.pending out.old) (E.pending err.old))
@@ -173,17 +180,16 @@ fn translate_answer<F: Files, E: Sink>(
     files: &mut F,
     err: &mut E,
 ) -> Answer
-    ensures done { (words : List (List ℕ)) (left : Option (List ℕ)) (input : ℕ) (out : SinkState)
+    ensures done { (words : List (List ℕ)) (left : Option (List ℕ)) (input : SourceCounts) (out : SinkState)
         → ComeTo words (Asks (Translate (texts names.now)))
         → IfSome (F.held files.old) (λ held.
         IsDone words held result
         (call_objects (F.held files.old) (call_streams left input out (E.state err.old)))
         (call_objects (F.held files.new) (call_streams left input out (E.state err.new)))) }
-    ensures reported { (left : Option (List ℕ))
-        → Reports usage [] left (E.state err.old) (E.state err.new) result }
+    ensures reported { Reports usage [] (E.state err.old) (E.state err.new) result }
     ensures command { IsCommand result → ⊥ }
     ensures untouched { IsRefusal result → F.held files.new ≡ F.held files.old }
-    ensures causes { (left : Option (List ℕ)) (input : ℕ) (out : SinkState)
+    ensures causes { (left : Option (List ℕ)) (input : SourceCounts) (out : SinkState)
         → EndsAtFirst result (IsAbsence result)
         (outside (F.faults files.old) (F.absences files.old) (call_streams left input out (E.state err.old)))
         (outside (F.faults files.new) (F.absences files.new)
@@ -200,16 +206,15 @@ fn translate_answer<F: Files, E: Sink>(
 // Writes the ucode texts of units.
 fn texts_answer<F: Files, E: Sink>(texts: &[FileToWrite], files: &mut F, err: &mut E) -> Answer
     ensures done { (words : List (List ℕ)) (held : FileMap) (members : List Member) (left : Option (List ℕ))
-        (input : ℕ) (out : SinkState)
+        (input : SourceCounts) (out : SinkState)
         → AsksForUnits words held (Ok members)
         → texts_seen texts.now ≡ ucode_files members → All IsReadBack members → F.held files.old ≡ Some held
         → IsDone words held result
         (call_objects (F.held files.old) (call_streams left input out (E.state err.old)))
         (call_objects (F.held files.new) (call_streams left input out (E.state err.new))) }
-    ensures reported { (left : Option (List ℕ))
-        → Reports usage [] left (E.state err.old) (E.state err.new) result }
+    ensures reported { Reports usage [] (E.state err.old) (E.state err.new) result }
     ensures no_refusal { IsRefusal result → ⊥ }
-    ensures causes { (left : Option (List ℕ)) (input : ℕ) (out : SinkState)
+    ensures causes { (left : Option (List ℕ)) (input : SourceCounts) (out : SinkState)
         → EndsAtFirst result (IsAbsence result)
         (outside (F.faults files.old) (F.absences files.old) (call_streams left input out (E.state err.old)))
         (outside (F.faults files.new) (F.absences files.new)
@@ -239,10 +244,10 @@ fn link_answer<F: Files, I: Source, O: Sink, E: Sink>(
         (option_map run_seen run.entry)))
         → IfSome (F.held files.old) (λ held. IsDone words held result
         (call_objects (F.held files.old)
-        (call_streams (I.left input.old) (I.faults input.old) (O.state out.old) (E.state err.old)))
+        (call_streams (I.left input.old) (I.counts input.old) (O.state out.old) (E.state err.old)))
         (call_objects (F.held files.new)
-        (call_streams (I.left input.new) (I.faults input.new) (O.state out.new) (E.state err.new)))) }
-    ensures reported { Reports usage [] (I.left input.old) (E.state err.old) (E.state err.new) result }
+        (call_streams (I.left input.new) (I.counts input.new) (O.state out.new) (E.state err.new)))) }
+    ensures reported { Reports usage [] (E.state err.old) (E.state err.new) result }
     ensures links { IfSome (F.held files.old)
         (λ held. (members : List Member) → Load held (files_named (texts names.now)) (Ok members)
         → IsFault result ⊎ IsTold (Rose (F.absences files.old) (F.absences files.new)) members) }
@@ -250,9 +255,9 @@ fn link_answer<F: Files, I: Source, O: Sink, E: Sink>(
     ensures untouched { IsRefusal result → F.held files.new ≡ F.held files.old }
     ensures leaves { LeavesOutside result
         (outside (F.faults files.old) (F.absences files.old)
-        (call_streams (I.left input.old) (I.faults input.old) (O.state out.old) (E.state err.old)))
+        (call_streams (I.left input.old) (I.counts input.old) (O.state out.old) (E.state err.old)))
         (outside (F.faults files.new) (F.absences files.new)
-        (call_streams (I.left input.new) (I.faults input.new) (O.state out.new) (E.state err.new))) }
+        (call_streams (I.left input.new) (I.counts input.new) (O.state out.new) (E.state err.new))) }
     ensures settled { LeavesSettled result (pending_bytes (O.pending out.old) (E.pending err.old))
         (pending_bytes (O.pending out.new) (E.pending err.new)) }
 {
@@ -282,17 +287,17 @@ fn generate_answer<F: Files, I: Source, O: Sink, E: Sink>(
     ensures done { (words : List (List ℕ)) → ComeTo words (Asks (Generate number turns))
         → IfSome (F.held files.old) (λ held. IsDone words held result
         (call_objects (F.held files.old)
-        (call_streams (I.left input.old) (I.faults input.old) (O.state out.old) (E.state err.old)))
+        (call_streams (I.left input.old) (I.counts input.old) (O.state out.old) (E.state err.old)))
         (call_objects (F.held files.new)
-        (call_streams (I.left input.new) (I.faults input.new) (O.state out.new) (E.state err.new)))) }
-    ensures reported { Reports usage [] (I.left input.old) (E.state err.old) (E.state err.new) result }
+        (call_streams (I.left input.new) (I.counts input.new) (O.state out.new) (E.state err.new)))) }
+    ensures reported { Reports usage [] (E.state err.old) (E.state err.new) result }
     ensures command { IsCommand result → ⊥ }
     ensures untouched { IsRefusal result → F.held files.new ≡ F.held files.old }
     ensures leaves { LeavesOutside result
         (outside (F.faults files.old) (F.absences files.old)
-        (call_streams (I.left input.old) (I.faults input.old) (O.state out.old) (E.state err.old)))
+        (call_streams (I.left input.old) (I.counts input.old) (O.state out.old) (E.state err.old)))
         (outside (F.faults files.new) (F.absences files.new)
-        (call_streams (I.left input.new) (I.faults input.new) (O.state out.new) (E.state err.new))) }
+        (call_streams (I.left input.new) (I.counts input.new) (O.state out.new) (E.state err.new))) }
     ensures settled { LeavesSettled result (pending_bytes (O.pending out.old) (E.pending err.old))
         (pending_bytes (O.pending out.new) (E.pending err.new)) }
 {
@@ -326,23 +331,22 @@ fn image_answer<F: Files, I: Source, O: Sink, E: Sink>(
         → IsReadyProgram words held members plan.entry program.now
         → F.held files.old ≡ Some held → IsDone words held result
         (call_objects (F.held files.old)
-        (call_streams (I.left input.old) (I.faults input.old) (O.state out.old) (E.state err.old)))
+        (call_streams (I.left input.old) (I.counts input.old) (O.state out.old) (E.state err.old)))
         (call_objects (F.held files.new)
-        (call_streams (I.left input.new) (I.faults input.new) (O.state out.new) (E.state err.new))) }
-    ensures reported { Reports usage [] (I.left input.old) (E.state err.old) (E.state err.new) result }
+        (call_streams (I.left input.new) (I.counts input.new) (O.state out.new) (E.state err.new))) }
+    ensures reported { Reports usage [] (E.state err.old) (E.state err.new) result }
     ensures no_refusal { IsRefusal result → ⊥ }
     ensures leaves { LeavesOutside result
         (outside (F.faults files.old) (F.absences files.old)
-        (call_streams (I.left input.old) (I.faults input.old) (O.state out.old) (E.state err.old)))
+        (call_streams (I.left input.old) (I.counts input.old) (O.state out.old) (E.state err.old)))
         (outside (F.faults files.new) (F.absences files.new)
-        (call_streams (I.left input.new) (I.faults input.new) (O.state out.new) (E.state err.new))) }
+        (call_streams (I.left input.new) (I.counts input.new) (O.state out.new) (E.state err.new))) }
     ensures settled { LeavesSettled result (pending_bytes (O.pending out.old) (E.pending err.old))
         (pending_bytes (O.pending out.new) (E.pending err.new)) }
 {
     one_spelling();
     same_ends();
-    runs_leave();
-    broken_off();
+    outsides_grow();
     match files.write(plan.image.unwrap_or(program.base), &program.made.image) {
         Ok(()) => match plan.run {
             Some(asked) => ran_answer(
@@ -372,13 +376,16 @@ fn ran_answer<I: Source, O: Sink, E: Sink>(
 ) -> Answer
     ensures ran { IfSome (I.left input.old)
         (λ left. HasRun (tables_of code.now.code) (run_launch (run_seen run.entry) left) number result
-        (call_streams (I.left input.old) (I.faults input.old) (O.state out.old) (E.state err.old))
-        (call_streams (I.left input.new) (I.faults input.new) (O.state out.new) (E.state err.new))) }
-    ensures reported { Reports usage [] (I.left input.old) (E.state err.old) (E.state err.new) result }
+        (call_streams (I.left input.old) (I.counts input.old) (O.state out.old) (E.state err.old))
+        (call_streams (I.left input.new) (I.counts input.new) (O.state out.new) (E.state err.new))) }
+    ensures over { IsOver (tables_of code.now.code) (run_launch (run_seen run.entry) []) number result
+        (call_streams (I.left input.old) (I.counts input.old) (O.state out.old) (E.state err.old))
+        (call_streams (I.left input.new) (I.counts input.new) (O.state out.new) (E.state err.new)) }
+    ensures reported { Reports usage [] (E.state err.old) (E.state err.new) result }
     ensures others { IsOfRun result }
     ensures causes { RunEndsAtFirst result
-        (call_streams (I.left input.old) (I.faults input.old) (O.state out.old) (E.state err.old))
-        (call_streams (I.left input.new) (I.faults input.new) (O.state out.new) (E.state err.new)) }
+        (call_streams (I.left input.old) (I.counts input.old) (O.state out.old) (E.state err.old))
+        (call_streams (I.left input.new) (I.counts input.new) (O.state out.new) (E.state err.new)) }
     ensures settled { LeavesSettled result (pending_bytes (O.pending out.old) (E.pending err.old))
         (pending_bytes (O.pending out.new) (E.pending err.new)) }
 {
@@ -406,13 +413,16 @@ fn run_answer<I: Source, O: Sink, E: Sink>(
 ) -> Answer
     ensures ran { IfSome (I.left input.old)
         (λ left. IsRanOrBroken (tables_of code.now.code) (run_launch (run_seen asked.entry) left) result
-        (call_streams (I.left input.old) (I.faults input.old) (O.state out.old) (E.state err.old))
-        (call_streams (I.left input.new) (I.faults input.new) (O.state out.new) (E.state err.new))) }
-    ensures reported { Reports usage [] (I.left input.old) (E.state err.old) (E.state err.new) result }
+        (call_streams (I.left input.old) (I.counts input.old) (O.state out.old) (E.state err.old))
+        (call_streams (I.left input.new) (I.counts input.new) (O.state out.new) (E.state err.new))) }
+    ensures over { IsOver (tables_of code.now.code) (run_launch (run_seen asked.entry) []) None result
+        (call_streams (I.left input.old) (I.counts input.old) (O.state out.old) (E.state err.old))
+        (call_streams (I.left input.new) (I.counts input.new) (O.state out.new) (E.state err.new)) }
+    ensures reported { Reports usage [] (E.state err.old) (E.state err.new) result }
     ensures others { IsOfRun result }
     ensures causes { RunEndsAtFirst result
-        (call_streams (I.left input.old) (I.faults input.old) (O.state out.old) (E.state err.old))
-        (call_streams (I.left input.new) (I.faults input.new) (O.state out.new) (E.state err.new)) }
+        (call_streams (I.left input.old) (I.counts input.old) (O.state out.old) (E.state err.old))
+        (call_streams (I.left input.new) (I.counts input.new) (O.state out.new) (E.state err.new)) }
     ensures settled { LeavesSettled result (pending_bytes (O.pending out.old) (E.pending err.old))
         (pending_bytes (O.pending out.new) (E.pending err.new)) }
 {

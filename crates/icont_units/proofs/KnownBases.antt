@@ -13,7 +13,7 @@ use Rattle.icn_unit.specs.PlainUnits.{PlainDecl, Global, Procedure, Link, Record
 use Rattle.icn_link.specs.declared.fault.LinkFault.{LinkFault}
 use Rattle.icn_link.specs.declared.fault.LinkFault.TheVariants.{K2}
 use Rattle.icn_link.specs.FirstMentions.{with_text, with_texts}
-use Rattle.icn_link.specs.LinkFaults.{base_of, missing, missing_by, missing_fault, missing_from, missing_in, unit_names}
+use Rattle.icn_link.specs.LinkFaults.{base_of, missing_unit, missing_by, missing_fault, missing_from, missing_in, unit_names}
 use Rattle.icont_units.specs.Loading.{IsMissed, Knows, texts_in}
 use Rattle.icont_units.specs.Units.{link_in, links_of}
 
@@ -295,6 +295,6 @@ linked_from names place (first ∷ units) unit name e =
     linked_unit names place first units unit name (missing_in names first.decls) refl
     (linked_from names (suc place) units unit name) e
 
-pub first_linked : (units : List UnitRead) (unit : ℕ) (name : List ℕ) → missing units ≡ Some (K2 unit name)
+pub first_linked : (units : List UnitRead) (unit : ℕ) (name : List ℕ) → missing_unit units ≡ Some (K2 unit name)
     → IsLinked (unit_names units) (flat_map links_of units) name
 first_linked units unit name e = linked_from (unit_names units) 0 units unit name e

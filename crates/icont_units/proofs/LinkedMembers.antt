@@ -13,7 +13,7 @@ use Rattle.icn_unit.specs.PlainUnits.{UnitRead}
 use Rattle.icn_unit.specs.UnitViews.{decl_seen}
 use Rattle.icn_link.specs.declared.fault.LinkFault.TheVariants.{K2}
 use Rattle.icn_link.specs.FirstMentions.{with_text, with_texts}
-use Rattle.icn_link.specs.LinkFaults.{missing, unit_names}
+use Rattle.icn_link.specs.LinkFaults.{missing_unit, unit_names}
 use Rattle.icn_link.specs.Units.{unit_seen, units_seen}
 use Rattle.icn_answer.specs.declared.answer.Answer.{Answer}
 use Rattle.icn_answer.specs.declared.answer.Answer.TheVariants.{NoMemory}
@@ -408,7 +408,7 @@ are_sought before now old new k l place end first x = record { missed = missed }
     both e = cc
   of_met name f (inr m) = m
 
-  missed : (unit : ℕ) (name : List ℕ) → missing (units_in new) ≡ Some (K2 unit name) → IsMissed before now name
+  missed : (unit : ℕ) (name : List ℕ) → missing_unit (units_in new) ≡ Some (K2 unit name) → IsMissed before now name
   missed unit name e =
       let found = first_linked (units_in new) unit name e in
       of_met name found.absent (knows.met name (is_known k (flat_map links_of (units_in new)) l name all_known found.linked))

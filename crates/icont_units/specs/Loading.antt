@@ -8,7 +8,7 @@ use Rattle.icn_host.specs.FileMaps.{FileMap}
 use Rattle.icn_unit.specs.PlainUnits.{UnitRead}
 use Rattle.icn_link.specs.declared.fault.LinkFault.TheVariants.{K2}
 use Rattle.icn_link.specs.FirstMentions.{with_texts}
-use Rattle.icn_link.specs.LinkFaults.{missing, unit_names}
+use Rattle.icn_link.specs.LinkFaults.{missing_unit, unit_names}
 use Rattle.icn_link.specs.Units.{units_seen}
 use Rattle.law_simulation.specs.Faultless.{IsFaultless}
 use Rattle.icn_answer.specs.declared.answer.Answer.{Answer}
@@ -163,4 +163,4 @@ IsLoaded files named (Err answer) = IsFault answer ⊎ Load files named (Err ans
 
 -- the first base that is linked and has no unit was not there, or is no text
 pub record AreSought (before now : ℕ) (units : List UnitRead) : Type 0 where
-  pub missed : (unit : ℕ) (name : List ℕ) → missing units ≡ Some (K2 unit name) → IsMissed before now name
+  pub missed : (unit : ℕ) (name : List ℕ) → missing_unit units ≡ Some (K2 unit name) → IsMissed before now name

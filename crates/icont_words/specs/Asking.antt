@@ -9,6 +9,7 @@ use Rattle.icont_words.specs.declared.words.WordsFault.{WordsFault}
 use Rattle.icont_words.specs.declared.words.WordsFault.TheVariants as Faults
 use Rattle.icont_words.specs.Words.{Run, Task, Translate, Link, Generate, Asks, Faulty, ComeTo}
 
+-- a run that is asked for, as definitions see it
 abbrev pub run_seen : RunHeld → Run
 run_seen run = record { arguments = map string_bytes run.arguments.now; turns = run.turns }
 

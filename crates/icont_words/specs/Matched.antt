@@ -35,6 +35,7 @@ IsMatched words (Ok matches) =
 IsMatched words (Err (Faulty kind)) = (kind ≡ 1) × ((pieces : List Piece) → AreMeant words pieces → ⊥)
 IsMatched words (Err NoMemory) = Unit {0}
 
+-- a text that is borrowed, if there is one
 abbrev pub text_of : Option (Bor (List ℕ)) → Option (List ℕ)
 text_of text = option_map (λ t. t.now) text
 

@@ -2,7 +2,7 @@
 use Rattle.std.specs.Prelude.{◌≡◌, ◌≢◌, ℕ, ◌==◌, ◌||◌, ◌&&◌, ◌≤◌, Bool, true, false, not, is_some, List, [], ◌∷◌, map, length, Option, None, Some, if◌then◌else◌, codes, unwrap_or, count_by}
 use Rattle.std.specs.Option.{option_map, option_and_then, option_map_or}
 use Rattle.std.specs.Str.{bytes_eq}
-use Rattle.icn_profile.specs.Numbers.{greatest_program}
+use Rattle.icn_profile.specs.Numbers.{greatest_program, most_turns}
 use Rattle.icn_text.specs.WordNumbers.{number_within}
 
 -- Pieces
@@ -19,11 +19,13 @@ pub data Piece : Type 0 where
   Valued : Letter → List ℕ → Piece
   Named : List ℕ → Piece
 
+-- the byte of an option's letter
 abbrev pub letter_byte : Letter → ℕ
 letter_byte Image = 111
 letter_byte Turns = 110
 letter_byte Number = 103
 
+-- the option of which a byte is the letter
 abbrev pub letter_of : ℕ → Option Letter
 letter_of b = if b == 111 then Some Image
     else (if b == 110 then Some Turns else (if b == 103 then Some Number else None))
@@ -60,11 +62,13 @@ pub data Says : List (List ℕ) → List Piece → Type 0 where
 
 -- What the pieces say together
 
+-- the piece is `-c`
 abbrev pub is_units : Piece → Bool
 is_units Units = true
 is_units (Valued letter value) = false
 is_units (Named name) = false
 
+-- both are the same option
 abbrev pub same_letter : Letter → Letter → Bool
 same_letter a b = letter_byte a == letter_byte b
 
@@ -76,6 +80,7 @@ values letter (Valued other value ∷ pieces) =
     if same_letter letter other then value ∷ values letter pieces else values letter pieces
 values letter (Named name ∷ pieces) = values letter pieces
 
+-- the names of files, in their order
 abbrev pub names_said : List Piece → List (List ℕ)
 names_said [] = []
 names_said (Units ∷ pieces) = names_said pieces
@@ -115,10 +120,12 @@ pub record Order : Type 0 where
   pub names : List (List ℕ)
   pub run : Option (List (List ℕ))
 
+-- the first of some texts, if there is one
 abbrev pub first : List (List ℕ) → Option (List ℕ)
 first [] = None
 first (text ∷ texts) = Some text
 
+-- `-c` is said
 abbrev pub has_units : List Piece → Bool
 has_units pieces = not (count_by is_units pieces == 0)
 
@@ -135,18 +142,18 @@ order_of pieces run = record {
 
 -- the bound of turns stands at the greatest number where none is said
 abbrev pub turns_of : List ℕ → Option ℕ
-turns_of text = number_within 0 18446744073709551615 text
+turns_of text = number_within 0 most_turns text
 
-abbrev pub most_turns : ℕ
-most_turns = 18446744073709551615
-
+-- the number of a program that is made by its number, from 1 on
 abbrev pub number_of : List ℕ → Option ℕ
 number_of text = number_within 1 greatest_program text
 
+-- a text is said, and it is none of the numbers that are read so
 abbrev pub is_wrong : (List ℕ → Option ℕ) → Option (List ℕ) → Bool
 is_wrong read None = false
 is_wrong read (Some text) = not (is_some (read text))
 
+-- a file is named
 abbrev pub has_names : Order → Bool
 has_names order = not (length order.names == 0)
 
@@ -154,6 +161,7 @@ has_names order = not (length order.names == 0)
 abbrev pub units_with_others : Order → Bool
 units_with_others order = order.units && (is_some order.image || is_some order.run)
 
+-- `-g` is said beside one of those
 abbrev pub number_with_others : Order → Bool
 number_with_others order =
     is_some order.number && (order.units || (is_some order.image || (is_some order.run || has_names order)))
@@ -180,12 +188,15 @@ pub data Task : Type 0 where
   Link : List (List ℕ) → Option (List ℕ) → Option Run → Task
   Generate : ℕ → ℕ → Task
 
+-- the bound of turns that is said, or the greatest
 abbrev pub bound_of : Order → ℕ
 bound_of order = unwrap_or (option_and_then turns_of order.turns) most_turns
 
+-- a run with these arguments under that bound
 abbrev pub run_of : Order → List (List ℕ) → Run
 run_of order arguments = record { arguments = arguments; turns = bound_of order }
 
+-- what is to be done with files: they are translated where `-c` is said, else linked
 abbrev pub files_task : Order → Task
 files_task order = if order.units then Translate order.names
     else Link order.names order.image (option_map (run_of order) order.run)
@@ -200,6 +211,7 @@ pub data WordsReading : Type 0 where
   Asks : Task → WordsReading
   Faulty : ℕ → WordsReading
 
+-- the kind of what is wrong with an order, or its task
 abbrev pub order_reading : Order → WordsReading
 order_reading order = option_map_or (λ kind. Faulty kind) (wrong_kind order) (Asks (task_of order))
 

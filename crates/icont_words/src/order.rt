@@ -1,7 +1,7 @@
 // What the words say together, and the task that it makes.
 ghost use Rattle.std.specs.Prelude.{◌≡◌, List, [], map, string_bytes, unwrap_or, IfOk, codes, option_and_then};
 ghost use Rattle.std.specs.Option.{option_map};
-ghost use Rattle.icn_profile.specs.Numbers.{greatest_program};
+ghost use Rattle.icn_profile.specs.Numbers.{greatest_program, most_turns};
 ghost use Rattle.clap.specs.Words.{all_of, found_of, rows_of};
 ghost use Rattle.icn_text.specs.WordNumbers.{number_within};
 ghost use Rattle.icn_text.specs.WordTexts.{texts};
@@ -10,7 +10,6 @@ ghost use Rattle.icont_words.specs.Words.{
   bound_of,
   files_task,
   is_wrong,
-  most_turns,
   number_with_others,
   order_of,
   task_of,
@@ -23,11 +22,9 @@ ghost use Rattle.icont_words.specs.Matched.{Holds, order_seen, text_of};
 
 use crate::words::{Run, Task};
 use clap::ArgMatches;
-use icn_profile::GREATEST_PROGRAM;
+use icn_profile::{GREATEST_PROGRAM, MOST_TURNS};
 use icn_text::number_within;
 use std::alloc::{AllocError, Global};
-
-const MOST_TURNS: u64 = u64::MAX;
 
 const MOST_NUMBER: u64 = GREATEST_PROGRAM;
 

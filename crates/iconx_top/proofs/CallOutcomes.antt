@@ -3,6 +3,7 @@ use Rattle.std.proofs.Common.{◌≡◌, ◌⊎◌, inl, inr, ℕ, List, [], Opt
 use Rattle.icn_host.specs.FileMaps.{FileMap, Follows}
 use Rattle.icn_host.proofs.SinkSteps.{gains_nothing}
 use Rattle.icn_host.specs.Sinks.{SinkState}
+use Rattle.icn_host.specs.Sources.{SourceCounts}
 use Rattle.icn_host.specs.declared.fault.Fault.TheVariants.{NoMemory as Wants}
 use Rattle.icn_host.proofs.ToldPuts.{puts_nothing}
 use Rattle.icn_host.specs.Puts.{all, LeadsBy}
@@ -24,16 +25,15 @@ use Rattle.icn_answer.specs.Endings.{ending_held}
 use Rattle.icn_run_answer.specs.FaultAnswers.{of_run}
 use Rattle.icn_answer.specs.Lines.{line_of}
 use Rattle.icn_answer.specs.Refusing.{PutsItsLine, own, put, want, write_fault}
-use Rattle.icn_run_answer.specs.Reporting.{PutsSome}
 use Rattle.icn_run_answer.specs.ToldObjects.{CallObjects, call_objects}
 use Rattle.icn_answer.proofs.FaultCounts.{no_cause, unmoved}
 use Rattle.icn_run_answer.proofs.CountCauses.{absence_of, broken_first, refused_ends}
 use Rattle.icn_run_answer.proofs.Endings.{held_seen}
 use Rattle.icn_answer.proofs.NoFaults.{no_fault}
-use Rattle.icn_run_answer.proofs.Reports.{broken_puts, is_run_fault, puts_own}
-use Rattle.iconx_top.specs.Job.{IsJob, IsRun, Job, bad, missing, observation, ran, refusal}
+use Rattle.icn_run_answer.proofs.Reports.{is_run_fault, puts_own}
+use Rattle.iconx_top.specs.Job.{IsJob, IsRun, bad, missing, observation, ran, refusal}
 use Rattle.iconx_top.specs.Loading.{IsLoaded, IsOfLoading}
-use Rattle.iconx_top.specs.Outcomes.{IsIdleFault, AnswersCommand, broke, done, fault, idle}
+use Rattle.iconx_top.specs.Outcomes.{AsksForRefusal, IsIdleFault, AnswersCommand, broke, done, fault, idle}
 use Rattle.iconx_top.specs.Usage.{usage}
 use Rattle.iconx_top.specs.Words.{Asks, image_named, words_reading}
 
@@ -42,26 +42,26 @@ abbrev pub Asked : List (List ℕ) → FileMap → List ℕ → List ℕ → Ans
 Asked words files left name answer = IsFault answer ⊎ IsJob words files left (refusal files left name answer)
 
 -- a fault that is none of the input or an output was answered before a line was put
-idle_of : (IsJobOf : Job → Type 0) (answer : Answer) (before : SinkState) → IsFault answer → (answer ≡ WriteFault → ⊥) → (answer ≡ ReadFault → ⊥)
-    → IsIdleFault IsJobOf answer before before
-idle_of IsJobOf Wrote before f no_write no_read = absurd (no_fault Wrote refl f)
-idle_of IsJobOf (Ran ending) before f no_write no_read = absurd (no_fault (Ran ending) refl f)
-idle_of IsJobOf (Refused file line rule) before f no_write no_read = absurd (no_fault (Refused file line rule) refl f)
-idle_of IsJobOf (Command kind) before f no_write no_read = absurd (no_fault (Command kind) refl f)
-idle_of IsJobOf (Missing name) before f no_write no_read = absurd (no_fault (Missing name) refl f)
-idle_of IsJobOf (BadUcode name rule) before f no_write no_read = absurd (no_fault (BadUcode name rule) refl f)
-idle_of IsJobOf (BadImage rule) before f no_write no_read = absurd (no_fault (BadImage rule) refl f)
-idle_of IsJobOf FileFault before f no_write no_read = refl
-idle_of IsJobOf ReadFault before f no_write no_read = absurd (no_read refl)
-idle_of IsJobOf WriteFault before f no_write no_read = absurd (no_write refl)
-idle_of IsJobOf NoMemory before f no_write no_read = inl refl
+idle_of : (Refuses : List ℕ → Answer → Type 0) (answer : Answer) (before : SinkState) → IsFault answer → (answer ≡ WriteFault → ⊥) → (answer ≡ ReadFault → ⊥)
+    → IsIdleFault Refuses answer before before
+idle_of Refuses Wrote before f no_write no_read = absurd (no_fault Wrote refl f)
+idle_of Refuses (Ran ending) before f no_write no_read = absurd (no_fault (Ran ending) refl f)
+idle_of Refuses (Refused file line rule) before f no_write no_read = absurd (no_fault (Refused file line rule) refl f)
+idle_of Refuses (Command kind) before f no_write no_read = absurd (no_fault (Command kind) refl f)
+idle_of Refuses (Missing name) before f no_write no_read = absurd (no_fault (Missing name) refl f)
+idle_of Refuses (BadUcode name rule) before f no_write no_read = absurd (no_fault (BadUcode name rule) refl f)
+idle_of Refuses (BadImage rule) before f no_write no_read = absurd (no_fault (BadImage rule) refl f)
+idle_of Refuses FileFault before f no_write no_read = refl
+idle_of Refuses ReadFault before f no_write no_read = absurd (no_read refl)
+idle_of Refuses WriteFault before f no_write no_read = absurd (no_write refl)
+idle_of Refuses NoMemory before f no_write no_read = inl refl
 
 -- memory was wanting as a refusal's line was put
 idle_short : {words : List (List ℕ)} {files : FileMap} {left : List ℕ} (name : List ℕ) (answer : Answer) (before between : SinkState)
     → IsJob words files left (refusal files left name answer) → LeadsBy Wants before between (line_of usage name answer)
-    → IsIdleFault (IsJob words files left) NoMemory before between
+    → IsIdleFault (AsksForRefusal words files left) NoMemory before between
 idle_short name answer before between is (inl same) = inl same
-idle_short {files = files} {left} name answer before between is (inr short) = inr (refusal files left name answer, is, short)
+idle_short name answer before between is (inr short) = inr (name, (answer, (is, short)))
 
 -- files that stay as they were are those of the job
 pub files_stay : {held held' : Option FileMap} (files : FileMap) → held ≡ Some files → held' ≡ Some files
@@ -70,21 +70,53 @@ files_stay files e e' = rw (e, e') (files, refl, λ name. refl)
 
 -- nothing was done but to put a line
 pub refused : {words : List (List ℕ)} {files : FileMap} {left : List ℕ} (name : List ℕ) (answer given : Answer)
-    (held held' : Option FileMap) (left' : Option (List ℕ)) (input : ℕ) (out before after : SinkState)
+    (held held' : Option FileMap) (left' : Option (List ℕ)) (input : SourceCounts) (out before after : SinkState)
     → Asked words files left name answer → (answer ≡ WriteFault → ⊥) → (answer ≡ ReadFault → ⊥) → held' ≡ held → held ≡ Some files
     → left' ≡ Some left → PutsItsLine usage name answer before after given
     → AnswersCommand words files left given (call_objects held (call_streams left' input out before)) (call_objects held' (call_streams left' input out after))
 refused name answer given held held' left' input out before after (inl f) no_write no_read same e d (put n h) = absurd (n f)
 refused {files = files} {left} name answer given held held' left' input out before after (inr is) no_write no_read same e d (put n h) =
-    done (refusal files left name answer) is (record { answered = refl; files = files_stay files e (same ∙ e); left = d; output = gains_nothing out.held; errors = h.gains })
+    done (refusal files left name answer) is (record {
+      answered = refl;
+      files = files_stay files e (same ∙ e);
+      left = d;
+      calls = refl;
+      output = gains_nothing
+          out.held;
+      errors = h.gains;
+    })
 refused {words} {files} {left} name answer given held held' left' input out before after asks no_write no_read same e d (own f puts) =
-    fault f (idle before same refl refl (idle_of (IsJob words files left) answer before f no_write no_read) (puts_own _ _ answer puts))
+    fault f (idle (record {
+      between = before;
+      files_stay = same;
+      input_stays = refl;
+      counts_stay = refl;
+      output_stays = refl;
+      cause = idle_of (AsksForRefusal words files left) answer before f no_write no_read;
+      line = puts_own _ _ answer puts;
+    }))
 refused name answer given held held' left' input out before after (inl f) no_write no_read same e d (write_fault n stops) = absurd (n f)
 refused {files = files} {left} name answer given held held' left' input out before after (inr is) no_write no_read same e d (write_fault n stops) =
-    fault refl (idle after same refl refl (refusal files left name answer, is, stops) (all (puts_nothing after)))
+    fault refl (idle (record {
+      between = after;
+      files_stay = same;
+      input_stays = refl;
+      counts_stay = refl;
+      output_stays = refl;
+      cause = (name, (answer, (is, stops)));
+      line = all (puts_nothing after);
+    }))
 refused name answer given held held' left' input out before after (inl f) no_write no_read same e d (want n between leads puts) = absurd (n f)
 refused name answer given held held' left' input out before after (inr is) no_write no_read same e d (want n between leads puts) =
-    fault refl (idle between same refl refl (idle_short name answer before between is leads) puts)
+    fault refl (idle (record {
+      between = between;
+      files_stay = same;
+      input_stays = refl;
+      counts_stay = refl;
+      output_stays = refl;
+      cause = idle_short name answer before between is leads;
+      line = puts;
+    }))
 
 -- what was loaded
 
@@ -114,6 +146,7 @@ ran_outcome {files = files} tables launch ending held e is (seen, (ended, (runs,
       answered = ap (λ x. Ran x) (sym (held_seen ending) ∙ ap ending_held (sym ended));
       files = files_stay files e e;
       left = ends.left;
+      calls = ends.calls;
       output = ends.output;
       errors = ends.errors;
     })
@@ -123,12 +156,18 @@ pub broke_outcome : {words : List (List ℕ)} {files : FileMap} {left : List ℕ
     → IsBrokenOff tables launch stopped before between → EndsBehind (of_run stopped) between after
     → AnswersCommand words files left (of_run stopped) (call_objects held before) (call_objects held after)
 broke_outcome {before = before} {between} tables launch stopped held is first broken behind =
-    fault (is_run_fault stopped) (broke stopped between tables launch refl is refl (broken_first before between stopped first) broken behind)
-
--- what a run put that was broken off
-pub off_puts : (tables : Tables) (launch : Launch) (stopped : RunFault) (before after : CallStreams) → IsBrokenOff tables launch stopped before after
-    → PutsSome before.errors after.errors
-off_puts tables launch stopped before after (seen, (runs, leaves)) = broken_puts stopped launch.outside.left seen before after leaves
+    fault (is_run_fault stopped) (broke (record {
+      stopped = stopped;
+      between = between;
+      tables = tables;
+      launch = launch;
+      answered = refl;
+      asked = is;
+      files_stay = refl;
+      first = broken_first before between stopped first;
+      broken = broken;
+      line = behind;
+    }))
 
 -- the files that are told behind a call
 pub held_as : {words : List (List ℕ)} {files : FileMap} {left : List ℕ} {answer : Answer} {before : CallObjects} {after : CallStreams}
@@ -155,7 +194,7 @@ command_no_read kind e = cc
 command_no_file : (kind : ℕ) → Command kind ≡ FileFault → ⊥
 command_no_file kind e = cc
 
-pub command_ends : {files absences input : ℕ} {left : Option (List ℕ)} {out before after : SinkState} (kind : ℕ) (given : Answer)
+pub command_ends : {files absences : ℕ} {input : SourceCounts} {left : Option (List ℕ)} {out before after : SinkState} (kind : ℕ) (given : Answer)
     → PutsItsLine usage [] (Command kind) before after given
     → EndsAtFirst given (IsAbsence given) (outside files absences (call_streams left input out before))
     (outside files absences (call_streams left input out after))

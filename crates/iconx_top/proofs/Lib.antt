@@ -7,3 +7,5 @@ pub mod AskedAnswers
 pub mod SomeJob
 pub mod NewImages
 pub mod Migrations
+mod Absences
+mod AskedRuns

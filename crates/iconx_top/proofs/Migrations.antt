@@ -5,6 +5,7 @@ use Rattle.std.specs.Map.{update}
 use Rattle.icn_host.proofs.SinkSteps.{gains_nothing}
 use Rattle.icn_host.specs.FileMaps.{FileMap, Follows, SetsFile, SetsPart}
 use Rattle.icn_host.specs.Sinks.{SinkState}
+use Rattle.icn_host.specs.Sources.{SourceCounts}
 use Rattle.icn_host.specs.declared.fault.Fault.{Fault}
 use Rattle.icn_tree.specs.declared.rule.Rule.TheVariants.{I7}
 use Rattle.icn_code.specs.Codes.{Tables}
@@ -108,7 +109,7 @@ written_of (all_written wrote holds) e = holds
 written_of (part_written new tables broken asked short part) e = absurd (rw e at broken)
 
 -- an input that tells what it has left, and stays as it is
-pub told_input : {words : List (List ℕ)} {files : FileMap} {left : List ℕ} {answer : Answer} {held held' : Option FileMap} {input : ℕ}
+pub told_input : {words : List (List ℕ)} {files : FileMap} {left : List ℕ} {answer : Answer} {held held' : Option FileMap} {input : SourceCounts}
     {out before after : SinkState} (told : Option (List ℕ)) → told ≡ Some left
     → AnswersCommand words files left answer (call_objects held (call_streams (Some left) input out before))
     (call_objects held' (call_streams (Some left) input out after))
@@ -139,7 +140,7 @@ written_files : (files : FileMap) (held held' : Option FileMap) (name image : Li
 written_files files held held' name image e sets = rw e sets.follows
 
 pub image_done : {words : List (List ℕ)} {files : FileMap} {left : List ℕ} (new : List ℕ) (tables : Tables) (held held' : Option FileMap)
-    (input : ℕ) (out errors : SinkState) → IsMigration words files new tables → IsShort tables → held ≡ Some files
+    (input : SourceCounts) (out errors : SinkState) → IsMigration words files new tables → IsShort tables → held ≡ Some files
     → SetsFile (Some files) held' new (image_of tables)
     → AnswersCommand words files left Wrote (call_objects held (call_streams (Some left) input out errors))
     (call_objects held' (call_streams (Some left) input out errors))
@@ -148,17 +149,29 @@ image_done {files = files} {left} new tables held held' input out errors asked s
       answered = refl;
       files = written_files files held held' new (image_of tables) e sets;
       left = refl;
+      calls = refl;
       output = gains_nothing out.held;
       errors = gains_nothing errors.held;
     })
 
 pub image_torn : {words : List (List ℕ)} {files : FileMap} {left : List ℕ} (new : List ℕ) (tables : Tables) (answer : Answer)
-    (held held' : Option FileMap) (input : ℕ) (out before after : SinkState) → IsMigration words files new tables → IsShort tables
+    (held held' : Option FileMap) (input : SourceCounts) (out before after : SinkState) → IsMigration words files new tables → IsShort tables
     → SetsPart held held' new (image_of tables) → (answer ≡ FileFault) ⊎ (answer ≡ NoMemory) → PutsOwn answer before after
     → AnswersCommand words files left answer (call_objects held (call_streams (Some left) input out before))
     (call_objects held' (call_streams (Some left) input out after))
 image_torn new tables answer held held' input out before after asked short part is puts =
-    fault (is_torn answer is) (torn new tables (torn_fault answer is) asked short part refl refl (puts_own _ _ answer puts))
+    fault (is_torn answer is) (torn (record {
+      new = new;
+      tables = tables;
+      answers_torn = torn_fault answer is;
+      asked = asked;
+      short = short;
+      part = part;
+      input_stays = refl;
+      counts_stay = refl;
+      output_stays = refl;
+      line = puts_own _ _ answer puts;
+    }))
 
 -- the image would be too long, or memory was wanting
 pub asked_too_long : {words : List (List ℕ)} {files : FileMap} {left : List ℕ} (new name : List ℕ) (tables : Tables) (answer : Answer)

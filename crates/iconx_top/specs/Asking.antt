@@ -7,9 +7,11 @@ use Rattle.iconx_top.specs.declared.words.MigrationAsked.{MigrationAsked}
 use Rattle.iconx_top.specs.declared.words.RunAsked.{RunAsked}
 use Rattle.iconx_top.specs.Words.{WordsReading, Asks, Migrates, Faulty}
 
+-- words that ask for this run
 abbrev pub run_reading : RunAsked → WordsReading
 run_reading asked = Asks (limits_of asked.limits) asked.image.now (map string_bytes asked.arguments.now)
 
+-- words that ask for this new image
 abbrev pub migration_reading : MigrationAsked → WordsReading
 migration_reading asked = Migrates asked.new_name.now asked.image.now
 

@@ -6,7 +6,7 @@ use Rattle.icn_profile.specs.Numbers.{most_bytes_of_image}
 use Rattle.icn_host.specs.FileMaps.{FileMap}
 use Rattle.icn_tree.specs.declared.rule.Rule.{Rule}
 use Rattle.icn_tree.specs.declared.rule.Rule.TheVariants.{I7}
-use Rattle.icn_value.specs.Store.{outside_of}
+use Rattle.icn_value.specs.Store.{errors_in, output_in, outside_of, readings_in}
 use Rattle.icn_defs.specs.Running.{Launch, Observation}
 use Rattle.icn_code.specs.Codes.{Tables}
 use Rattle.icn_image.specs.Spelling.{image_of}
@@ -24,13 +24,20 @@ pub record Job : Type 0 where
   pub answer : Answer
   pub files : FileMap
   pub left : List ℕ
+  pub readings : ℕ
   pub output : List ℕ
   pub errors : List ℕ
 
 -- nothing is done but to put the answer's own line
 abbrev pub refusal : FileMap → List ℕ → List ℕ → Answer → Job
-refusal files left name answer =
-    record { answer = answer; files = files; left = left; output = []; errors = line_of usage name answer }
+refusal files left name answer = record {
+  answer = answer;
+  files = files;
+  left = left;
+  readings = 0;
+  output = [];
+  errors = line_of usage name answer;
+}
 
 -- a run was observed
 abbrev pub observation : FileMap → Observation → Job
@@ -38,8 +45,9 @@ observation files observed = record {
   answer = Ran (ending_held observed.ending);
   files = files;
   left = observed.outside.left;
-  output = observed.outside.output;
-  errors = observed.outside.errors;
+  readings = readings_in observed.outside.history;
+  output = output_in observed.outside.history;
+  errors = errors_in observed.outside.history;
 }
 
 -- the code of the image that the words name, and what its run is begun with
@@ -71,6 +79,7 @@ migrated files left new tables = record {
   answer = Wrote;
   files = update bytes_eq files new (Some (image_of tables));
   left = left;
+  readings = 0;
   output = [];
   errors = [];
 }

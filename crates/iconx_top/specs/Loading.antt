@@ -1,6 +1,7 @@
 -- How the code tells what it reads.
-use Rattle.std.specs.Prelude.{◌≡◌, ◌<◌, ℕ, List, length, take, Option, None, Some, Result, Ok, Err, Vec}
-use Rattle.icn_profile.specs.Numbers.{most_bytes_of_image}
+use Rattle.std.specs.Prelude.{◌≡◌, ◌⊎◌, ◌<◌, ℕ, List, length, take, Option, None, Some, Result, Ok, Err, Vec}
+use Rattle.icn_host.specs.Counts.{one_more}
+use Rattle.icn_profile.specs.Numbers.{most_bytes_of_image, most_bytes_told_of_image}
 use Rattle.icn_tree.specs.declared.rule.Rule.{Rule}
 use Rattle.icn_tree.specs.declared.rule.Rule.TheVariants.{I7}
 use Rattle.icn_code.specs.Codes.{Tables}
@@ -12,12 +13,13 @@ use Rattle.icn_verify.specs.Faults.{IsFirstFault, IsVerified}
 use Rattle.icn_verify.specs.declared.verified.Verified.{Verified}
 use Rattle.icn_answer.specs.declared.answer.Answer.{Answer}
 use Rattle.icn_answer.specs.declared.answer.Answer.TheVariants.{Missing, BadImage, FileFault, NoMemory}
+use Rattle.icn_answer.specs.Answers.{IsAbsence, IsFault}
 use Rattle.iconx_top.specs.Job.{IsShort}
 use Rattle.iconx_top.specs.LoadedImages.{IsJudged}
 
 -- the first bytes of a text, up to one more than an image may have
 abbrev pub Takes : List ℕ → List ℕ → Type 0
-Takes bytes all = bytes ≡ take 1073741825 all
+Takes bytes all = bytes ≡ take most_bytes_told_of_image all
 
 -- a code is refused by this rule
 abbrev pub IsRefused : Tables → Rule → Type 0
@@ -53,6 +55,7 @@ abbrev pub of_image : ImageFault → Answer
 of_image (Broken rule) = BadImage rule
 of_image WantsMemory = NoMemory
 
+-- an answer that the bytes of an image may come to
 abbrev pub IsOfImage : Answer → Type 0
 IsOfImage (BadImage rule) = Unit {0}
 IsOfImage NoMemory = Unit {0}
@@ -65,6 +68,16 @@ IsOfLoading (BadImage rule) = Unit {0}
 IsOfLoading FileFault = Unit {0}
 IsOfLoading NoMemory = Unit {0}
 IsOfLoading answer = ⊥
+
+-- The count of absences stayed, and no absence is answered; or it rose, once, and one is, or a fault in its place.
+abbrev pub CountsAbsence : Answer → ℕ → ℕ → Type 0
+CountsAbsence answer before now = ((now ≡ before) × (IsAbsence answer → ⊥))
+    ⊎ ((now ≡ one_more before) × (IsAbsence answer ⊎ IsFault answer))
+
+-- the same of what loading an image comes to
+abbrev pub AbsencesOf : Result Verified Answer → ℕ → ℕ → Type 0
+AbsencesOf (Ok verified) before now = now ≡ before
+AbsencesOf (Err answer) before now = CountsAbsence answer before now
 
 -- why there is no second version of a code: it would be too long, or memory was wanting
 abbrev pub IsNoSecondImage : Tables → Answer → Type 0

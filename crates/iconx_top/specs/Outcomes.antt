@@ -1,5 +1,6 @@
 -- What a call comes to, where the objects tell their content.
-use Rattle.std.specs.Prelude.{◌≡◌, ◌⊎◌, ℕ, List, Option, Some}
+use Rattle.std.specs.Prelude.{◌≡◌, ◌⊎◌, ℕ, List, [], Option, Some, ⊤}
+use Rattle.icn_host.specs.Counts.{raised}
 use Rattle.icn_host.specs.FileMaps.{FileMap, Follows, SetsFile, SetsPart}
 use Rattle.icn_host.specs.Sinks.{Gains, SinkState}
 use Rattle.icn_host.specs.Puts.{FailsPutting, Puts, RunsShort}
@@ -8,61 +9,99 @@ use Rattle.icn_streams.specs.Handed.{CallStreams}
 use Rattle.icn_code.specs.Codes.{Tables}
 use Rattle.icn_image.specs.Spelling.{image_of}
 use Rattle.icn_running.specs.declared.fault.RunFault.{RunFault}
-use Rattle.icn_running.specs.Runs.{IsBrokenOff}
+use Rattle.icn_running.specs.Reported.{ending_seen}
+use Rattle.icn_running.specs.Runs.{IsBrokenOff, RunsOver}
 use Rattle.icn_answer.specs.declared.answer.Answer.{Answer}
 use Rattle.icn_answer.specs.declared.answer.Answer.TheVariants.{Wrote, Ran, Refused, Command, Missing, BadUcode, BadImage, FileFault, ReadFault, WriteFault, NoMemory}
 use Rattle.icn_answer.specs.Answers.{IsFault, IsTornFault}
 use Rattle.icn_run_answer.specs.CountCauses.{EndsBehind, IsFirstFaultOf}
 use Rattle.icn_run_answer.specs.FaultAnswers.{of_run}
-use Rattle.icn_answer.specs.Lines.{fault_line}
+use Rattle.icn_answer.specs.Lines.{fault_line, line_of}
 use Rattle.icn_run_answer.specs.ToldObjects.{CallObjects}
-use Rattle.iconx_top.specs.Job.{Job, IsJob, IsMigration, IsRun, IsShort}
+use Rattle.iconx_top.specs.Job.{Job, IsJob, IsMigration, IsRun, IsShort, refusal}
+use Rattle.iconx_top.specs.Usage.{usage}
 
 -- the job was done
 pub record Completes (job : Job) (answer : Answer) (before after : CallObjects) : Type 0 where
   pub answered : answer ≡ job.answer
   pub files : Follows before.files after.files (λ old new. (name : List ℕ) → new name ≡ job.files name)
   pub left : after.streams.left ≡ Some job.left
+  pub calls : after.streams.counts.calls ≡ raised before.streams.counts.calls job.readings
   pub output : Gains before.streams.output.held after.streams.output.held job.output
   pub errors : Gains before.streams.errors.held after.streams.errors.held job.errors
 
--- Where nothing was done, what was put before the fault's own line, by the answer: of a file fault nothing; of a failed put of the line of a
--- job, a part of it; of want of memory nothing, or such a part. No other answer leaves nothing done.
-abbrev pub IsIdleFault : (Job → Type 0) → Answer → SinkState → SinkState → Type 0
-IsIdleFault IsJobOf Wrote before between = ⊥
-IsIdleFault IsJobOf (Ran ending) before between = ⊥
-IsIdleFault IsJobOf (Refused file line rule) before between = ⊥
-IsIdleFault IsJobOf (Command kind) before between = ⊥
-IsIdleFault IsJobOf (Missing name) before between = ⊥
-IsIdleFault IsJobOf (BadUcode name rule) before between = ⊥
-IsIdleFault IsJobOf (BadImage rule) before between = ⊥
-IsIdleFault IsJobOf FileFault before between = between ≡ before
-IsIdleFault IsJobOf ReadFault before between = ⊥
-IsIdleFault IsJobOf WriteFault before between =
-    (job : Job) × IsJobOf job × FailsPutting before between job.errors
-IsIdleFault IsJobOf NoMemory before between =
-    (between ≡ before) ⊎ ((job : Job) × IsJobOf job × RunsShort before between job.errors)
+-- a refusal, of which some part of the line was put in this way
+abbrev pub PutsPartOfRefusal : (List ℕ → Answer → Type 0) → (List ℕ → Type 0) → Type 0
+PutsPartOfRefusal Refuses PutsPart = (name : List ℕ)
+    × ((refused : Answer) × (Refuses name refused × PutsPart (line_of usage name refused)))
+
+-- Where nothing was done, what was put before the fault's own line, by the answer: of a file fault nothing; of a failed put of a refusal's
+-- line, a part of it; of want of memory nothing, or such a part. No other answer leaves nothing done.
+abbrev pub IsIdleFault : (List ℕ → Answer → Type 0) → Answer → SinkState → SinkState → Type 0
+IsIdleFault Refuses Wrote before between = ⊥
+IsIdleFault Refuses (Ran ending) before between = ⊥
+IsIdleFault Refuses (Refused file line rule) before between = ⊥
+IsIdleFault Refuses (Command kind) before between = ⊥
+IsIdleFault Refuses (Missing name) before between = ⊥
+IsIdleFault Refuses (BadUcode name rule) before between = ⊥
+IsIdleFault Refuses (BadImage rule) before between = ⊥
+IsIdleFault Refuses FileFault before between = between ≡ before
+IsIdleFault Refuses ReadFault before between = ⊥
+IsIdleFault Refuses WriteFault before between = PutsPartOfRefusal Refuses (FailsPutting before between)
+IsIdleFault Refuses NoMemory before between =
+    (between ≡ before) ⊎ PutsPartOfRefusal Refuses (RunsShort before between)
+
+-- the words, the files and the input ask for nothing but this answer, where the image has this name
+abbrev pub AsksForRefusal : List (List ℕ) → FileMap → List ℕ → List ℕ → Answer → Type 0
+AsksForRefusal words files left name refused = IsJob words files left (refusal files left name refused)
+
+-- nothing was done: the outside failed, or memory was wanting, before anything was
+pub record EndsIdle (words : List (List ℕ)) (files : FileMap) (left : List ℕ) (answer : Answer)
+    (before after : CallObjects) : Type 0 where
+  pub between : SinkState
+  pub files_stay : after.files ≡ before.files
+  pub input_stays : after.streams.left ≡ before.streams.left
+  pub counts_stay : after.streams.counts ≡ before.streams.counts
+  pub output_stays : after.streams.output ≡ before.streams.output
+  pub cause : IsIdleFault (AsksForRefusal words files left) answer before.streams.errors between
+  pub line : Puts between after.streams.errors (fault_line answer)
+
+-- the new image could not be written whole
+pub record EndsTorn (words : List (List ℕ)) (files : FileMap) (left : List ℕ) (answer : Answer)
+    (before after : CallObjects) : Type 0 where
+  pub new : List ℕ
+  pub tables : Tables
+  pub answers_torn : IsTornFault answer
+  pub asked : IsMigration words files new tables
+  pub short : IsShort tables
+  pub part : SetsPart before.files after.files new (image_of tables)
+  pub input_stays : after.streams.left ≡ before.streams.left
+  pub counts_stay : after.streams.counts ≡ before.streams.counts
+  pub output_stays : after.streams.output ≡ before.streams.output
+  pub line : Puts before.streams.errors after.streams.errors (fault_line answer)
+
+-- the run broke off
+pub record EndsBroken (words : List (List ℕ)) (files : FileMap) (left : List ℕ) (answer : Answer)
+    (before after : CallObjects) : Type 0 where
+  pub stopped : RunFault
+  pub between : CallStreams
+  pub tables : Tables
+  pub launch : Launch
+  pub answered : answer ≡ of_run stopped
+  pub asked : IsRun words files left tables launch
+  pub files_stay : after.files ≡ before.files
+  pub first : IsFirstFaultOf answer before.streams between
+  pub broken : IsBrokenOff tables launch stopped before.streams between
+  pub line : EndsBehind answer between after.streams
 
 -- A fault, told apart by the answer: nothing was done but that a refusal's line may be begun; or the new image could not be written whole; or
 -- the run of the image that the words name was broken off, by the first failure. The fault's own line comes behind, as far as the error
 -- output took it.
 pub data EndsByFault (words : List (List ℕ)) (files : FileMap) (left : List ℕ) (answer : Answer)
     (before after : CallObjects) : Type 0 where
-  idle : (between : SinkState) → after.files ≡ before.files → after.streams.left ≡ before.streams.left
-      → after.streams.output ≡ before.streams.output
-      → IsIdleFault (IsJob words files left) answer before.streams.errors between
-      → Puts between after.streams.errors (fault_line answer)
-      → EndsByFault words files left answer before after
-  torn : (new : List ℕ) (tables : Tables) → IsTornFault answer → IsMigration words files new tables
-      → IsShort tables → SetsPart before.files after.files new (image_of tables)
-      → after.streams.left ≡ before.streams.left → after.streams.output ≡ before.streams.output
-      → Puts before.streams.errors after.streams.errors (fault_line answer)
-      → EndsByFault words files left answer before after
-  broke : (fault : RunFault) (between : CallStreams) (tables : Tables) (launch : Launch)
-      → answer ≡ of_run fault → IsRun words files left tables launch → after.files ≡ before.files
-      → IsFirstFaultOf answer before.streams between
-      → IsBrokenOff tables launch fault before.streams between → EndsBehind answer between after.streams
-      → EndsByFault words files left answer before after
+  idle : EndsIdle words files left answer before after → EndsByFault words files left answer before after
+  torn : EndsTorn words files left answer before after → EndsByFault words files left answer before after
+  broke : EndsBroken words files left answer before after → EndsByFault words files left answer before after
 
 -- the job was done, or a fault is answered
 pub data AnswersCommand (words : List (List ℕ)) (files : FileMap) (left : List ℕ) (answer : Answer)
@@ -91,3 +130,19 @@ pub data LeavesFiles (words : List (List ℕ)) (files : FileMap) (answer : Answe
   part_written : (new : List ℕ) (tables : Tables) → IsTornFault answer → IsMigration words files new tables
       → IsShort tables → SetsPart before after new (image_of tables)
       → LeavesFiles words files answer before after
+
+-- Of a run that is answered, whatever the input tells: it is the run of the code of the image that the words name, with the words
+-- and limits that they say, over some input, which may be another before each step.
+abbrev pub RunsAsAsked : List (List ℕ) → FileMap → Answer → CallStreams → CallStreams → Type 0
+RunsAsAsked words files (Ran ending) before after = (tables : Tables) × ((launch : Launch)
+    × (IsRun words files [] tables launch × RunsOver tables launch (ending_seen ending) before after))
+RunsAsAsked words files Wrote before after = ⊤
+RunsAsAsked words files (Refused file line rule) before after = ⊤
+RunsAsAsked words files (Command kind) before after = ⊤
+RunsAsAsked words files (Missing name) before after = ⊤
+RunsAsAsked words files (BadUcode name rule) before after = ⊤
+RunsAsAsked words files (BadImage rule) before after = ⊤
+RunsAsAsked words files FileFault before after = ⊤
+RunsAsAsked words files ReadFault before after = ⊤
+RunsAsAsked words files WriteFault before after = ⊤
+RunsAsAsked words files NoMemory before after = ⊤

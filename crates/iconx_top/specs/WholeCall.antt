@@ -15,7 +15,8 @@ use Rattle.icn_run_answer.specs.Reporting.{LineStands, Reports}
 use Rattle.icn_run_answer.specs.ToldObjects.{call_objects}
 use Rattle.iconx_top.specs.Answered.{IsAnswered}
 use Rattle.iconx_top.specs.Commanded.{IsCommanded}
-use Rattle.iconx_top.specs.Outcomes.{AnswersCommand, HoldsMigration, LeavesFiles}
+use Rattle.iconx_top.specs.Outcomes.{AnswersCommand, HoldsMigration, LeavesFiles, RunsAsAsked}
+use Rattle.iconx_top.specs.Loading.{CountsAbsence}
 use Rattle.iconx_top.specs.Usage.{usage}
 use Rattle.iconx_top.specs.Words.{AsksToWrite, words_reading, image_name}
 
@@ -26,24 +27,28 @@ pub record IsWholeCall (words : List (List ℕ)) (held now : Option FileMap) (be
   pub outcome : IfSome held (λ files. IfSome before.streams.left
       (λ left. AnswersCommand words files left answer
       (call_objects held before.streams) (call_objects now after.streams)))
-  pub faultless : ¬ Rose before.faults after.faults → ¬ Rose before.streams.faults after.streams.faults
+  pub faultless : ¬ Rose before.faults after.faults
+      → ¬ Rose before.streams.counts.faults after.streams.counts.faults
       → ¬ Rose before.streams.output.faults after.streams.output.faults
       → ¬ Rose before.streams.errors.faults after.streams.errors.faults → IsFault answer → answer ≡ NoMemory
   pub line : IsFault answer
-      ⊎ LineStands usage (image_name (words_reading words)) before.streams.left answer
+      ⊎ LineStands usage (image_name (words_reading words)) answer
       before.streams.errors after.streams.errors
-  pub fault_line : Reports usage (image_name (words_reading words)) before.streams.left
+  pub fault_line : Reports usage (image_name (words_reading words))
       before.streams.errors after.streams.errors answer
   pub answered : IfSome held (λ files. IsAnswered words files answer)
   pub command : IsCommanded (words_reading words) answer
   pub input : IfSome before.streams.left (λ left. LosesSome left after.streams.left)
   pub refused : (IsOfRun answer → ⊥) → after.streams.output.held ≡ before.streams.output.held
   pub unread : (IsOfRun answer → ⊥) → after.streams.left ≡ before.streams.left
+  pub uncalled : (IsOfRun answer → ⊥) → after.streams.counts ≡ before.streams.counts
   pub files : (AsksToWrite (words_reading words) → ⊥) → now ≡ held
   pub unwritten : IsRefusal answer → now ≡ held
   pub written : IfSome held (λ files. answer ≡ Wrote → HoldsMigration words files now)
   pub leaves : IfSome held (λ files. LeavesFiles words files answer held now)
   pub causes : EndsAtFirst answer (IsAbsence answer) before after
+  pub ran : IfSome held (λ files. RunsAsAsked words files answer before.streams after.streams)
+  pub absences : CountsAbsence answer before.absences after.absences
   pub settled : LeavesSettled answer kept keeps
 
 -- The program ends with the status of such an answer.

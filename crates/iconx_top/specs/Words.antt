@@ -2,7 +2,7 @@
 use Rattle.std.specs.Prelude.{⊤, ℕ, Bool, false, List, [], ◌∷◌, codes, ◌==◌, Option, None, Some, if◌then◌else◌}
 use Rattle.std.specs.Option.{option_map}
 use Rattle.std.specs.Str.{bytes_eq}
-use Rattle.icn_profile.specs.Numbers.{most_cells, most_levels, most_strings}
+use Rattle.icn_profile.specs.Numbers.{most_cells, most_levels, most_strings, most_turns}
 use Rattle.icn_value.specs.Limited.{Bounds, default_limits}
 use Rattle.iconx_top.specs.declared.words.Limit.{Limit}
 use Rattle.iconx_top.specs.declared.words.Limit.TheVariants.{Turns, Strings, Cells, Levels}
@@ -15,6 +15,7 @@ pub data WordsReading : Type 0 where
   Migrates : List ℕ → List ℕ → WordsReading
   Faulty : ℕ → WordsReading
 
+-- the limit that an option sets, if the word is one
 abbrev pub option_of : List ℕ → Option Limit
 option_of word =
     if bytes_eq word (codes "-n") then Some Turns
@@ -25,13 +26,14 @@ option_of word =
 -- the limits with this one as a word says it
 abbrev pub with_limit : Limit → Bounds → List ℕ → Option Bounds
 with_limit Turns bounds text =
-    option_map (λ n. record bounds { turns = n }) (number_within 0 18446744073709551615 text)
+    option_map (λ n. record bounds { turns = n }) (number_within 0 most_turns text)
 with_limit Strings bounds text =
     option_map (λ n. record bounds { strings = n }) (number_within 0 most_strings text)
 with_limit Cells bounds text = option_map (λ n. record bounds { cells = n }) (number_within 0 most_cells text)
 with_limit Levels bounds text =
     option_map (λ n. record bounds { levels = n }) (number_within 1 most_levels text)
 
+-- the word begins with `-`
 abbrev pub is_dashed : List ℕ → Bool
 is_dashed [] = false
 is_dashed (b ∷ rest) = b == 45
@@ -40,14 +42,17 @@ is_dashed (b ∷ rest) = b == 45
 abbrev pub image_asked : Bounds → List ℕ → List (List ℕ) → WordsReading
 image_asked bounds word words = if is_dashed word then Faulty 5 else Asks bounds word words
 
+-- where no word stands behind it: the image, or an option that lacks its value
 abbrev pub last_word : Bounds → List ℕ → Option Limit → WordsReading
 last_word bounds word None = image_asked bounds word []
 last_word bounds word (Some option) = Faulty 3
 
+-- a value that is no number of its range is faulty, and else the words go on with the limits
 abbrev pub or_faulty : Option Bounds → (Bounds → WordsReading) → WordsReading
 or_faulty None next = Faulty 4
 or_faulty (Some bounds) next = next bounds
 
+-- where words stand behind it: the image with its arguments, or an option with its value
 abbrev pub two_words : Bounds → List ℕ → List ℕ → List (List ℕ) → Option Limit
     → (Bounds → WordsReading) → WordsReading
 two_words bounds word value words None next = image_asked bounds word (value ∷ words)

@@ -3,7 +3,7 @@ ghost use Rattle.std.specs.Prelude.{◌≡◌, ◌⊎◌, ℕ, List, IfSome, IfE
 ghost use Rattle.icn_answer.specs.Answers.{IsErrOfAbsence};
 ghost use Rattle.icn_answer.specs.FilesRead.{ReadsFiles, files_state};
 ghost use Rattle.icn_code.specs.CodeTables.{tables_of};
-ghost use Rattle.iconx_top.specs.Loading.{IsChecked, IsJudgement, IsLoaded, IsOfImage, IsOfLoading, IsSecondImage, Takes, of_image};
+ghost use Rattle.iconx_top.specs.Loading.{AbsencesOf, IsChecked, IsJudgement, IsLoaded, IsOfImage, IsOfLoading, IsSecondImage, Takes, of_image};
 
 use icn_answer::Answer;
 use icn_code::Code;
@@ -17,10 +17,12 @@ use std::alloc::Global;
 // The greatest length of an image.
 const LONGEST: u64 = MOST_BYTES_OF_IMAGE;
 
-/// The code of the image of this name, or the answer where there is none.
+/// The code of the image of this name, or the answer where there is none. That is `Missing` where the file is not there,
+/// `BadImage` with the rule that it breaks, `FileFault` where the files failed, or `NoMemory`.
 pub fn load<F: Files>(alloc: Global, name: &str, files: &mut F) -> Result<Verified, Answer>
     ensures loaded { IfSome (F.held files.old) (λ held. IsLoaded (held name.now) name.now result) }
     ensures others { IfErr result IsOfLoading }
+    ensures absences { AbsencesOf result (F.absences files.old) (F.absences files.new) }
     ensures reads { ReadsFiles result (IsErrOfAbsence result)
         (files_state (F.held files.old) (F.faults files.old) (F.absences files.old))
         (files_state (F.held files.new) (F.faults files.new) (F.absences files.new)) }

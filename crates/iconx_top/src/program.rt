@@ -30,9 +30,9 @@ pub fn program_status<F: Files, I: Source, O: Sink, E: Sink>(
     ensures status { IfOk words
         (λ words. EndsBy (map string_bytes words.items) (F.held files.old) (F.held files.new)
         (outside (F.faults files.old) (F.absences files.old)
-        (call_streams (I.left input.old) (I.faults input.old) (O.state out.old) (E.state err.old)))
+        (call_streams (I.left input.old) (I.counts input.old) (O.state out.old) (E.state err.old)))
         (outside (F.faults files.new) (F.absences files.new)
-        (call_streams (I.left input.new) (I.faults input.new) (O.state out.new) (E.state err.new)))
+        (call_streams (I.left input.new) (I.counts input.new) (O.state out.new) (E.state err.new)))
         (pending_bytes (O.pending out.old) (E.pending err.old))
         (pending_bytes (O.pending out.new) (E.pending err.new)) result) }
 
@@ -60,9 +60,9 @@ fn call_status<F: Files, I: Source, O: Sink, E: Sink>(
 ) -> ExitCode
     ensures { EndsBy (map string_bytes words.now) (F.held files.old) (F.held files.new)
         (outside (F.faults files.old) (F.absences files.old)
-        (call_streams (I.left input.old) (I.faults input.old) (O.state out.old) (E.state err.old)))
+        (call_streams (I.left input.old) (I.counts input.old) (O.state out.old) (E.state err.old)))
         (outside (F.faults files.new) (F.absences files.new)
-        (call_streams (I.left input.new) (I.faults input.new) (O.state out.new) (E.state err.new)))
+        (call_streams (I.left input.new) (I.counts input.new) (O.state out.new) (E.state err.new)))
         (pending_bytes (O.pending out.old) (E.pending err.old))
         (pending_bytes (O.pending out.new) (E.pending err.new)) result }
 {

@@ -4,6 +4,7 @@ ghost use Rattle.icn_host.specs.Counts.{Rose};
 ghost use Rattle.icn_host.specs.FileMaps.{FileMap};
 ghost use Rattle.icn_streams.specs.Handed.{call_streams};
 ghost use Rattle.icn_host.specs.Sinks.{SinkState};
+ghost use Rattle.icn_host.specs.Sources.{SourceCounts};
 ghost use Rattle.icn_code.specs.CodeTables.{tables_of};
 ghost use Rattle.icn_answer.specs.Answers.{IsAbsence, IsCommand, IsFault, IsRefusal};
 ghost use Rattle.icn_run_answer.specs.CountCauses.{EndsAtFirst, RunEndsAtFirst, outside};
@@ -17,22 +18,20 @@ ghost use Rattle.iconx_top.specs.Answered.{IsAnswered};
 ghost use Rattle.iconx_top.specs.Asking.{migration_reading, run_reading};
 ghost use Rattle.iconx_top.specs.Commanded.{IsCommanded};
 ghost use Rattle.iconx_top.specs.Job.{IsMigration};
-ghost use Rattle.iconx_top.specs.Loading.{IsLoaded};
-ghost use Rattle.iconx_top.specs.Outcomes.{AnswersCommand, HoldsMigration, LeavesFiles};
+ghost use Rattle.iconx_top.specs.Loading.{CountsAbsence, IsLoaded};
+ghost use Rattle.iconx_top.specs.Outcomes.{AnswersCommand, HoldsMigration, LeavesFiles, RunsAsAsked};
 ghost use Rattle.iconx_top.specs.Usage.{usage};
 ghost use Rattle.iconx_top.specs.Words.{AsksToWrite, words_reading as read, image_name};
 
 use crate::load::{load, second_image};
 use crate::words::{CommandAsked, MigrationAsked, RunAsked, read_command};
 use icn_answer::{Answer, refuse, torn_answer};
-use icn_defs::broken_off;
 use icn_frames::Cell;
 use icn_host::{Files, Sink, Source};
 use icn_run_answer::broken_answer;
 use icn_running::run;
 use icn_segments::RawStack;
 use icn_verify::Verified;
-use law_outside::runs_leave;
 use std::alloc::Global;
 
 const USAGE: &[u8] =
@@ -54,26 +53,25 @@ pub fn iconx_main<F: Files, I: Source, O: Sink, E: Sink>(
         (λ held.
         IfSome (I.left input.old) (λ left. AnswersCommand (map string_bytes words.now) held left result
         (call_objects (F.held files.old)
-        (call_streams (I.left input.old) (I.faults input.old) (O.state out.old) (E.state err.old)))
+        (call_streams (I.left input.old) (I.counts input.old) (O.state out.old) (E.state err.old)))
         (call_objects (F.held files.new)
-        (call_streams (I.left input.new) (I.faults input.new) (O.state out.new) (E.state err.new))))) }
+        (call_streams (I.left input.new) (I.counts input.new) (O.state out.new) (E.state err.new))))) }
     // Where no count of faults rose, no fault is answered but want of memory.
     ensures faultless { ¬ Rose (F.faults files.old) (F.faults files.new)
-        → ¬ Rose (I.faults input.old) (I.faults input.new)
+        → ¬ Rose (I.counts input.old).faults (I.counts input.new).faults
         → ¬ Rose (O.state out.old).faults (O.state out.new).faults
         → ¬ Rose (E.state err.old).faults (E.state err.new).faults
         → IsFault result → result ≡ Answer.NoMemory }
 
-    // Every other answer's line was put, whatever the files and the input tell; a run's report, behind what the program itself put,
-    // where the input tells its content.
+    // Every other answer's line was put, whatever the files and the input tell; a run's report, behind what the program itself put.
     ensures line { IsFault result
-        ⊎ LineStands usage (image_name (read (map string_bytes words.now))) (I.left input.old) result
+        ⊎ LineStands usage (image_name (read (map string_bytes words.now))) result
         (E.state err.old) (E.state err.new) }
 
     // A fault's own line was put too, behind what was put of another answer's line or by the program: less than the whole of it is
     // there only where the error output's count of faults, or of its wants of memory, rose in that put.
     ensures fault_line { Reports usage (image_name (read (map string_bytes words.now)))
-        (I.left input.old) (E.state err.old) (E.state err.new) result }
+        (E.state err.old) (E.state err.new) result }
 
     // Where the files tell their content, the answer is the one that the words and the files ask for, or a fault.
     ensures answered { IfSome (F.held files.old)
@@ -88,6 +86,7 @@ pub fn iconx_main<F: Files, I: Source, O: Sink, E: Sink>(
     // An answer that no run gives leaves the output and the input as they were.
     ensures refused { (IsOfRun result → ⊥) → (O.state out.new).held ≡ (O.state out.old).held }
     ensures unread { (IsOfRun result → ⊥) → I.left input.new ≡ I.left input.old }
+    ensures uncalled { (IsOfRun result → ⊥) → I.counts input.new ≡ I.counts input.old }
 
     // The files stay as they were where the words do not ask for a new image, and where the answer is a refusal.
     ensures files { (AsksToWrite (read (map string_bytes words.now)) → ⊥)
@@ -107,9 +106,18 @@ pub fn iconx_main<F: Files, I: Source, O: Sink, E: Sink>(
     // want of memory, and at the put of the fault's own line. An absence is answered only where that count rose.
     ensures causes { EndsAtFirst result (IsAbsence result)
         (outside (F.faults files.old) (F.absences files.old)
-        (call_streams (I.left input.old) (I.faults input.old) (O.state out.old) (E.state err.old)))
+        (call_streams (I.left input.old) (I.counts input.old) (O.state out.old) (E.state err.old)))
         (outside (F.faults files.new) (F.absences files.new)
-        (call_streams (I.left input.new) (I.faults input.new) (O.state out.new) (E.state err.new))) }
+        (call_streams (I.left input.new) (I.counts input.new) (O.state out.new) (E.state err.new))) }
+
+    // The count of absences rose, once, exactly where the image is not there; that is answered, or a fault.
+    ensures absences { CountsAbsence result (F.absences files.old) (F.absences files.new) }
+
+    // Where the files tell their content, and a run is answered, it is the run that words and files ask for, whatever the input tells.
+    ensures ran { IfSome (F.held files.old)
+        (λ held. RunsAsAsked (map string_bytes words.now) held result
+        (call_streams (I.left input.old) (I.counts input.old) (O.state out.old) (E.state err.old))
+        (call_streams (I.left input.new) (I.counts input.new) (O.state out.new) (E.state err.new))) }
 
     // Where nothing was pending on the outputs before, and no fault is answered, nothing is pending behind.
     ensures settled { LeavesSettled result (pending_bytes (O.pending out.old) (E.pending err.old))
@@ -135,20 +143,24 @@ fn image_answer<F: Files, I: Source, O: Sink, E: Sink>(
         → IfSome (F.held files.old)
         (λ held. IfSome (I.left input.old) (λ left. AnswersCommand words held left result
         (call_objects (F.held files.old)
-        (call_streams (I.left input.old) (I.faults input.old) (O.state out.old) (E.state err.old)))
+        (call_streams (I.left input.old) (I.counts input.old) (O.state out.old) (E.state err.old)))
         (call_objects (F.held files.new)
-        (call_streams (I.left input.new) (I.faults input.new) (O.state out.new) (E.state err.new))))) }
-    ensures reported { Reports usage run.entry.image.now (I.left input.old) (E.state err.old)
-        (E.state err.new) result }
+        (call_streams (I.left input.new) (I.counts input.new) (O.state out.new) (E.state err.new))))) }
+    ensures ran { (words : List (List ℕ)) → read words ≡ run_reading run.entry
+        → IfSome (F.held files.old) (λ held. RunsAsAsked words held result
+        (call_streams (I.left input.old) (I.counts input.old) (O.state out.old) (E.state err.old))
+        (call_streams (I.left input.new) (I.counts input.new) (O.state out.new) (E.state err.new))) }
+    ensures reported { Reports usage run.entry.image.now (E.state err.old) (E.state err.new) result }
     ensures answered { (words : List (List ℕ)) → read words ≡ run_reading run.entry
         → IfSome (F.held files.old) (λ held. IsAnswered words held result) }
     ensures command { IsCommand result → ⊥ }
     ensures files { F.held files.new ≡ F.held files.old }
+    ensures absences { CountsAbsence result (F.absences files.old) (F.absences files.new) }
     ensures leaves { LeavesOutside result
         (outside (F.faults files.old) (F.absences files.old)
-        (call_streams (I.left input.old) (I.faults input.old) (O.state out.old) (E.state err.old)))
+        (call_streams (I.left input.old) (I.counts input.old) (O.state out.old) (E.state err.old)))
         (outside (F.faults files.new) (F.absences files.new)
-        (call_streams (I.left input.new) (I.faults input.new) (O.state out.new) (E.state err.new))) }
+        (call_streams (I.left input.new) (I.counts input.new) (O.state out.new) (E.state err.new))) }
     ensures settled { LeavesSettled result (pending_bytes (O.pending out.old) (E.pending err.old))
         (pending_bytes (O.pending out.new) (E.pending err.new)) }
 {
@@ -165,7 +177,7 @@ fn migration_answer<F: Files, E: Sink>(
     files: &mut F,
     err: &mut E,
 ) -> Answer
-    ensures outcome { (words : List (List ℕ)) (left : List ℕ) (input : ℕ) (out : SinkState)
+    ensures outcome { (words : List (List ℕ)) (left : List ℕ) (input : SourceCounts) (out : SinkState)
         → read words ≡ migration_reading asked.entry
         → IfSome (F.held files.old) (λ held. AnswersCommand words held left result
         (call_objects (F.held files.old) (call_streams (Some left) input out (E.state err.old)))
@@ -173,17 +185,17 @@ fn migration_answer<F: Files, E: Sink>(
     ensures leaves { (words : List (List ℕ)) → read words ≡ migration_reading asked.entry
         → IfSome (F.held files.old)
         (λ held. LeavesFiles words held result (F.held files.old) (F.held files.new)) }
-    ensures reported { (left : Option (List ℕ))
-        → Reports usage asked.entry.image.now left (E.state err.old) (E.state err.new) result }
+    ensures reported { Reports usage asked.entry.image.now (E.state err.old) (E.state err.new) result }
     ensures answered { (words : List (List ℕ)) → read words ≡ migration_reading asked.entry
         → IfSome (F.held files.old) (λ held. IsAnswered words held result) }
     ensures command { IsCommand result → ⊥ }
     ensures unwritten { IsRefusal result → F.held files.new ≡ F.held files.old }
-    ensures causes { (left : Option (List ℕ)) (input : ℕ) (out : SinkState)
+    ensures causes { (left : Option (List ℕ)) (input : SourceCounts) (out : SinkState)
         → EndsAtFirst result (IsAbsence result)
         (outside (F.faults files.old) (F.absences files.old) (call_streams left input out (E.state err.old)))
         (outside (F.faults files.new) (F.absences files.new)
         (call_streams left input out (E.state err.new))) }
+    ensures absences { CountsAbsence result (F.absences files.old) (F.absences files.new) }
     ensures settled { (out : ℕ) → LeavesSettled result (pending_bytes out (E.pending err.old))
         (pending_bytes out (E.pending err.new)) }
 {
@@ -201,7 +213,8 @@ fn new_image_answer<F: Files, E: Sink>(
     files: &mut F,
     err: &mut E,
 ) -> Answer
-    ensures outcome { (words : List (List ℕ)) (held : FileMap) (left : List ℕ) (input : ℕ) (out : SinkState)
+    ensures outcome { (words : List (List ℕ)) (held : FileMap) (left : List ℕ)
+        (input : SourceCounts) (out : SinkState)
         → (is : IsMigration words held asked.entry.new_name.now (tables_of code.now.code))
         → is.name ≡ asked.entry.image.now → F.held files.old ≡ Some held
         → AnswersCommand words held left result
@@ -211,19 +224,19 @@ fn new_image_answer<F: Files, E: Sink>(
         → IsMigration words held asked.entry.new_name.now (tables_of code.now.code)
         → F.held files.old ≡ Some held
         → LeavesFiles words held result (F.held files.old) (F.held files.new) }
-    ensures reported { (left : Option (List ℕ))
-        → Reports usage asked.entry.image.now left (E.state err.old) (E.state err.new) result }
+    ensures reported { Reports usage asked.entry.image.now (E.state err.old) (E.state err.new) result }
     ensures answered { (words : List (List ℕ)) (held : FileMap)
         → IsMigration words held asked.entry.new_name.now (tables_of code.now.code)
         → F.held files.old ≡ Some held → IsAnswered words held result }
     ensures command { IsCommand result → ⊥ }
     ensures unwritten { IsRefusal result → F.held files.new ≡ F.held files.old }
-    ensures causes { (left : Option (List ℕ)) (input : ℕ) (out : SinkState)
+    ensures causes { (left : Option (List ℕ)) (input : SourceCounts) (out : SinkState)
         → EndsAtFirst result (IsAbsence result)
         (outside (F.faults files.old) (F.absences files.old) (call_streams left input out (E.state err.old)))
         (outside (F.faults files.new) (F.absences files.new)
         (call_streams left input out (E.state err.new))) }
     ensures absences { F.absences files.new ≡ F.absences files.old }
+    ensures present { IsAbsence result → ⊥ }
     ensures settled { (out : ℕ) → LeavesSettled result (pending_bytes out (E.pending err.old))
         (pending_bytes out (E.pending err.new)) }
 {
@@ -250,21 +263,24 @@ fn run_answer<I: Source, O: Sink, E: Sink>(
         → IsLoaded (held asked.entry.image.now) asked.entry.image.now (Ok code.now) → told_files ≡ Some held
         → IfSome (I.left input.old) (λ left. AnswersCommand words held left result
         (call_objects told_files
-        (call_streams (I.left input.old) (I.faults input.old) (O.state out.old) (E.state err.old)))
+        (call_streams (I.left input.old) (I.counts input.old) (O.state out.old) (E.state err.old)))
         (call_objects told_files
-        (call_streams (I.left input.new) (I.faults input.new) (O.state out.new) (E.state err.new)))) }
+        (call_streams (I.left input.new) (I.counts input.new) (O.state out.new) (E.state err.new)))) }
+    ensures ran { (words : List (List ℕ)) (held : FileMap) → read words ≡ run_reading asked.entry
+        → IsLoaded (held asked.entry.image.now) asked.entry.image.now (Ok code.now)
+        → RunsAsAsked words held result
+        (call_streams (I.left input.old) (I.counts input.old) (O.state out.old) (E.state err.old))
+        (call_streams (I.left input.new) (I.counts input.new) (O.state out.new) (E.state err.new)) }
     ensures reported { (name : List ℕ)
-        → Reports usage name (I.left input.old) (E.state err.old) (E.state err.new) result }
+        → Reports usage name (E.state err.old) (E.state err.new) result }
     ensures input { IfSome (I.left input.old) (λ left. LosesSome left (I.left input.new)) }
     ensures others { IsOfRun result }
     ensures causes { RunEndsAtFirst result
-        (call_streams (I.left input.old) (I.faults input.old) (O.state out.old) (E.state err.old))
-        (call_streams (I.left input.new) (I.faults input.new) (O.state out.new) (E.state err.new)) }
+        (call_streams (I.left input.old) (I.counts input.old) (O.state out.old) (E.state err.old))
+        (call_streams (I.left input.new) (I.counts input.new) (O.state out.new) (E.state err.new)) }
     ensures settled { LeavesSettled result (pending_bytes (O.pending out.old) (E.pending err.old))
         (pending_bytes (O.pending out.new) (E.pending err.new)) }
 {
-    runs_leave();
-    broken_off();
     match run::<RawStack<Cell>, I, O, E>(
         alloc,
         code,

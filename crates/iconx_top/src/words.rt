@@ -5,7 +5,7 @@ ghost use Rattle.icn_value.specs.Limited.{default_limits, limits_of};
 ghost use Rattle.iconx_top.specs.Words.{words_reading, words_behind, image_asked, is_dashed, migration, with_limit, option_of, options};
 ghost use Rattle.iconx_top.specs.Asking.{migration_or_kind, reading_of, run_or_kind};
 
-use icn_profile::{MOST_CELLS, MOST_LEVELS, MOST_STRINGS};
+use icn_profile::{MOST_CELLS, MOST_LEVELS, MOST_STRINGS, MOST_TURNS};
 use icn_text::number_within;
 use icn_value::Limits;
 
@@ -152,7 +152,7 @@ fn set_limit(option: Limit, limits: Limits, value: &str) -> Option<Limits>
     let text = value.as_bytes();
     match option {
         Limit::Turns => Some(Limits {
-            turns: number_within(text, 0, u64::MAX)?,
+            turns: number_within(text, 0, MOST_TURNS)?,
             strings: limits.strings,
             cells: limits.cells,
             levels: limits.levels,

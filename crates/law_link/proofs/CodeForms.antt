@@ -1,5 +1,5 @@
 -- The code of each form is its translation with places for labels: one line a form, in the order of the translation.
-use Rattle.std.proofs.Common.{◌≡◌, ℕ, suc, ◌+◌, Bool, true, false, List, [], ◌∷◌, ◌++◌, length, replicate, refl, sym, ap, subst, ◌∙◌, append_assoc, pos, if◌then◌else◌, arith}
+use Rattle.std.proofs.Common.{◌≡◌, ℕ, suc, ◌+◌, Bool, true, false, List, [], ◌∷◌, ◌++◌, length, Option, replicate, refl, sym, ap, subst, ◌∙◌, append_assoc, pos, if◌then◌else◌, arith}
 use Rattle.icn_text.specs.declared.op.Op.TheVariants as O
 use Rattle.icn_tree.specs.declared.tree.Place.{Place}
 use Rattle.icn_tree.specs.declared.tree.Infix.TheVariants.{Plain, Augmented}
@@ -12,7 +12,7 @@ use Rattle.icn_code.specs.declared.instr.Instr.TheVariants as I
 use Rattle.icn_unit.specs.declared.unit.UnitInstr.{UnitInstr}
 use Rattle.icn_unit.specs.declared.unit.UnitInstr.TheVariants as U
 use Rattle.icn_translate.specs.Drafts.{Draft, ◌▹◌, put, aside, put_next, put_last}
-use Rattle.icn_translate.specs.Instructions.{literal_instr, keyword_instr, section_op, infix_form, prefix_form}
+use Rattle.icn_translate.specs.Instructions.{literal_instr, keyword_instr, section_op, infix_form, update_form, prefix_form}
 use Rattle.icn_translate.specs.OpenMarks.{OpenMarks, Outermost, Marked, Looped, Each, unmarks_for_break, unmarks_for_next, around}
 use Rattle.icn_translate.specs.Translation as T
 use Rattle.icn_translate.specs.Translation.{translate, operands, arguments, conjunction, compound, creations, other_creations, subscripts, to_step, looped_part, suspended_part, guarded_part, guarded_clause, default_part}
@@ -24,7 +24,7 @@ use Rattle.law_link.proofs.CodeWays.{puts_next, puts_last, set_aside}
 use Rattle.law_link.proofs.CodeNames.{AgreeOn, puts_variable, keyword_code_is, literal_code_is}
 use Rattle.law_link.proofs.CodeParts.{bounded_gives, created_gives, not_gives, return_gives, branches_give, lone_label_gives}
 use Rattle.law_link.proofs.CodeOpen.{depths, loops_in, Within, around_depths, loops_around, unmarks_for_break_give, unmarks_for_next_give}
-use Rattle.law_link.proofs.CodeOperators.{form_same, prefix_same, section_same, prefix_size, prefix_code, plain_size, plain_code, augmented_size, augmented_code, prefix_gives, plain_gives, augmented_gives}
+use Rattle.law_link.proofs.CodeOperators.{form_same, update_same, prefix_same, section_same, prefix_gives, plain_gives, augmented_gives}
 use Rattle.law_link.proofs.CodeLoops.{EndsAt, looped_gives, repeat_gives, while_gives, every_gives, until_gives, clause_gives, case_gives}
 
 -- A loop is open where `break` and `next` break no rule
@@ -157,24 +157,24 @@ module _ {S : Scope} {N : X.SymbolTable} {F : List (List ℕ)} (agree : AgreeOn 
         ⨾ puts_as (U.Field name.text) (I.Field (N.field name.text)) (ap (λ k. I.Field k ∷ []) (agree.field name.text))) refl (λ p. refl)
     tree_gives o c (Prefix place operator e) x V R w {E = E} =
         let D = depths o in
-        subst (λ (form : X.PrefixForm). Gives S F (V ++ R) E (T.prefix_by (prefix_form operator) (translate o e) (translate (Marked o) e))
-        (prefix_size form (X.size D e) (X.size (X.deeper D) e)) (prefix_code form (λ p. X.code N D V p e) (λ p. X.code N (X.deeper D) V p e)) no_facts)
+        subst (λ (form : Option X.PrefixForm). Gives S F (V ++ R) E (T.prefix_by (prefix_form operator) (translate o e) (translate (Marked o) e))
+        (X.prefix_size form (X.size D e) (X.size (X.deeper D) e)) (X.prefix_code form (λ p. X.code N D V p e) (λ p. X.code N (X.deeper D) V p e)) no_facts)
         (prefix_same operator) (prefix_gives (prefix_form operator) (tree_gives o c e x V R w) (tree_gives (Marked o) c e x V R w))
     tree_gives o c (Not place e) x V R w = not_gives (tree_gives (Marked o) c e x V R w)
     tree_gives o c (Binary place (Plain operator) a b) x V R w {E = E} =
         let D = depths o in
-        subst (λ (form : X.BinaryForm). Gives S F (V ++ R) E (T.plain_form (infix_form operator) (translate o a) (translate (Marked o) a) (translate o b))
-        (plain_size form (X.size D a) (X.size (X.deeper D) a) (X.size D b))
-        (plain_code form (X.size D a) (X.size (X.deeper D) a) (X.size D b) (λ p. X.code N D V p a)
+        subst (λ (form : Option X.BinaryForm). Gives S F (V ++ R) E (T.plain_form (infix_form operator) (translate o a) (translate (Marked o) a) (translate o b))
+        (X.plain_size form (X.size D a) (X.size (X.deeper D) a) (X.size D b))
+        (X.plain_code form (X.size D a) (X.size (X.deeper D) a) (X.size D b) (λ p. X.code N D V p a)
         (λ p. X.code N (X.deeper D) V p a) (λ p. X.code N D V p b)) no_facts)
         (form_same operator) (plain_gives (infix_form operator) (tree_gives o c a (none_before _ _ x) V R w)
         (tree_gives (Marked o) c a (none_before _ _ x) V R w)
         (tree_gives o c b (none_behind _ _ x) V R w))
     tree_gives o c (Binary place (Augmented operator) a b) x V R w {E = E} =
         let D = depths o in
-        subst (λ (form : X.BinaryForm). Gives S F (V ++ R) E (T.augmented_form (infix_form operator) (translate o a) (translate o b))
-        (augmented_size form (X.size D a) (X.size D b)) (augmented_code form (X.size D a) (λ p. X.code N D V p a) (λ p. X.code N D V p b)) no_facts)
-        (form_same operator) (augmented_gives (infix_form operator) (tree_gives o c a (none_before _ _ x) V R w) (tree_gives o c b (none_behind _ _ x) V R w))
+        subst (λ (form : Option X.UpdateForm). Gives S F (V ++ R) E (T.augmented_form (update_form operator) (translate o a) (translate o b))
+        (X.augmented_size form (X.size D a) (X.size D b)) (X.augmented_code form (X.size D a) (λ p. X.code N D V p a) (λ p. X.code N D V p b)) no_facts)
+        (update_same operator) (augmented_gives (update_form operator) (tree_gives o c a (none_before _ _ x) V R w) (tree_gives o c b (none_behind _ _ x) V R w))
     tree_gives o c (To place a b by) x V R w =
         plainly (tree_gives o c a (none_before _ _ x) V R w ⨾ tree_gives o c b (none_before _ _ (none_behind _ _ x)) V R w
         ⨾ to_step_gives o c by (none_behind _ _ (none_behind _ _ x)) V R w ⨾ gives_instruction (U.Op O.ToBy) refl) (omega arith) (λ p. refl)

@@ -1,5 +1,5 @@
 -- The forms that have labels of their own: what a form gives, by what its parts give.
-use Rattle.std.proofs.Common.{◌≡◌, ℕ, ◌+◌, List, [], ◌∷◌, ◌++◌, refl, ap, ◌∙◌, arith}
+use Rattle.std.proofs.Common.{◌≡◌, ℕ, ◌+◌, List, [], ◌∷◌, ◌++◌, Some, refl, ap, ◌∙◌, arith}
 use Rattle.icn_code.specs.declared.instr.Instr.{Instr}
 use Rattle.icn_code.specs.declared.instr.Instr.TheVariants as I
 use Rattle.icn_unit.specs.declared.unit.UnitInstr.TheVariants as U
@@ -61,7 +61,7 @@ module _ {S : Scope} {F : List (List ℕ)} {W : List X.LoopExits} {E : List ℕ}
       (λ l p f. (let at : S.label l ≡ p + n + 2 = f.1.1.1.0 ∙ omega arith in ap (λ k. I.Mark k ∷ c (p + 1) ++ (I.Pret ∷ I.Pfail ∷ [])) at, tt))
 
   pub repetition_gives : (operand : Draft → Draft) {s : Draft → Draft} {n : ℕ} {c : ℕ → List Instr} → Gives S F W E s n c no_facts
-      → Gives S F W E (prefix_by Repetition operand s) (n + 3) (λ p. I.Mark0 ∷ c (p + 1) ++ (I.Chfail p ∷ I.Esusp ∷ [])) no_facts
+      → Gives S F W E (prefix_by (Some Repetition) operand s) (n + 3) (λ p. I.Mark0 ∷ c (p + 1) ++ (I.Chfail p ∷ I.Esusp ∷ [])) no_facts
   repetition_gives operand {n = n} {c = c} x =
       given_numbered (λ l. numbered_then (placed_then l (gives_instruction U.Mark0 refl ⨾ x ⨾ gives_instruction (U.Chfail l) refl
       ⨾ gives_instruction U.Esusp refl))) (omega arith)
@@ -74,7 +74,7 @@ module _ {S : Scope} {F : List (List ℕ)} {W : List X.LoopExits} {E : List ℕ}
       (λ l p f. (let at : S.label l ≡ p + m + 1 = f.1.1.1 ∙ omega arith in ap (λ k. I.Goto k ∷ c (p + 1)) at, f.1.0))
 
   pub either_gives : (left : Draft → Draft) {a b : Draft → Draft} {m n : ℕ} {c k : ℕ → List Instr} → Gives S F W E a m c no_facts → Gives S F W E b n k no_facts
-      → Gives S F W E (plain_form Either left a b) (m + n + 3)
+      → Gives S F W E (plain_form (Some Either) left a b) (m + n + 3)
       (λ p. I.Mark (p + m + 3) ∷ c (p + 1) ++ (I.Esusp ∷ I.Goto (p + m + 3 + n) ∷ k (p + m + 3))) no_facts
   either_gives left {m = m} {n = n} {c = c} {k = k} x y =
       given_numbered (λ l. numbered_then (gives_instruction (U.Mark l) refl ⨾ x ⨾ gives_instruction U.Esusp refl ⨾ alternative_gives l y)) (omega arith)

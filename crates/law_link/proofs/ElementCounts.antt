@@ -20,10 +20,12 @@ use Rattle.icn_unit.specs.UnitRules.{is_number}
 use Rattle.icn_translate.specs.declared.builder.LoopLabels.{LoopLabels}
 use Rattle.icn_translate.specs.declared.forms.InfixForm.{InfixForm}
 use Rattle.icn_translate.specs.declared.forms.InfixForm.TheVariants.{Both, Scanning, Either, Limiting, Activating, Spreading, Operating}
+use Rattle.icn_translate.specs.declared.forms.UpdateForm.{UpdateForm}
+use Rattle.icn_translate.specs.declared.forms.UpdateForm.TheVariants.{Both as UpdatesBoth, Scanning as UpdatesScanning, Activating as UpdatesActivating, Operating as UpdatesOperating}
 use Rattle.icn_translate.specs.declared.forms.PrefixForm.{PrefixForm}
 use Rattle.icn_translate.specs.declared.forms.PrefixForm.TheVariants.{Activation, Repetition, Operation}
 use Rattle.icn_translate.specs.Drafts.{Draft, ◌▹◌, put, next_label, with_label, with_number, put_variable, no_ways, in_loop, outside_loop, innermost, aside, put_next, put_last, case_end, in_case, outside_case, put_end}
-use Rattle.icn_translate.specs.Instructions.{literal_instr, known_keyword, keyword_by, keyword_instr, section_op, infix_form, prefix_form}
+use Rattle.icn_translate.specs.Instructions.{literal_instr, known_keyword, keyword_by, keyword_instr, section_op, infix_form, update_form, prefix_form}
 use Rattle.icn_translate.specs.NumbersTaken.{numbers, all_numbers, maybe_numbers, clause_numbers, initial_numbers, procedure_numbers}
 use Rattle.icn_translate.specs.OpenMarks.{OpenMarks, Outermost, Marked, Looped, Each, unmarks_for_break, unmarks_for_next, around}
 use Rattle.icn_translate.specs.ProcCodes.{first_draft, proc_code}
@@ -192,45 +194,45 @@ keyword_fits (Some k) = known_fits k
 
 -- Operators
 
-prefix_always : (form : PrefixForm) {operand marked : Draft → Draft} → FitsAlways operand → FitsAlways marked
+prefix_always : (form : Option PrefixForm) {operand marked : Draft → Draft} → FitsAlways operand → FitsAlways marked
     → FitsAlways (prefix_by form operand marked)
-prefix_always Activation r q = then_put I.Coact refl (put_then I.Pnull refl r)
-prefix_always Repetition r q = record {
+prefix_always None r q = nothing
+prefix_always (Some Activation) r q = then_put I.Coact refl (put_then I.Pnull refl r)
+prefix_always (Some Repetition) r q = record {
   fit = λ d. from d ▸ label ▸ puts (I.Lab _) refl ▸ puts I.Mark0 refl ▸ on q ▸ puts (I.Chfail _) refl ▸ puts I.Esusp refl;
 }
-prefix_always (Operation op) r q = then_put (I.Op op) refl r
+prefix_always (Some (Operation op)) r q = then_put (I.Op op) refl r
 
-plain_always : (form : InfixForm) {a marked b : Draft → Draft} → FitsAlways a → FitsAlways marked → FitsAlways b
+plain_always : (form : Option InfixForm) {a marked b : Draft → Draft} → FitsAlways a → FitsAlways marked → FitsAlways b
     → FitsAlways (plain_form form a marked b)
-plain_always Both a m b = record { fit = λ d. from d ▸ on a ▸ puts I.Pop refl ▸ on b }
-plain_always Scanning a m b = record { fit = λ d. from d ▸ on a ▸ puts I.Bscan refl ▸ on b ▸ puts I.Escan refl }
-plain_always Either a m b = record {
+plain_always None a m b = nothing
+plain_always (Some Both) a m b = record { fit = λ d. from d ▸ on a ▸ puts I.Pop refl ▸ on b }
+plain_always (Some Scanning) a m b = record { fit = λ d. from d ▸ on a ▸ puts I.Bscan refl ▸ on b ▸ puts I.Escan refl }
+plain_always (Some Either) a m b = record {
   fit = λ d. from d ▸ labelled I.Mark (λ l. refl) ▸ on m ▸ puts I.Esusp refl ▸ labelled I.Goto (λ l. refl)
       ▸ puts (I.Lab _) refl ▸ on b ▸ puts (I.Lab _) refl;
 }
-plain_always Limiting a m b = record { fit = λ d. from d ▸ on b ▸ puts I.Limit refl ▸ on m ▸ puts I.Lsusp refl }
-plain_always Activating a m b = then_put I.Coact refl (then_always a b)
-plain_always Spreading a m b = then_put I.Appl refl (then_always a b)
-plain_always (Operating op) a m b = then_put (I.Op op) refl (then_always a b)
+plain_always (Some Limiting) a m b = record { fit = λ d. from d ▸ on b ▸ puts I.Limit refl ▸ on m ▸ puts I.Lsusp refl }
+plain_always (Some Activating) a m b = then_put I.Coact refl (then_always a b)
+plain_always (Some Spreading) a m b = then_put I.Appl refl (then_always a b)
+plain_always (Some (Operating op)) a m b = then_put (I.Op op) refl (then_always a b)
 
 update_always : (i : UnitInstr) → count_fits i ≡ true → {a b : Draft → Draft} → FitsAlways a → FitsAlways b → FitsAlways (update i a b)
 update_always i h a b = record { fit = λ d. from d ▸ on a ▸ puts I.Dup refl ▸ on b ▸ puts i h ▸ puts (I.Op O.Assign) refl }
 
-augmented_always : (form : InfixForm) {a b : Draft → Draft} → FitsAlways a → FitsAlways b → FitsAlways (augmented_form form a b)
-augmented_always Both a b = then_put (I.Op O.Assign) refl (then_always a b)
-augmented_always Scanning a b = record {
+augmented_always : (form : Option UpdateForm) {a b : Draft → Draft} → FitsAlways a → FitsAlways b → FitsAlways (augmented_form form a b)
+augmented_always None a b = nothing
+augmented_always (Some UpdatesBoth) a b = then_put (I.Op O.Assign) refl (then_always a b)
+augmented_always (Some UpdatesScanning) a b = record {
   fit = λ d. from d ▸ on a ▸ puts I.Dup refl ▸ puts I.Bscan refl ▸ on b ▸ puts I.Escan refl ▸ puts (I.Op O.Assign) refl;
 }
-augmented_always Either a b = nothing
-augmented_always Limiting a b = nothing
-augmented_always Activating a b = update_always I.Coact refl a b
-augmented_always Spreading a b = update_always I.Appl refl a b
-augmented_always (Operating op) a b = update_always (I.Op op) refl a b
+augmented_always (Some UpdatesActivating) a b = update_always I.Coact refl a b
+augmented_always (Some (UpdatesOperating op)) a b = update_always (I.Op op) refl a b
 
 binary_always : (o : OpenMarks) (place : Place) (infix_ : Infix) (a b : Tree) → FitsAlways (translate o a)
     → FitsAlways (translate (Marked o) a) → FitsAlways (translate o b) → FitsAlways (translate o (Binary place infix_ a b))
 binary_always o place (Plain operator) a b x m y = plain_always (infix_form operator) x m y
-binary_always o place (Augmented operator) a b x m y = augmented_always (infix_form operator) x y
+binary_always o place (Augmented operator) a b x m y = augmented_always (update_form operator) x y
 
 -- Loops and cases
 

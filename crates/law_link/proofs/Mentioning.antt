@@ -22,14 +22,16 @@ use Rattle.icn_unit.specs.UnitOperands.{keyword_of}
 use Rattle.icn_link.specs.Mentions as Unit
 use Rattle.icn_meaning.specs.Program.{names_in, names_in_all, names_in_maybe, names_in_guarded, names_in_default, names_in_initial}
 use Rattle.law_simulation.specs.Mentions.{TableMention, AnInteger, AText, ASet, AField, literal_mention, mentions, all_mentions, maybe_mentions, step_mentions, guarded_mentions, default_mentions, initial_mentions}
-use Rattle.law_simulation.proofs.TreeForms.{IsInfix, Formed, FormedMaybe, FormedSome, FormedAll, FormedClauses, FormedInitial}
+use Rattle.law_simulation.proofs.TreeForms.{is_before, is_between, IsInfix, Formed, FormedMaybe, FormedSome, FormedAll, FormedClauses, FormedInitial}
 use Rattle.icn_translate.specs.declared.builder.LoopLabels.{LoopLabels}
 use Rattle.icn_translate.specs.declared.forms.InfixForm.{InfixForm}
 use Rattle.icn_translate.specs.declared.forms.InfixForm.TheVariants.{Both, Scanning, Either, Limiting, Activating, Spreading, Operating}
+use Rattle.icn_translate.specs.declared.forms.UpdateForm.{UpdateForm}
+use Rattle.icn_translate.specs.declared.forms.UpdateForm.TheVariants.{Both as UpdatesBoth, Scanning as UpdatesScanning, Activating as UpdatesActivating, Operating as UpdatesOperating}
 use Rattle.icn_translate.specs.declared.forms.PrefixForm.{PrefixForm}
 use Rattle.icn_translate.specs.declared.forms.PrefixForm.TheVariants.{Activation, Repetition, Operation}
 use Rattle.icn_translate.specs.Drafts.{Draft, ◌▹◌, put, next_label, with_label, with_number, with_name, with_names, put_variable, no_ways, in_loop, outside_loop, innermost, aside, put_next, put_last, case_end, in_case, outside_case, put_end}
-use Rattle.icn_translate.specs.Instructions.{literal_instr, known_keyword, keyword_by, keyword_instr, section_op, infix_form, prefix_form}
+use Rattle.icn_translate.specs.Instructions.{literal_instr, known_keyword, keyword_by, keyword_instr, section_op, infix_form, update_form, prefix_form}
 use Rattle.icn_translate.specs.OpenMarks.{OpenMarks, Outermost, Marked, Looped, Each, unmarks_for_break, unmarks_for_next, around}
 use Rattle.icn_translate.specs.Translation.{is_empty, is_nothing, is_no_element, elements, bounded_code, create_code, if_mark, unless_empty, either_step, control_part, in_control, in_body, back, loop_end, prefix_by, plain_form, update, augmented_form, case_of, looped_body, translate, operands, arguments, conjunction, conjuncts, compound, creations, other_creations, subscripts, to_step, otherwise, looped_part, suspended_part, guarded_part, default_part, initially, body}
 use Rattle.law_link.proofs.FirstsOnce.{names_more}
@@ -297,24 +299,64 @@ keyword_taken (Some k) = known_taken k
 
 -- Operators
 
-prefix_adds : {ks : List TableMention} {ms : List (List ℕ)} (form : PrefixForm) {operand marked : Draft → Draft} → AddsAlways ks ms operand
+-- the form is there: its operator stands in its place
+abbrev IsThere : {A : Type 0} → Option A → Type 0
+IsThere None = ⊥
+IsThere (Some form) = Unit {0}
+
+before_there : (operator : Operator) → is_before operator ≡ true → IsThere (prefix_form operator)
+before_there Signs.Dot h = tt
+before_there Signs.Bang h = tt
+before_there Signs.At h = tt
+before_there Signs.Bar h = tt
+before_there Signs.Plus h = tt
+before_there Signs.Minus h = tt
+before_there Signs.Star h = tt
+before_there Signs.Slash h = tt
+before_there Signs.Backslash h = tt
+before_there Signs.Caret h = tt
+before_there Signs.Tilde h = tt
+before_there Signs.Equal h = tt
+before_there Signs.Question h = tt
+before_there operator h = absurd (cc)
+
+between_there : (operator : Operator) → is_between operator ≡ true → IsThere (infix_form operator)
+between_there Signs.Dot h = absurd (cc)
+between_there Signs.Tilde h = absurd (cc)
+between_there operator h = tt
+
+augmented_there : (operator : Operator) → is_augmented operator ≡ true → IsThere (update_form operator)
+augmented_there Signs.Bang h = absurd (cc)
+augmented_there Signs.Backslash h = absurd (cc)
+augmented_there Signs.Bar h = absurd (cc)
+augmented_there Signs.Dot h = absurd (cc)
+augmented_there Signs.Tilde h = absurd (cc)
+augmented_there Signs.Assign h = absurd (cc)
+augmented_there Signs.Swap h = absurd (cc)
+augmented_there Signs.ReversibleAssign h = absurd (cc)
+augmented_there Signs.ReversibleSwap h = absurd (cc)
+augmented_there operator h = tt
+
+prefix_adds : {ks : List TableMention} {ms : List (List ℕ)} (form : Option PrefixForm) → IsThere form → {operand marked : Draft → Draft} → AddsAlways ks ms operand
     → AddsAlways ks ms marked → AddsAlways ks ms (prefix_by form operand marked)
-prefix_adds Activation r q = then_put I.Coact refl (put_then I.Pnull refl r)
-prefix_adds Repetition r q = record {
+prefix_adds None h r q = absurd h
+prefix_adds (Some Activation) h r q = then_put I.Coact refl (put_then I.Pnull refl r)
+prefix_adds (Some Repetition) h r q = record {
   adds = λ d. from d ▸ label ▸ plainly (I.Lab _) refl ▸ plainly I.Mark0 refl ▸ on q
       ▸ plainly (I.Chfail _) refl ▸ plainly I.Esusp refl;
 }
-prefix_adds (Operation op) r q = then_put (I.Op op) refl r
+prefix_adds (Some (Operation op)) h r q = then_put (I.Op op) refl r
 
 -- what is added in which order
-abbrev in_order : {A : Type 0} → InfixForm → List A → List A → List A
-in_order Limiting xs ys = ys ++ xs
-in_order Both xs ys = xs ++ ys
-in_order Scanning xs ys = xs ++ ys
-in_order Either xs ys = xs ++ ys
-in_order Activating xs ys = xs ++ ys
-in_order Spreading xs ys = xs ++ ys
-in_order (Operating op) xs ys = xs ++ ys
+abbrev in_order : {A : Type 0} → Option InfixForm → List A → List A → List A
+in_order None xs ys = xs ++ ys
+in_order (Some Limiting) xs ys = ys ++ xs
+in_order (Some Both) xs ys = xs ++ ys
+in_order (Some Scanning) xs ys = xs ++ ys
+in_order (Some Either) xs ys = xs ++ ys
+in_order (Some Activating) xs ys = xs ++ ys
+in_order (Some Spreading) xs ys = xs ++ ys
+in_order (Some (Operating op)) xs ys = xs ++ ys
 
 plain_mentions : (place : Place) (operator : Operator) (a b : Tree)
     → in_order (infix_form operator) (mentions a) (mentions b) ≡ mentions (Binary place (Plain operator) a b)
@@ -326,33 +368,19 @@ plain_names : (place : Place) (operator : Operator) (a b : Tree)
 plain_names place Signs.Backslash a b = refl
 plain_names place operator a b = refl
 
-plain_form_adds : {ks bs : List TableMention} {ms ns : List (List ℕ)} (form : InfixForm) {a marked b : Draft → Draft} → AddsAlways ks ms a
+plain_form_adds : {ks bs : List TableMention} {ms ns : List (List ℕ)} (form : Option InfixForm) → IsThere form → {a marked b : Draft → Draft} → AddsAlways ks ms a
     → AddsAlways ks ms marked → AddsAlways bs ns b → AddsAlways (in_order form ks bs) (in_order form ms ns) (plain_form form a marked b)
-plain_form_adds Both a m b = record { adds = λ d. from d ▸ on a ▸ plainly I.Pop refl ▸ on b }
-plain_form_adds Scanning a m b = record { adds = λ d. from d ▸ on a ▸ plainly I.Bscan refl ▸ on b ▸ plainly I.Escan refl }
-plain_form_adds Either a m b = record {
+plain_form_adds None h a m b = absurd h
+plain_form_adds (Some Both) h a m b = record { adds = λ d. from d ▸ on a ▸ plainly I.Pop refl ▸ on b }
+plain_form_adds (Some Scanning) h a m b = record { adds = λ d. from d ▸ on a ▸ plainly I.Bscan refl ▸ on b ▸ plainly I.Escan refl }
+plain_form_adds (Some Either) h a m b = record {
   adds = λ d. from d ▸ labelled I.Mark (λ l. refl) ▸ on m ▸ plainly I.Esusp refl ▸ labelled I.Goto (λ l. refl)
       ▸ plainly (I.Lab _) refl ▸ on b ▸ plainly (I.Lab _) refl;
 }
-plain_form_adds Limiting a m b = record { adds = λ d. from d ▸ on b ▸ plainly I.Limit refl ▸ on m ▸ plainly I.Lsusp refl }
-plain_form_adds Activating a m b = then_put I.Coact refl (then_adds a b)
-plain_form_adds Spreading a m b = then_put I.Appl refl (then_adds a b)
-plain_form_adds (Operating op) a m b = then_put (I.Op op) refl (then_adds a b)
-
--- the forms that `:=` may stand behind
-abbrev MayAssign : InfixForm → Type 0
-MayAssign Either = ⊥
-MayAssign Limiting = ⊥
-MayAssign Both = Unit {0}
-MayAssign Scanning = Unit {0}
-MayAssign Activating = Unit {0}
-MayAssign Spreading = Unit {0}
-MayAssign (Operating op) = Unit {0}
-
-may_assign : (operator : Operator) → is_augmented operator ≡ true → MayAssign (infix_form operator)
-may_assign Signs.Bar h = absurd (cc)
-may_assign Signs.Backslash h = absurd (cc)
-may_assign operator h = tt
+plain_form_adds (Some Limiting) h a m b = record { adds = λ d. from d ▸ on b ▸ plainly I.Limit refl ▸ on m ▸ plainly I.Lsusp refl }
+plain_form_adds (Some Activating) h a m b = then_put I.Coact refl (then_adds a b)
+plain_form_adds (Some Spreading) h a m b = then_put I.Appl refl (then_adds a b)
+plain_form_adds (Some (Operating op)) h a m b = then_put (I.Op op) refl (then_adds a b)
 
 update_adds : {ks bs : List TableMention} {ms ns : List (List ℕ)} (i : UnitInstr) → taken_by i ≡ [] → {a b : Draft → Draft} → AddsAlways ks ms a
     → AddsAlways bs ns b → AddsAlways (ks ++ bs) (ms ++ ns) (update i a b)
@@ -360,26 +388,24 @@ update_adds i h a b = record {
   adds = λ d. from d ▸ on a ▸ plainly I.Dup refl ▸ on b ▸ plainly i h ▸ plainly (I.Op O.Assign) refl;
 }
 
-augmented_form_adds : {ks bs : List TableMention} {ms ns : List (List ℕ)} (form : InfixForm) → MayAssign form → {a b : Draft → Draft}
+augmented_form_adds : {ks bs : List TableMention} {ms ns : List (List ℕ)} (form : Option UpdateForm) → IsThere form → {a b : Draft → Draft}
     → AddsAlways ks ms a → AddsAlways bs ns b → AddsAlways (ks ++ bs) (ms ++ ns) (augmented_form form a b)
-augmented_form_adds Both h a b = then_put (I.Op O.Assign) refl (then_adds a b)
-augmented_form_adds Scanning h a b = record {
+augmented_form_adds None h a b = absurd h
+augmented_form_adds (Some UpdatesBoth) h a b = then_put (I.Op O.Assign) refl (then_adds a b)
+augmented_form_adds (Some UpdatesScanning) h a b = record {
   adds = λ d. from d ▸ on a ▸ plainly I.Dup refl ▸ plainly I.Bscan refl ▸ on b ▸ plainly I.Escan refl
       ▸ plainly (I.Op O.Assign) refl;
 }
-augmented_form_adds Either h a b = absurd h
-augmented_form_adds Limiting h a b = absurd h
-augmented_form_adds Activating h a b = update_adds I.Coact refl a b
-augmented_form_adds Spreading h a b = update_adds I.Appl refl a b
-augmented_form_adds (Operating op) h a b = update_adds (I.Op op) refl a b
+augmented_form_adds (Some UpdatesActivating) h a b = update_adds I.Coact refl a b
+augmented_form_adds (Some (UpdatesOperating op)) h a b = update_adds (I.Op op) refl a b
 
 binary_adds : (o : OpenMarks) (place : Place) (infix_ : Infix) (a b : Tree) → IsInfix infix_
     → AddsAlways (mentions a) (names_in a) (translate o a) → AddsAlways (mentions a) (names_in a) (translate (Marked o) a)
     → AddsAlways (mentions b) (names_in b) (translate o b)
     → AddsAlways (mentions (Binary place infix_ a b)) (names_in (Binary place infix_ a b)) (translate o (Binary place infix_ a b))
 binary_adds o place (Plain operator) a b f x m y = always_as (plain_mentions place operator a b) (plain_names place operator a b)
-    (plain_form_adds (infix_form operator) x m y)
-binary_adds o place (Augmented operator) a b f x m y = augmented_form_adds (infix_form operator) (may_assign operator f) x y
+    (plain_form_adds (infix_form operator) (between_there operator f) x m y)
+binary_adds o place (Augmented operator) a b f x m y = augmented_form_adds (update_form operator) (augmented_there operator f) x y
 
 -- Loops and cases
 
@@ -455,7 +481,7 @@ mutual
       (then_adds (then_adds (tree_adds o e f.0) (tree_adds o i f.1)) (tree_adds o j f.2)))
   tree_adds o (Field place e name) f = always_as refl (append-nil (names_in e))
       (then_adds (tree_adds o e f) (put_adds (I.Field name.text)))
-  tree_adds o (Prefix place operator e) f = prefix_adds (prefix_form operator) (tree_adds o e f.1) (tree_adds (Marked o) e f.1)
+  tree_adds o (Prefix place operator e) f = prefix_adds (prefix_form operator) (before_there operator f.0) (tree_adds o e f.1) (tree_adds (Marked o) e f.1)
   tree_adds o (Not place e) f = let r = tree_adds (Marked o) e f in record {
     adds = λ d. from d ▸ labelled I.Mark (λ l. refl) ▸ on r ▸ plainly I.Unmark refl ▸ plainly I.Efail refl
         ▸ plainly (I.Lab _) refl ▸ plainly I.Pnull refl;

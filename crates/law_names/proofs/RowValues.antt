@@ -1,15 +1,14 @@
 -- What a law over rows says of names, and settings in both ways to say it.
-use Rattle.std.proofs.Common.{ℕ, zero, suc, ◌<◌, arith, List, [], ◌∷◌, length, Option, Some, None}
+use Rattle.std.proofs.Common.{ℕ, zero, suc, ◌<◌, arith, List, [], ◌∷◌, length}
 use Rattle.std.specs.Prelude.{slice_get, slice_set, unwrap_or}
-use Rattle.icn_value.specs.Values.{Value, Null, Integer, Text, Chars, Std, Procedure, ARecord, AList, ASet, ATable, ACoexp, Root, Global, Static, Local, Element, Field, Key, Keyword, Variable, Whole, Part, Item, Val, Var}
+use Rattle.icn_value.specs.Values.{Value, Null, Integer, Text, Chars, Std, Procedure, ARecord, AList, ASet, ATable, ACoexp}
 use Rattle.icn_value.specs.Store.{Heap, Names, Record, Setting, new_list}
-use Rattle.icn_defs.specs.Rows.{Residual, TextBytes, VariableBytes, ListItems, SetMembers, TableValues, TableKeys, RecordFields, InputLines, UndoAssign, UndoExchange, UndoPosition, Counting, Sequence, Balanced, Found, Among}
 use Rattle.law_rows.proofs.EachOfList.{Each, all_of, each_of, each_map, each_append, each_set}
-use Rattle.law_rows.proofs.RowLaws.{RowLaw, PartLaws, ValueLaw, RecordsLaw, SettingBy, MayCopy, OptionBy, RootBy, VariableBy, ItemBy, PairBy, ListBy, TableBy, ResidualBy, any_sum, any_outside, no_table, record_of, structures_each, variables_each}
-use Rattle.law_names.specs.NamedSettings.{ValueNamed, OptionNamed, RootNamed, VariableNamed, ItemBy as ItemNamedBy, ListNamed, SetNamed, TableNamed, RecordNamed, KeptNamed, SettingNamed, ResidualBy as ResidualNamedBy}
+use Rattle.law_rows.proofs.RowLaws.{RowLaw, PartLaws, ValueLaw, RecordsLaw, SettingBy, MayCopy, PairBy, ListBy, TableBy, any_sum, any_outside, no_table, record_of, structures_each, variables_each}
+use Rattle.law_names.specs.NamedSettings.{ValueNamed, ListNamed, SetNamed, TableNamed, RecordNamed, KeptNamed, SettingNamed}
 use Rattle.law_names.specs.RowsNamed.{IsThere}
 
--- Values, variables, items and residuals
+-- Values
 
 abbrev pub named_values : Names → ValueLaw
 named_values ns = record {
@@ -24,81 +23,6 @@ named_values ns = record {
   set = λ id. tt;
   table = λ id. tt;
 }
-
-module _ (ns : Names) where
-  root_in : (root : Root) → RootNamed ns root → RootBy (ValueNamed ns) root
-  root_in (Global place) h = tt
-  root_in (Static place) h = tt
-  root_in (Local place) h = tt
-  root_in (Element id number) h = tt
-  root_in (Field id place) h = tt
-  root_in (Key table key) h = h
-  root_in (Keyword word) h = tt
-
-  root_out : (root : Root) → RootBy (ValueNamed ns) root → RootNamed ns root
-  root_out (Global place) h = tt
-  root_out (Static place) h = tt
-  root_out (Local place) h = tt
-  root_out (Element id number) h = tt
-  root_out (Field id place) h = tt
-  root_out (Key table key) h = h
-  root_out (Keyword word) h = tt
-
-  variable_in : (x : Variable) → VariableNamed ns x → VariableBy (ValueNamed ns) x
-  variable_in (Whole root) h = root_in root h
-  variable_in (Part root place size) h = root_in root h
-
-  variable_out : (x : Variable) → VariableBy (ValueNamed ns) x → VariableNamed ns x
-  variable_out (Whole root) h = root_out root h
-  variable_out (Part root place size) h = root_out root h
-
-  pub item_in : (x : Item) → ItemNamedBy ns x → ItemBy (ValueNamed ns) x
-  item_in (Val value) h = h
-  item_in (Var variable) h = variable_in variable h
-
-  pub item_out : (x : Item) → ItemBy (ValueNamed ns) x → ItemNamedBy ns x
-  item_out (Val value) h = h
-  item_out (Var variable) h = variable_out variable h
-
-  pub option_out : (v : Option Value) → OptionBy (ValueNamed ns) v → OptionNamed ns v
-  option_out None h = tt
-  option_out (Some value) h = h
-
-  pub residual_in : (r : Residual) → ResidualNamedBy ns r → ResidualBy (ValueNamed ns) r
-  residual_in (TextBytes text place) h = tt
-  residual_in (VariableBytes x place) h = variable_in x h
-  residual_in (ListItems id place) h = tt
-  residual_in (SetMembers id place) h = tt
-  residual_in (TableValues id place) h = tt
-  residual_in (TableKeys id place) h = tt
-  residual_in (RecordFields id place) h = tt
-  residual_in InputLines h = tt
-  residual_in (UndoAssign x old) h = (variable_in x h.0, h.1)
-  residual_in (UndoExchange mover x y v w) h = (variable_in x h.0, (variable_in y h.1.0, h.1.1))
-  residual_in (UndoPosition old) h = tt
-  residual_in (Counting n last step) h = tt
-  residual_in (Sequence n step) h = tt
-  residual_in (Balanced wanted opening closing text place last) h = tt
-  residual_in (Found wanted text place last) h = tt
-  residual_in (Among bytes text place last) h = tt
-
-  pub residual_out : (r : Residual) → ResidualBy (ValueNamed ns) r → ResidualNamedBy ns r
-  residual_out (TextBytes text place) h = tt
-  residual_out (VariableBytes x place) h = variable_out x h
-  residual_out (ListItems id place) h = tt
-  residual_out (SetMembers id place) h = tt
-  residual_out (TableValues id place) h = tt
-  residual_out (TableKeys id place) h = tt
-  residual_out (RecordFields id place) h = tt
-  residual_out InputLines h = tt
-  residual_out (UndoAssign x old) h = (variable_out x h.0, h.1)
-  residual_out (UndoExchange mover x y v w) h = (variable_out x h.0, (variable_out y h.1.0, h.1.1))
-  residual_out (UndoPosition old) h = tt
-  residual_out (Counting n last step) h = tt
-  residual_out (Sequence n step) h = tt
-  residual_out (Balanced wanted opening closing text place last) h = tt
-  residual_out (Found wanted text place last) h = tt
-  residual_out (Among bytes text place last) h = tt
 
 -- a record that is there may be copied
 pub may_copy : (law : RowLaw) (heap : Heap) → ((id : ℕ) → id < length heap.records → law.parts.records.There heap.records id) → (v : Value)

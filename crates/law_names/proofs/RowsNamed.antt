@@ -8,7 +8,7 @@ use Rattle.law_rows.proofs.RowLaws.{RowLaw, ItemBy, SettingBy}
 use Rattle.law_rows.proofs.EveryRow.{operation_comes, values_come, function_comes, resumed_comes, list_comes, record_comes, text_comes, words_come, coexpression_comes}
 use Rattle.law_names.specs.NamedSettings.{ValueNamed, ItemNamed}
 use Rattle.law_names.specs.RowsNamed.{OutcomeNamed, RowsKeepNames}
-use Rattle.law_names.proofs.RowValues.{named_parts, item_in, item_out, option_out, residual_in, residual_out, setting_in, setting_out, may_copy}
+use Rattle.law_names.proofs.RowValues.{named_parts, setting_in, setting_out, may_copy}
 
 abbrev names_law : Names → RowLaw
 names_law ns = record {
@@ -17,15 +17,15 @@ names_law ns = record {
   entered = λ a h. h;
   Comes = OutcomeNamed ns;
   failure = λ a h. setting_out ns a h;
-  gift = λ i a q h. (record { named = item_out ns i q }, setting_out ns a h);
-  suspension = λ i r a q p h. (record { named = item_out ns i q }, (record { named = residual_out ns r p }, setting_out ns a h));
-  error = λ number v a e q h. ((option_out ns v q, e), setting_out ns a h);
+  gift = λ i a q h. (record { named = q }, setting_out ns a h);
+  suspension = λ i r a q p h. (record { named = q }, (record { named = p }, setting_out ns a h));
+  error = λ number v a e q h. ((q, e), setting_out ns a h);
   limit = λ number a e l h. ((tt, e), setting_out ns a h);
   ending = λ status a h. setting_out ns a h;
 }
 
 items_in : (ns : Names) (items : List Item) → All (ItemNamed ns) items → Each (ItemBy (ValueNamed ns)) items
-items_in ns items h = each_map (ItemNamed ns) (ItemBy (ValueNamed ns)) (λ x q. item_in ns x q.named) items (each_of (ItemNamed ns) items h)
+items_in ns items h = each_map (ItemNamed ns) (ItemBy (ValueNamed ns)) (λ x q. q.named) items (each_of (ItemNamed ns) items h)
 
 -- rows keep names
 pub rows_keep_names : RowsKeepNames
@@ -36,7 +36,7 @@ rows_keep_names = record {
   functions = λ ns f vs at h g t.
       function_comes (names_law ns) ns f vs at (setting_in ns at h) (each_of (ValueNamed ns) vs g)
       (λ e. may_copy (names_law ns) at.world.heap (λ id l. l) (value_at vs 0) (t e));
-  resumed = λ ns rest at h g. resumed_comes (names_law ns) rest at (λ e s k. k) (setting_in ns at h) (residual_in ns rest g.named);
+  resumed = λ ns rest at h g. resumed_comes (names_law ns) rest at (λ e s k. k) (setting_in ns at h) g.named;
   lists = λ ns vs at h g. list_comes (names_law ns) vs at (setting_in ns at h) (each_of (ValueNamed ns) vs g);
   records = λ ns kind vs at h l g.
       record_comes (names_law ns) kind vs at (setting_in ns at h) (record { kind = l; fields = each_of (ValueNamed ns) vs g });

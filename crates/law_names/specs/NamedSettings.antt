@@ -2,10 +2,11 @@
 use Rattle.std.specs.Prelude.{◌<◌, ◌≡◌, ℕ, true, List, length, Option, None, Some}
 use Rattle.std.specs.List.{All}
 use Rattle.icn_structs.specs.Numbered.{NumberedList}
-use Rattle.icn_value.specs.Values.{Value, Null, Integer, Text, Chars, Std, Procedure, ARecord, AList, ASet, ATable, ACoexp, Root, Global, Static, Local, Element, Field, Key, Keyword, Variable, Whole, Part, Item, Val, Var}
+use Rattle.icn_value.specs.Values.{Value, Null, Integer, Text, Chars, Std, Procedure, ARecord, AList, ASet, ATable, ACoexp, Root, Variable, Item}
 use Rattle.icn_value.specs.Store.{Table, Record, Heap, KeptError, World, Setting, Names}
 use Rattle.icn_defs.specs.RowFacts.{is_error_number}
-use Rattle.icn_defs.specs.Rows.{Residual, TextBytes, VariableBytes, ListItems, SetMembers, TableValues, TableKeys, RecordFields, InputLines, UndoAssign, UndoExchange, UndoPosition, Counting, Sequence, Balanced, Found, Among}
+use Rattle.icn_defs.specs.Rows.{Residual}
+use Rattle.law_rows.specs.HeldValues.{OptionBy, RootBy, VariableBy, ItemBy, PairBy, ResidualBy}
 use Rattle.icn_convert.specs.ProgramNames.{name_count}
 
 -- a value that is a procedure is one that has a name
@@ -24,36 +25,23 @@ ValueNamed names (ACoexp id) = Unit {0}
 
 -- the value that is there, if any, names what has a name
 abbrev pub OptionNamed : Names → Option Value → Type 0
-OptionNamed names None = Unit {0}
-OptionNamed names (Some value) = ValueNamed names value
+OptionNamed names value = OptionBy (ValueNamed names) value
 
 -- the key of a table names what has a name; other roots hold no value
 abbrev pub RootNamed : Names → Root → Type 0
-RootNamed names (Global place) = Unit {0}
-RootNamed names (Static place) = Unit {0}
-RootNamed names (Local place) = Unit {0}
-RootNamed names (Element list number) = Unit {0}
-RootNamed names (Field structure place) = Unit {0}
-RootNamed names (Key table key) = ValueNamed names key
-RootNamed names (Keyword word) = Unit {0}
+RootNamed names root = RootBy (ValueNamed names) root
 
 -- what a variable is rooted in names what has a name
 abbrev pub VariableNamed : Names → Variable → Type 0
-VariableNamed names (Whole root) = RootNamed names root
-VariableNamed names (Part root place size) = RootNamed names root
+VariableNamed names variable = VariableBy (ValueNamed names) variable
 
 -- a value, or what a variable is rooted in, names what has a name
-abbrev pub ItemBy : Names → Item → Type 0
-ItemBy names (Val value) = ValueNamed names value
-ItemBy names (Var variable) = VariableNamed names variable
-
--- what an item names has a name
 pub record ItemNamed (names : Names) (item : Item) : Type 0 where
-  pub named : ItemBy names item
+  pub named : ItemBy (ValueNamed names) item
 
 -- the key and the value of a pair name what has a name
 abbrev pub PairNamed : Names → Value × Value → Type 0
-PairNamed names pair = ValueNamed names pair.0 × ValueNamed names pair.1
+PairNamed names pair = PairBy (ValueNamed names) pair
 
 -- each item of a list names what has a name
 abbrev pub ListNamed : Names → NumberedList Value → Type 0
@@ -101,25 +89,5 @@ pub record SettingNamed (names : Names) (setting : Setting) : Type 0 where
   pub locals : All (ValueNamed names) setting.locals
 
 -- the variables and the old values of a residual name what has a name
-abbrev pub ResidualBy : Names → Residual → Type 0
-ResidualBy names (TextBytes text place) = Unit {0}
-ResidualBy names (VariableBytes variable place) = VariableNamed names variable
-ResidualBy names (ListItems id place) = Unit {0}
-ResidualBy names (SetMembers id place) = Unit {0}
-ResidualBy names (TableValues id place) = Unit {0}
-ResidualBy names (TableKeys id place) = Unit {0}
-ResidualBy names (RecordFields id place) = Unit {0}
-ResidualBy names InputLines = Unit {0}
-ResidualBy names (UndoAssign variable old) = VariableNamed names variable × ValueNamed names old
-ResidualBy names (UndoExchange mover x y old_x old_y) =
-    VariableNamed names x × (VariableNamed names y × (ValueNamed names old_x × ValueNamed names old_y))
-ResidualBy names (UndoPosition old) = Unit {0}
-ResidualBy names (Counting n last step) = Unit {0}
-ResidualBy names (Sequence n step) = Unit {0}
-ResidualBy names (Balanced wanted opening closing text place last) = Unit {0}
-ResidualBy names (Found wanted text place last) = Unit {0}
-ResidualBy names (Among wanted text place last) = Unit {0}
-
--- what a residual names has a name
 pub record ResidualNamed (names : Names) (rest : Residual) : Type 0 where
-  pub named : ResidualBy names rest
+  pub named : ResidualBy (ValueNamed names) rest

@@ -1,6 +1,7 @@
 -- Whatever each put and each reading keeps of the outside, every evaluation keeps.
 use Rattle.std.proofs.Common.{◌≡◌, ℕ, zero, suc, Bool, true, false, List, [], ◌∷◌, ◌++◌, length, Option, Some, None, ap, subst}
 use Rattle.std.specs.Prelude.{ℤ, pos, negsuc, ◌-◌, ◌==◌, nat_lt, nat_le, drop, reverse, slice_get, slice_index_or, codes}
+use Rattle.icn_text.specs.declared.op.Op.{Op}
 use Rattle.icn_text.specs.declared.op.Op.TheVariants as Ops
 use Rattle.icn_text.specs.declared.keyword.Keyword.{Keyword as KeywordName}
 use Rattle.icn_text.specs.declared.keyword.TheConstants.Keyword.{ALL as keywords}
@@ -17,15 +18,17 @@ use Rattle.icn_value.specs.Store.{list_at, record_at}
 use Rattle.icn_defs.specs.Rows.{Outcome, Fails, Gives, Suspends, Error, Ends}
 use Rattle.icn_value.specs.Values.{Errout}
 use Rattle.icn_defs.specs.Applying.{again}
-use Rattle.icn_defs.specs.Conversions.{integer_of, place_of as position_of}
+use Rattle.icn_defs.specs.Arities.{arity}
+use Rattle.icn_defs.specs.Conversions.{integer_of, position_of}
 use Rattle.icn_defs.specs.Keywords.{keyword_item}
 use Rattle.icn_defs.specs.Errors.{error_report}
 use Rattle.icn_defs.proofs.OnErrors.{on_one}
 use Rattle.icn_defs.specs.Running.{Errored, AtBound, bound_report, Launch, Observation, words_row, number_of, after_steps}
 use Rattle.icn_defs.specs.StepRows.{Operation, Function, apply, value_row, list_row, text_row, record_row, coexpression_row}
 use Rattle.icn_meaning.specs.Program.{Program, Routine, Constructor, Callee, IsRoutine, IsKind, IsFunction, IsNothing, callee_of, index_of, routine_names}
-use Rattle.icn_meaning.specs.Contexts.{Application, Operating, Calling, Spreading, Collecting, Taking, Activating, frame_of, activation_of, Works, Nothing, ◌and_then◌, Choices, NoChoice, ◌or_else◌, Work, Args, Then, Cut, Raise, Limit, Count, Scan, Leave, Update, Each, Select, Returning, Suspending, Result, Do, Again, Resume, Restore, Reenter, Back, Exhaust, Action, Go, Give, Pass, Body, Try, Rest, Off, Surroundings, InCall, InScan, InLoop, Status, Fresh, Active, Waiting, AfterResult, Exhausted, Coexpression, Store, Evaluation, eval, succeed, fail, hop, over, lost, Ending}
+use Rattle.icn_meaning.specs.Contexts.{Application, Operating, Calling, Spreading, Collecting, Taking, Activating, frame_of, activation_of, Works, Nothing, ◌and_then◌, Choices, NoChoice, ◌or_else◌, Args, Then, Cut, Raise, Limit, Count, Scan, Leave, Update, Each, Select, Returning, Suspending, Result, Do, Again, Resume, Restore, Reenter, Back, Exhaust, Action, Go, Give, Pass, Body, Try, Rest, Off, Surroundings, InCall, InScan, InLoop, Status, Fresh, Active, Waiting, AfterResult, Exhausted, Coexpression, Store, Evaluation, eval, succeed, fail, hop, over, lost, Ending}
 use Rattle.icn_meaning.specs.Contexts as C
+use Rattle.icn_meaning.specs.Operators.{prefix_op, infix_op, update_op}
 use Rattle.icn_meaning.specs.Turns as U
 use Rattle.icn_meaning.specs.Scanning as S
 use Rattle.icn_meaning.specs.Actions as A
@@ -102,7 +105,7 @@ module _ (b : Lasting) where
   values (x ∷ xs) a r st go k f =
       value x a r st (λ v. U.values xs a r st (λ vs. go (v ∷ vs))) k (λ v. values xs a r st (λ vs. go (v ∷ vs)) k (λ vs. f (v ∷ vs)))
 
-  outgoing : (x : Item) (a : ℕ) (r : Choices) (st : Store) (go : Item → Evaluation) → K st → ((x : Item) → G (go x)) → G (U.outgoing x a r st go)
+  outgoing : (x : Item) (a : ℕ) (r : Choices) (st : Store) (go : Item → Evaluation) → K st → ((x : Item) → G (go x)) → G (U.with_outgoing x a r st go)
   outgoing (Var (Whole (Local n))) a r st go k f = value (Var (Whole (Local n))) a r st (λ v. go (Val v)) k (λ v. f (Val v))
   outgoing (Var (Part (Local n) place size)) a r st go k f = value (Var (Part (Local n) place size)) a r st (λ v. go (Val v)) k (λ v. f (Val v))
   outgoing x a r st go k f = f x
@@ -277,10 +280,14 @@ module _ (b : Lasting) where
     listed : (vs : List Value) (a : ℕ) (w : Works) (r : Choices) (st : Store) → K st → G (L.make_list vs a w r st)
     listed vs a w r st k = made (list_row vs (U.setting_in a st)) a r st _ k (list_leaves b vs (U.setting_in a st) k) (λ v s k. k)
 
-    applied : (form : Application) (xs : List Item) (s : Surroundings) (w : Works) (r : Choices) (st : Store) → K st → G (L.apply_form p form xs s w r st)
-    applied (Operating Ops.Refresh) (x ∷ xs) s w r st k = value x (activation_of s) r st _ k (λ v. refreshed v (activation_of s) w r st k)
-    applied (Operating o) xs s w r st k = answer (apply st.names (Operation o) xs (U.setting_in (activation_of s) st)) (activation_of s) w r st
+    operated : (all : Bool) (o : Op) (xs : List Item) (s : Surroundings) (w : Works) (r : Choices) (st : Store) → K st → G (L.apply_op all o xs s w r st)
+    operated false o xs s w r st k = tt
+    operated true Ops.Refresh (x ∷ xs) s w r st k = value x (activation_of s) r st _ k (λ v. refreshed v (activation_of s) w r st k)
+    operated true o xs s w r st k = answer (apply st.names (Operation o) xs (U.setting_in (activation_of s) st)) (activation_of s) w r st
         (operation_leaves b o xs (U.setting_in (activation_of s) st) k)
+
+    applied : (form : Application) (xs : List Item) (s : Surroundings) (w : Works) (r : Choices) (st : Store) → K st → G (L.apply_form p form xs s w r st)
+    applied (Operating o) xs s w r st k = operated (length xs == arity o) o xs s w r st k
     applied Calling [] s w r st k = tt
     applied Calling (x ∷ xs) s w r st k = value x (activation_of s) r st _ k (λ v. invoke v xs s w r st k)
     applied Spreading [] s w r st k = tt
@@ -341,10 +348,14 @@ module _ (b : Lasting) where
     loops Loops.Until loop e m s w r st k = k
     loops Loops.Every loop e m s w r st k = k
 
+    operate : (o : Option Op) (es : Trees) (s : Surroundings) (w : Works) (r : Choices) (st : Store) → K st → G (E.operate p o es s w r st)
+    operate (Some o) es s w r st k = operands (Operating o) [] es s w r st k
+    operate None es s w r st k = tt
+
     before : (o : Operator) (e : Tree) (s : Surroundings) (w : Works) (r : Choices) (st : Store) → K st → G (E.before p o e s w r st)
     before Signs.Bar e s w r st k = k
     before Signs.At e s w r st k = k
-    before o e s w r st k = k
+    before o e s w r st k = operate (prefix_op o) (More e NoTrees) s w r st k
 
     between : (o : Operator) (d e : Tree) (s : Surroundings) (w : Works) (r : Choices) (st : Store) → K st → G (E.between p o d e s w r st)
     between Signs.Ampersand d e s w r st k = k
@@ -353,7 +364,7 @@ module _ (b : Lasting) where
     between Signs.Backslash d e s w r st k = k
     between Signs.At d e s w r st k = k
     between Signs.Bang d e s w r st k = k
-    between o d e s w r st k = k
+    between o d e s w r st k = operate (infix_op o) (More d (More e NoTrees)) s w r st k
 
     on_eval : (e : Tree) (s : Surroundings) (w : Works) (r : Choices) (st : Store) → K st → G (E.on_eval p e s w r st)
     on_eval Empty s w r st k = k
@@ -405,11 +416,15 @@ module _ (b : Lasting) where
         _ k (λ v. made (text_row v (U.setting_in (activation_of s) st)) (activation_of s) r st _ k (text_leaves b v (U.setting_in (activation_of s) st) k)
         (λ text st k. scan_in (S.new_cell st) text e s w r st k))
 
+    update_by : (o : Option Op) (x : Item) (e : Tree) (s : Surroundings) (w : Works) (r : Choices) (st : Store) → K st → G (W.update_by o x e s w r st)
+    update_by (Some o) x e s w r st k = k
+    update_by None x e s w r st k = tt
+
     update : (o : Operator) (x : Item) (e : Tree) (s : Surroundings) (w : Works) (r : Choices) (st : Store) → K st → G (W.update o x e s w r st)
     update Signs.Ampersand x e s w r st k = k
     update Signs.Question x e s w r st k = k
     update Signs.At x e s w r st k = k
-    update o x e s w r st k = k
+    update o x e s w r st k = update_by (update_op o) x e s w r st k
 
     each : (m : MaybeTree) (s : Surroundings) (w : Works) (r0 r : Choices) (st : Store) → K st → G (W.each m s w r0 r st)
     each Absent s w r0 r st k = k
@@ -422,7 +437,7 @@ module _ (b : Lasting) where
     on_succeed x (Cut r0 a and_then w) r st k = act a r0 st k
     on_succeed x (Raise flag and_then w) r st k = k
     on_succeed x (Limit e s and_then w) r st k = value x (activation_of s) r st _ k (λ v. limit (integer_of v) v e s w r st k)
-    on_succeed x (Count c r0 and_then w) r st k = count_by (W.remaining c st) x w r0 r _ k
+    on_succeed x (Count c r0 and_then w) r st k = count_by (W.results_left c st) x w r0 r _ k
     on_succeed x (Scan e s and_then w) r st k = scan x e s w r st k
     on_succeed x (Leave q and_then w) r st k = k
     on_succeed x (Update o e s and_then w) r st k = update o x e s w r st k

@@ -1,6 +1,7 @@
 -- What a row leaves of the outside, and that the outside only grows.
-use Rattle.std.specs.Prelude.{◌≡◌, ⊤, ℕ, List, ◌++◌, drop}
-use Rattle.icn_value.specs.Store.{Outside, Reading}
+use Rattle.std.specs.Prelude.{⊤, List}
+use Rattle.icn_value.specs.Store.{Event, Outside}
+use Rattle.icn_defs.specs.Interruptions.{ExtendsBy}
 use Rattle.icn_defs.specs.Rows.{Outcome, Fails, Gives, Suspends, Error, Ends}
 use Rattle.icn_run.specs.Stacks.{Frames}
 use Rattle.icn_run.specs.Step.{State, running, failing, hopping, over, stuck}
@@ -13,17 +14,11 @@ LeavesOutside Is (Suspends item residual seen) = Is seen.outside
 LeavesOutside Is (Error number value seen) = Is seen.outside
 LeavesOutside Is (Ends status seen) = Is seen.outside
 
--- The outside that was has become the one that is now: what was put stays in front of what was put since, the readings that were made stay, behind
--- those made since (the newest is the first), and what is left of the input is a rest of what was left.
+-- The outside that was has become the one that is now: what was done stays in front of what was done since, and what is left of the input is what
+-- the readings since have left of it.
 pub record ExtendsOutside (was now : Outside) : Type 0 where
-  pub output_text : List ℕ
-  pub output : now.output ≡ was.output ++ output_text
-  pub errors_text : List ℕ
-  pub errors : now.errors ≡ was.errors ++ errors_text
-  pub later : List Reading
-  pub readings : now.readings ≡ later ++ was.readings
-  pub taken : ℕ
-  pub left : now.left ≡ drop taken was.left
+  pub done : List Event
+  pub by : ExtendsBy was done now
 
 -- this is so of the outside of a state; of one that lacks something, nothing is said
 abbrev pub HasOutside : (Outside → Type 0) → State Frames Frames → Type 0

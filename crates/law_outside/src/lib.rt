@@ -3,4 +3,4 @@
 
 mod laws;
 
-pub use laws::{outsides_grow, readings_break, rows_leave, runs_leave};
+pub use laws::outsides_grow;

@@ -1,12 +1,9 @@
 -- All of a list, by recursion on it.
 use Rattle.std.proofs.Common.{◌≡◌, ℕ, zero, suc, List, [], ◌∷◌, ◌++◌, Some, None}
-use Rattle.std.specs.Prelude.{slice_get, slice_set, take, drop, replicate}
+use Rattle.std.specs.Prelude.{slice_get, slice_index_or, slice_set, take, drop, replicate}
 use Rattle.std.specs.List.{All}
+pub use Rattle.std.specs.List.{AllByRecursion as Each}
 use Rattle.std.proofs.lemmas.List.Elements.{All-nil, All-cons, All-head, All-tail}
-
-abbrev pub Each : {A : Type 0} → (A → Type 0) → List A → Type 0
-Each Q [] = Unit {0}
-Each Q (x ∷ xs) = Q x × Each Q xs
 
 pub none_is_not_some : {A B : Type 0} (x : A) → None ≡ Some x → B
 none_is_not_some x e = let z : ⊥ = cc in absurd z
@@ -54,3 +51,8 @@ pub each_set : {A : Type 0} (P : A → Type 0) (xs : List A) (n : ℕ) (v : A) �
 each_set P [] n v h g = tt
 each_set P (x ∷ xs) zero v h g = (g, h.1)
 each_set P (x ∷ xs) (suc n) v h g = (h.0, each_set P xs n v h.1 g)
+
+pub each_index : {A : Type 0} (P : A → Type 0) (xs : List A) (n : ℕ) (v : A) → Each P xs → P v → P (slice_index_or xs n v)
+each_index P [] n v h g = g
+each_index P (x ∷ xs) zero v h g = h.0
+each_index P (x ∷ xs) (suc n) v h g = each_index P xs n v h.1 g

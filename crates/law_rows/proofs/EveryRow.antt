@@ -14,9 +14,9 @@ use Rattle.icn_text.specs.declared.func.Func.{Func}
 use Rattle.icn_text.specs.declared.func.Func.TheVariants as Funcs
 use Rattle.icn_value.specs.Values.{Value, Null, Integer, Text, Chars, Std, Procedure, ARecord, AList, ASet, ATable, ACoexp, File, Input, Output, Errout, Root, Global, Static, Local, Element, Field, Key, Keyword, KeywordVariable, Subject, Position, Random, ErrorCount, Variable, Whole, Part, Item, Val, Var}
 use Rattle.icn_value.specs.Store.{Setting, Heap, Record, Names, Outside, Request, ALine, SomeBytes, with_reading, having_left, having_position, having_heap, new_list, list_at, table_at, record_at, value_at, with_list}
-use Rattle.icn_defs.specs.Conversions.{same, group_of, integer_of, text_of, form_of, text_made, place_of, held_text, is_null, ValueGroup, Textual, Listed, Collected, Tabled, Recorded, Filed, Activated, Single}
+use Rattle.icn_defs.specs.Conversions.{same, group_of, integer_of, text_of, form_of, text_made, position_of, held_text, is_null, ValueGroup, Textual, Listed, Collected, Tabled, Recorded, Filed, Activated, Single}
 use Rattle.icn_defs.specs.RowFacts.{is_error_number}
-use Rattle.icn_defs.specs.Rows.{Row, Fails, Gives, Suspends, Error, Ends, Residual, TextBytes, VariableBytes, ListItems, SetMembers, TableValues, TableKeys, RecordFields, InputLines, UndoAssign, UndoExchange, UndoPosition, Counting, Sequence, Balanced, Found, Among, Mover, Neither, Left, Right, check, present, number_or_error, passing, thing_or_failure, natural, costs_made, costs_text, costs_bytes, arithmetic_error, gives_value, suspends, ends}
+use Rattle.icn_defs.specs.Rows.{Row, Fails, Gives, Suspends, Error, Ends, Residual, TextBytes, VariableBytes, ListItems, SetMembers, TableValues, TableKeys, RecordFields, InputLines, UndoAssign, UndoExchange, UndoPosition, Counting, Sequence, Balanced, Found, Among, Mover, Neither, Left, Right, check, present, number_or_error, fails_unless, thing_or_failure, natural, costs_made, costs_text, costs_bytes, arithmetic_error, gives_value, suspends, ends}
 use Rattle.icn_defs.specs.ReadAndAssign.{the_value, the_values, the_variable, assigns_keyword, assigns_root, assigns_or, assigns_both, move_part, moved_by_left, moved_by_right, costs_unless, stores, reads, reads_root, reads_text, root_value, with_part}
 use Rattle.icn_defs.specs.Arguments.{Keeper, SetKeeper, TableKeeper, file_of, arg, arg_or}
 use Rattle.icn_defs.specs.Arithmetic.{count_from}
@@ -132,7 +132,7 @@ module _ (law : RowLaw) where
   w_computed (Ok x) next a e f = f x
   w_computed (Err k) next a e f = o_error (arithmetic_error k) None a (arithmetic_known k) e (optional_none law)
 
-  w_passing : (t : Bool) (next : Row) (a : Setting) → SettingIn law a → OutcomeIn law (next a) → OutcomeIn law (passing t next a)
+  w_passing : (t : Bool) (next : Row) (a : Setting) → SettingIn law a → OutcomeIn law (next a) → OutcomeIn law (fails_unless t next a)
   w_passing true next a h f = f
   w_passing false next a h f = o_fails a h
 
@@ -335,14 +335,14 @@ module _ (law : RowLaw) where
   w_keyword refused Subject value next a e h g r f = search (words, w_made, f)
   w_keyword refused Position value next a e h q r f = by_number (integer_of value) refl
     where
-      by_place : (k : ℤ) → integer_of value ≡ Some k → (o : Option ℕ) → place_of k (length a.world.subject) ≡ o
+      by_place : (k : ℤ) → integer_of value ≡ Some k → (o : Option ℕ) → position_of k (length a.world.subject) ≡ o
           → OutcomeIn law (assigns_keyword refused Position value next a)
       by_place k is None g = rw is (rw g r)
       by_place k is (Some place) g = rw is (rw g (f (having_position place a) (having_place a place h)))
 
       by_number : (o : Option ℤ) → integer_of value ≡ o → OutcomeIn law (assigns_keyword refused Position value next a)
       by_number None is = rw is (o_error law 101 (Some value) a refl e (optional_some law value q))
-      by_number (Some k) is = by_place k is (place_of k (length a.world.subject)) refl
+      by_number (Some k) is = by_place k is (position_of k (length a.world.subject)) refl
   w_keyword refused Random value next a e h g r f = search (words, f)
   w_keyword refused ErrorCount value next a e h g r f = search (words, f)
 

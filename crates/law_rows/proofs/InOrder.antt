@@ -7,12 +7,12 @@ use Rattle.std.proofs.lemmas.List.FromFn.{length-range_with_len, length-map-rang
 use Rattle.std.proofs.lemmas.Bool.{cases_lt, le-leb, leb-true, lt-ltb, ltb-true}
 use Rattle.icn_value.specs.Values.{Integer, Text, ASet, ATable, AList, ARecord, Item, Val}
 use Rattle.icn_value.specs.Store.{Names, Setting, set_at, table_at, list_at, record_at}
-use Rattle.icn_defs.specs.Rows.{Row, Outcome, Residual, TextBytes, ListItems, SetMembers, TableValues, TableKeys, RecordFields, Found, Among, Counting, Fails, Gives, Suspends, Error, Ends, suspends, thing_or_failure, passing}
+use Rattle.icn_defs.specs.Rows.{Row, Outcome, Residual, TextBytes, ListItems, SetMembers, TableValues, TableKeys, RecordFields, Found, Among, Counting, Fails, Gives, Suspends, Error, Ends, suspends, thing_or_failure, fails_unless}
 use Rattle.icn_defs.specs.Applying.{again}
 use Rattle.icn_defs.specs.Elements.{element_item, field_item}
 use Rattle.icn_defs.specs.Scanning.{found_from, among_from, stands, byte_behind}
 use Rattle.icn_defs.specs.Arithmetic.{count_from}
-use Rattle.icn_defs.specs.Conversions.{contains, fitting}
+use Rattle.icn_defs.specs.Conversions.{contains, if_fits}
 use Rattle.law_rows.specs.Results.{results, GivesAll, walk, keys, counts, places_of, places_that, integer_item, byte_item, pair_key, pair_variable}
 
 not_below : (a b : ℕ) → b ≤ a → nat_lt a b ≡ false
@@ -169,15 +169,15 @@ values_in_order id at =
 -- Walks by a place below a size
 
 abbrev places_from : ℕ → (ℕ → Item) → (ℕ → Residual) → ℕ → Row
-places_from size item kept place = passing (nat_lt place size) (suspends (item place) (kept (place + 1)))
+places_from size item kept place = fails_unless (nat_lt place size) (suspends (item place) (kept (place + 1)))
 
 paced : (size : ℕ) (item : ℕ → Item) (kept : ℕ → Residual) (at : Setting) → ((place : ℕ) → again (kept place) at ≡ places_from size item kept place at)
     → (count place n : ℕ) → place + count ≡ size → count < n → results n (places_from size item kept place at) ≡ map item (range_with_len place count)
 paced size item kept at is count place zero ends enough = absurd (omega (arith, enough))
 paced size item kept at is zero place (suc n) ends enough =
-    ap (λ t. results (suc n) (passing t (suspends (item place) (kept (place + 1))) at)) (not_below place size (omega (arith, ends)))
+    ap (λ t. results (suc n) (fails_unless t (suspends (item place) (kept (place + 1))) at)) (not_below place size (omega (arith, ends)))
 paced size item kept at is (suc count) place (suc n) ends enough =
-    ap (λ t. results (suc n) (passing t (suspends (item place) (kept (place + 1))) at)) (lt-ltb place size (omega (arith, ends)))
+    ap (λ t. results (suc n) (fails_unless t (suspends (item place) (kept (place + 1))) at)) (lt-ltb place size (omega (arith, ends)))
     ∙ ap (λ later. item place ∷ later)
     (ap (results n) (is (place + 1)) ∙ paced size item kept at is count (place + 1) n (omega (arith, ends)) (omega (arith, enough)))
 
@@ -200,10 +200,10 @@ fields_in_order id at =
 
 -- Counting
 
-fits_or : (m : ℕ) → (fitting (pos m) ≡ Some (pos m)) ⊎ ((fitting (pos m) ≡ None) × (9223372036854775807 < m))
+fits_or : (m : ℕ) → (if_fits (pos m) ≡ Some (pos m)) ⊎ ((if_fits (pos m) ≡ None) × (9223372036854775807 < m))
 fits_or m = by (cases_lt 9223372036854775807 m)
   where
-    by : (9223372036854775807 < m) ⊎ (m ≤ 9223372036854775807) → (fitting (pos m) ≡ Some (pos m)) ⊎ ((fitting (pos m) ≡ None) × (9223372036854775807 < m))
+    by : (9223372036854775807 < m) ⊎ (m ≤ 9223372036854775807) → (if_fits (pos m) ≡ Some (pos m)) ⊎ ((if_fits (pos m) ≡ None) × (9223372036854775807 < m))
     by (inl more) = inr (ap (λ (t : Bool). if t then Some (pos m) else None) (not_within m 9223372036854775807 more), more)
     by (inr less) = inl (ap (λ (t : Bool). if t then Some (pos m) else None) (le-leb m 9223372036854775807 less))
 
@@ -214,10 +214,10 @@ counted : (last : ℕ) (at : Setting) → last ≤ 9223372036854775807 → (coun
     → results n (count_up last first at) ≡ map (λ k. Val (Integer (pos k))) (range_with_len first count)
 counted last at small count first zero ends enough = absurd (omega (arith, enough))
 counted last at small zero first (suc n) ends enough =
-    ap (λ t. results (suc n) (passing t (suspends (Val (Integer (pos first))) (Counting (pos first) (pos last) (pos 1))) at))
+    ap (λ t. results (suc n) (fails_unless t (suspends (Val (Integer (pos first))) (Counting (pos first) (pos last) (pos 1))) at))
     (not_within first last (omega (arith, ends)))
 counted last at small (suc count) first (suc n) ends enough =
-    ap (λ t. results (suc n) (passing t (suspends (Val (Integer (pos first))) (Counting (pos first) (pos last) (pos 1))) at))
+    ap (λ t. results (suc n) (fails_unless t (suspends (Val (Integer (pos first))) (Counting (pos first) (pos last) (pos 1))) at))
     (le-leb first last (omega (arith, ends)))
     ∙ ap (λ later. Val (Integer (pos first)) ∷ later)
     (by (fits_or (first + 1)) (counted last at small count (first + 1) n (omega (arith, ends)) (omega (arith, enough))))
@@ -229,9 +229,9 @@ counted last at small (suc count) first (suc n) ends enough =
     nothing_left : (c : ℕ) → c ≡ zero → [] ≡ map (λ k. Val (Integer (pos k))) (range_with_len (first + 1) c)
     nothing_left c none = rw none refl
 
-    by : (fitting (pos (first + 1)) ≡ Some (pos (first + 1))) ⊎ ((fitting (pos (first + 1)) ≡ None) × (9223372036854775807 < first + 1))
+    by : (if_fits (pos (first + 1)) ≡ Some (pos (first + 1))) ⊎ ((if_fits (pos (first + 1)) ≡ None) × (9223372036854775807 < first + 1))
         → results n (count_up last (first + 1) at) ≡ map (λ k. Val (Integer (pos k))) (range_with_len (first + 1) count)
-        → results n (count_from (pos last) (pos 1) (fitting (pos (first + 1))) at) ≡ map (λ k. Val (Integer (pos k))) (range_with_len (first + 1) count)
+        → results n (count_from (pos last) (pos 1) (if_fits (pos (first + 1))) at) ≡ map (λ k. Val (Integer (pos k))) (range_with_len (first + 1) count)
     by (inl is) later = ap (λ o. results n (count_from (pos last) (pos 1) o at)) is ∙ later
     by (inr none) later =
         ap (λ o. results n (count_from (pos last) (pos 1) o at)) none.0 ∙ (none_left n ∙ nothing_left count (omega (arith, ends, none.1, small)))

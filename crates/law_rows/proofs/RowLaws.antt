@@ -1,5 +1,5 @@
 -- What a law over all rows says, and why each change that a row makes keeps it. `EveryRow` goes over the rows once, for any such law.
-use Rattle.std.proofs.Common.{◌≡◌, ℕ, zero, suc, ◌+◌, ◌∙◌, true, List, [], ◌∷◌, ◌++◌, length, Option, Some, None}
+use Rattle.std.proofs.Common.{◌≡◌, ℕ, zero, suc, ◌+◌, ◌∙◌, true, List, [], ◌∷◌, ◌++◌, length, Option, None}
 use Rattle.std.specs.Prelude.{ℤ, slice_get, slice_set, unwrap_or}
 use Rattle.std.proofs.lemmas.List.{length-set}
 use Rattle.icn_structs.specs.Numbered.{NumberedList}
@@ -10,6 +10,7 @@ use Rattle.icn_defs.specs.InputOutput.{put_on}
 use Rattle.icn_defs.specs.Interruptions.{after_reading}
 use Rattle.icn_defs.specs.RowFacts.{is_error_number}
 use Rattle.icn_defs.specs.Rows.{Outcome, Fails, Gives, Suspends, Error, Ends, Residual, TextBytes, VariableBytes, ListItems, SetMembers, TableValues, TableKeys, RecordFields, InputLines, UndoAssign, UndoExchange, UndoPosition, Counting, Sequence, Balanced, Found, Among}
+pub use Rattle.law_rows.specs.HeldValues.{OptionBy, RootBy, VariableBy, ItemBy, PairBy, ListBy, TableBy, ResidualBy}
 use Rattle.law_rows.specs.Unchanged.{IsLimit}
 use Rattle.law_rows.proofs.EachOfList.{Each, each_append, each_set}
 
@@ -27,56 +28,6 @@ pub record ValueLaw : Type 1 where
   pub list : (id : ℕ) → Is (AList id)
   pub set : (id : ℕ) → Is (ASet id)
   pub table : (id : ℕ) → Is (ATable id)
-
--- the same of what holds values
-
-abbrev pub OptionBy : (Value → Type 0) → Option Value → Type 0
-OptionBy Q None = Unit {0}
-OptionBy Q (Some value) = Q value
-
-abbrev pub RootBy : (Value → Type 0) → Root → Type 0
-RootBy Q (Global place) = Unit {0}
-RootBy Q (Static place) = Unit {0}
-RootBy Q (Local place) = Unit {0}
-RootBy Q (Element id number) = Unit {0}
-RootBy Q (Field id place) = Unit {0}
-RootBy Q (Key table key) = Q key
-RootBy Q (Keyword word) = Unit {0}
-
-abbrev pub VariableBy : (Value → Type 0) → Variable → Type 0
-VariableBy Q (Whole root) = RootBy Q root
-VariableBy Q (Part root place size) = RootBy Q root
-
-abbrev pub ItemBy : (Value → Type 0) → Item → Type 0
-ItemBy Q (Val value) = Q value
-ItemBy Q (Var variable) = VariableBy Q variable
-
-abbrev pub PairBy : (Value → Type 0) → Value × Value → Type 0
-PairBy Q pair = Q pair.0 × Q pair.1
-
-abbrev pub ListBy : (Value → Type 0) → NumberedList Value → Type 0
-ListBy Q list = Each Q list.items
-
-abbrev pub TableBy : (Value → Type 0) → Table → Type 0
-TableBy Q table = Q table.default × Each (PairBy Q) table.pairs
-
-abbrev pub ResidualBy : (Value → Type 0) → Residual → Type 0
-ResidualBy Q (TextBytes text place) = Unit {0}
-ResidualBy Q (VariableBytes x place) = VariableBy Q x
-ResidualBy Q (ListItems id place) = Unit {0}
-ResidualBy Q (SetMembers id place) = Unit {0}
-ResidualBy Q (TableValues id place) = Unit {0}
-ResidualBy Q (TableKeys id place) = Unit {0}
-ResidualBy Q (RecordFields id place) = Unit {0}
-ResidualBy Q InputLines = Unit {0}
-ResidualBy Q (UndoAssign x old) = VariableBy Q x × Q old
-ResidualBy Q (UndoExchange mover x y v w) = VariableBy Q x × (VariableBy Q y × (Q v × Q w))
-ResidualBy Q (UndoPosition old) = Unit {0}
-ResidualBy Q (Counting n last step) = Unit {0}
-ResidualBy Q (Sequence n step) = Unit {0}
-ResidualBy Q (Balanced wanted opening closing text place last) = Unit {0}
-ResidualBy Q (Found wanted text place last) = Unit {0}
-ResidualBy Q (Among bytes text place last) = Unit {0}
 
 -- What is said of the parts of a setting
 

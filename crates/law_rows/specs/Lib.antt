@@ -2,3 +2,4 @@ pub mod Results
 pub mod Unchanged
 pub mod Growths
 pub mod Undos
+pub mod HeldValues

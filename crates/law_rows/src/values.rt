@@ -3,7 +3,7 @@ ghost use Rattle.std.specs.Prelude.{◌≡◌, ◌≤◌, ◌+◌, ◌-◌, ℕ,
 ghost use Rattle.std.specs.Cmp.{IsEquivalence, IsTotalOrder};
 ghost use Rattle.std.specs.Fmt.{signed_decimal};
 ghost use Rattle.std.specs.declared.cmp.Ordering.TheVariants.{Equal};
-ghost use Rattle.icn_defs.specs.Conversions.{fits, integer_of, place_of, text_of};
+ghost use Rattle.icn_defs.specs.Conversions.{fits, integer_of, position_of, text_of};
 ghost use Rattle.icn_defs.specs.Images.{value_cmp};
 ghost use Rattle.icn_value.specs.Sameness.{same};
 ghost use Rattle.icn_value.specs.Store.{Heap, Names};
@@ -34,10 +34,10 @@ pub fn integers_survive_texts()
 
 /// A position in range is a place from 1 to one behind the last byte, and each place has two positions: itself, and one that counts from the end.
 pub fn positions_are_places()
-    ensures low { (n : ℤ) (size place : ℕ) → place_of n size ≡ Some place → 1 ≤ place }
-    ensures high { (n : ℤ) (size place : ℕ) → place_of n size ≡ Some place → place ≤ size + 1 }
+    ensures low { (n : ℤ) (size place : ℕ) → position_of n size ≡ Some place → 1 ≤ place }
+    ensures high { (n : ℤ) (size place : ℕ) → position_of n size ≡ Some place → place ≤ size + 1 }
     ensures from_the_start { (size place : ℕ) → 1 ≤ place → place ≤ size + 1
-        → place_of (pos place) size ≡ Some place }
-    ensures behind_the_last { (size : ℕ) → place_of (pos 0) size ≡ Some (size + 1) }
-    ensures from_the_end { (size n : ℕ) → suc n ≤ size → place_of (negsuc n) size ≡ Some (size - n) }
+        → position_of (pos place) size ≡ Some place }
+    ensures behind_the_last { (size : ℕ) → position_of (pos 0) size ≡ Some (size + 1) }
+    ensures from_the_end { (size n : ℕ) → suc n ≤ size → position_of (negsuc n) size ≡ Some (size - n) }
 {}

@@ -1,8 +1,8 @@
 -- Entries of lists by their numbers.
 use Rattle.std.proofs.Common.{◌≡◌, ◌≢◌, ℕ, zero, suc, ◌<◌, ◌⊎◌, inl, inr, List, [], ◌∷◌, ◌++◌, length, Some, refl, ap, arith}
-use Rattle.std.specs.Prelude.{slice_get, slice_set, slice_index_or, take, drop, replicate}
+use Rattle.std.specs.Prelude.{slice_get, slice_set, slice_index_or, replicate}
 use Rattle.law_stacks.proofs.CellLists.{some_injective, none_is_not_some}
-use Rattle.law_safe.specs.Within.{Each}
+pub use Rattle.law_rows.proofs.EachOfList.{each_map, each_append, each_replicate, each_take, each_drop, each_set}
 
 -- two numbers are equal or differ
 pub same_or_not : (m n : ℕ) → (m ≡ n) ⊎ (m ≢ n)
@@ -61,45 +61,6 @@ pub entry_there : {A : Type 0} (xs : List A) (n : ℕ) → n < length xs → (v 
 entry_there [] n l = absurd (omega arith)
 entry_there (x ∷ xs) zero l = (x, refl)
 entry_there (x ∷ xs) (suc n) l = entry_there xs n (omega arith)
-
--- all of a list
-
-pub each_map : {A : Type 0} (P Q : A → Type 0) → ((x : A) → P x → Q x) → (xs : List A) → Each P xs → Each Q xs
-each_map P Q f [] h = tt
-each_map P Q f (x ∷ xs) h = (f x h.0, each_map P Q f xs h.1)
-
-pub each_get : {A : Type 0} (P : A → Type 0) (xs : List A) (n : ℕ) (v : A) → Each P xs → slice_get xs n ≡ Some v → P v
-each_get P [] n v h e = none_is_not_some v e
-each_get P (x ∷ xs) zero v h e = rw (← some_injective e) h.0
-each_get P (x ∷ xs) (suc n) v h e = each_get P xs n v h.1 e
-
-pub each_append : {A : Type 0} (P : A → Type 0) (xs ys : List A) → Each P xs → Each P ys → Each P (xs ++ ys)
-each_append P [] ys h g = g
-each_append P (x ∷ xs) ys h g = (h.0, each_append P xs ys h.1 g)
-
-pub each_replicate : {A : Type 0} (P : A → Type 0) (n : ℕ) (x : A) → P x → Each P (replicate n x)
-each_replicate P zero x h = tt
-each_replicate P (suc n) x h = (h, each_replicate P n x h)
-
-pub each_take : {A : Type 0} (P : A → Type 0) (n : ℕ) (xs : List A) → Each P xs → Each P (take n xs)
-each_take P zero xs h = tt
-each_take P (suc n) [] h = tt
-each_take P (suc n) (x ∷ xs) h = (h.0, each_take P n xs h.1)
-
-pub each_drop : {A : Type 0} (P : A → Type 0) (n : ℕ) (xs : List A) → Each P xs → Each P (drop n xs)
-each_drop P zero xs h = h
-each_drop P (suc n) [] h = tt
-each_drop P (suc n) (x ∷ xs) h = each_drop P n xs h.1
-
-pub each_set : {A : Type 0} (P : A → Type 0) (xs : List A) (n : ℕ) (v : A) → Each P xs → P v → Each P (slice_set xs n v)
-each_set P [] n v h g = tt
-each_set P (x ∷ xs) zero v h g = (g, h.1)
-each_set P (x ∷ xs) (suc n) v h g = (h.0, each_set P xs n v h.1 g)
-
-pub each_index : {A : Type 0} (P : A → Type 0) (xs : List A) (n : ℕ) (d : A) → Each P xs → P d → P (slice_index_or xs n d)
-each_index P [] n d h g = g
-each_index P (x ∷ xs) zero d h g = h.0
-each_index P (x ∷ xs) (suc n) d h g = each_index P xs n d h.1 g
 
 -- an entry that is there is the one that is read
 pub index_there : {A : Type 0} (xs : List A) (n : ℕ) (v d : A) → slice_get xs n ≡ Some v → slice_index_or xs n d ≡ v

@@ -86,7 +86,8 @@ residual_more n n' l (TableKeys a b) h = tt
 residual_more n n' l (RecordFields a b) h = tt
 residual_more n n' l InputLines h = tt
 residual_more n n' l (UndoAssign x v) h = (variable_more n n' l x h.0, value_more n n' l v h.1)
-residual_more n n' l (UndoExchange m x y v u) h = (variable_more n n' l x h.0, variable_more n n' l y h.1, value_more n n' l v h.2, value_more n n' l u h.3)
+residual_more n n' l (UndoExchange m x y v u) h =
+    (variable_more n n' l x h.0, (variable_more n n' l y h.1.0, (value_more n n' l v h.1.1.0, value_more n n' l u h.1.1.1)))
 residual_more n n' l (UndoPosition a) h = tt
 residual_more n n' l (Counting a b c) h = tt
 residual_more n n' l (Sequence a b) h = tt

@@ -11,7 +11,7 @@ use Rattle.icn_defs.specs.KeptSizes.{KeepsIn, KeepsSizes}
 use Rattle.icn_code.specs.Codes.{Tables, Proc as Procedure, RecordType}
 use Rattle.icn_verify.specs.Shapes.{PlainShape, start_shape, with_more, with_fewer, before_mark}
 use Rattle.icn_run.specs.Rows as R
-use Rattle.icn_run.specs.Rows.{Value, Null, Integer, Text, Chars, Procedure as ProcedureValue, ARecord, AList, ACoexp, Item, Val, Var, Whole, World, Setting, list_at, record_at, Outcome, Fails, Gives, Suspends, Error, Ends, Operation, Function, apply, value_row, list_row, record_row, place_of, number_of}
+use Rattle.icn_run.specs.Rows.{Value, Null, Integer, Text, Chars, Procedure as ProcedureValue, ARecord, AList, ACoexp, Item, Val, Var, Whole, World, Setting, list_at, record_at, Outcome, Fails, Gives, Suspends, Error, Ends, Operation, Function, apply, value_row, list_row, record_row, position_of, number_of}
 use Rattle.icn_run.specs.Calls.{Pair, Calls}
 use Rattle.icn_run.specs.Calls as Cs
 use Rattle.icn_run.specs.Chains as C
@@ -343,7 +343,7 @@ module _ (P : Program) (sh : ℕ → ℕ → Option PlainShape) (given : KeepsSh
       → Ready w p S m st → ValueWithin w.coexps callee
       → Each (ItemWithin w.coexps) items → sh p m.address ≡ Some (with_more 1 S) → Ok (integer_called linked_machine callee o items m st)
   integer_ok callee (Some n) items w p S m st h z g e =
-      ok_one (choose_item n items) w p S m st h (argument_within w.coexps (place_of n (length items)) items g) e
+      ok_one (choose_item n items) w p S m st h (argument_within w.coexps (position_of n (length items)) items g) e
   integer_ok callee None items w p S m st h z g e = ok_errs 106 (Some callee) w p S m st h z
 
   pub ok_invoked : (callee : Value) (items : List Item) (w : Knowledge) (p : ℕ) (S : PlainShape) (m : LinkedStack) (st : Store WaitingChain) → Ready w p S m st

@@ -375,7 +375,7 @@ module _ (tables : Tables) (sh : ℕ → ℕ → Option PlainShape) where
   count_by w s p S cr kind ls m (call proc a level place caller) g h e k = false_is_not_true (subst (λ (x : List Level). is_some (slice_get x 0) ≡ true) h.3 e)
   count_by w s p S cr kind ls m (mark label c) g h e k = false_is_not_true (subst (λ x. same_kind x Levels.Limit ≡ true) h.3 k)
   count_by w s p S cr kind ls m (limit n c) g h e k = (
-    (C.remaining n m, record m { limits = slice_set m.limits n (C.remaining n m) }),
+    (C.results_left n m, record m { limits = slice_set m.limits n (C.results_left n m) }),
     refl,
     record { now = record { has = g.has; memory = g.memory }; address = refl },
   )

@@ -45,11 +45,14 @@ module _ (tables : Tables) (sh : ℕ → ℕ → Option PlainShape) where
   LabelTo p S None = Unit {0}
   LabelTo p S (Some label) = sh p label ≡ Some S
 
+  -- the label of a mark whose flag is known: behind the mark stands its shape, and at the label the one
+  -- before it
   abbrev pub LabelOk : Knowledge → ℕ → PlainShape → Label → Type 0
   LabelOk w p S (fixed label) = ⊥
   LabelOk w p S (flagged label flag address) =
       IsBefore w flag p S × LabelTo p S label × (sh p (suc address) ≡ Some (with_mark Levels.Plain S))
 
+  -- what is asked of the shape with which a suspension is resumed, by why it was made
   abbrev pub ReasonOk : Knowledge → ℕ → PlainShape → ℕ → Reason → Type 0
   ReasonOk w p S address (because Alt) = Unit {0}
   ReasonOk w p S address (because (Op residual)) =
@@ -59,6 +62,7 @@ module _ (tables : Tables) (sh : ℕ → ℕ → Option PlainShape) where
   ReasonOk w p S address (because Proc) = sh p address ≡ Some S
   ReasonOk w p S address (scanning n) = Unit {0}
 
+  -- a shape by its innermost level and the others
   abbrev pub level_shape : Bool → Level → List Level → PlainShape
   level_shape cr l ls = record { in_create = cr; inner = l; outer = ls }
 
@@ -113,6 +117,7 @@ module _ (tables : Tables) (sh : ℕ → ℕ → Option PlainShape) where
         → (values : List Value) × (slice_get activations a ≡ Some values) × LocalsOk w p values
     pub labels : Each (RelabelOk w) relabels
 
+  -- what a stack has that changes is as is known of it
   abbrev pub MemoryOf : Knowledge → LinkedStack → Type 0
   MemoryOf w m = MemoryOk w m.activations m.flags m.relabels
 
@@ -130,6 +135,7 @@ module _ (tables : Tables) (sh : ℕ → ℕ → Option PlainShape) where
   StatusOk w i (Waiting k) = ParkedOk w i k
   StatusOk w i Exhausted = Unit {0}
 
+  -- the co-expression was not begun
   abbrev pub IsFresh : Status WaitingChain → Type 0
   IsFresh Fresh = Unit {0}
   IsFresh status = ⊥
@@ -157,14 +163,18 @@ module _ (tables : Tables) (sh : ℕ → ℕ → Option PlainShape) where
     pub there : IsEntered coexps active
     pub first : IsEntered coexps 0
 
+  -- the world and the co-expressions of a run
   pub record StoreOk (w : Knowledge) (May : ℕ → Type 0) (st : Store WaitingChain) : Type 0 where
     pub world : WorldWithin w.coexps st.world
     pub coexps : CoexpsOk w May st.active st.coexps
 
+  -- a stack that runs: its chain has the shape, and what changes is as is known
   pub record Now (w : Knowledge) (s p : ℕ) (S : PlainShape) (m : LinkedStack) : Type 0 where
     pub has : ChainOk w s p S m.chain
     pub memory : MemoryOf w m
 
+  -- something is known of a state with which all that holds; nothing is asked where the run is over, and no
+  -- state is stuck
   abbrev pub Safe : State WaitingChain LinkedStack → Type 0
   Safe (running m st) = (w : Knowledge) × (p : ℕ) × (S : PlainShape) × Now w st.active p S m
       × (sh p m.address ≡ Some S) × StoreOk w (λ i. i ≡ st.active) st

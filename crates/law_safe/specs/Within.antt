@@ -1,17 +1,14 @@
 -- Values that name no co-expression but one that is there: the first of them are so many.
-use Rattle.std.specs.Prelude.{◌≡◌, ℕ, suc, ◌<◌, List, [], ◌∷◌, length, Option, None, Some}
+use Rattle.std.specs.Prelude.{◌≡◌, ℕ, suc, ◌<◌, List, length, Option, None, Some}
+pub use Rattle.std.specs.List.{AllByRecursion as Each}
 use Rattle.icn_structs.specs.Numbered.{NumberedList}
-use Rattle.icn_value.specs.Values.{Value, ACoexp, Root, Key, Variable, Whole, Part, Item, Val, Var}
+use Rattle.icn_value.specs.Values.{Value, ACoexp, Root, Variable, Item, Val}
 use Rattle.icn_value.specs.Store.{Table, Record, Heap, KeptError, World, Setting, Names}
-use Rattle.icn_defs.specs.Rows.{Residual, VariableBytes, UndoAssign, UndoExchange, Outcome, Fails, Gives, Suspends, Error, Ends}
+use Rattle.icn_defs.specs.Rows.{Residual, Outcome, Fails, Gives, Suspends, Error, Ends}
 use Rattle.icn_defs.specs.Applying.{again}
 use Rattle.icn_defs.specs.StepRows.{OperationOrFunction, apply, list_row, record_row, text_row, coexpression_row}
 use Rattle.icn_defs.specs.Running.{words_row}
-
--- it is so of each in a list
-abbrev pub Each : {A : Type 0} → (A → Type 0) → List A → Type 0
-Each Q [] = Unit {0}
-Each Q (x ∷ xs) = Q x × Each Q xs
+use Rattle.law_rows.specs.HeldValues.{OptionBy, RootBy, VariableBy, ItemBy, PairBy, ListBy, TableBy, ResidualBy}
 
 -- a co-expression is one of the first so many; other values ask for nothing
 abbrev pub ValueWithin : ℕ → Value → Type 0
@@ -20,8 +17,7 @@ ValueWithin n value = Unit {0}
 
 -- the value, if there is one, names no other co-expression
 abbrev pub OptionWithin : ℕ → Option Value → Type 0
-OptionWithin n None = Unit {0}
-OptionWithin n (Some value) = ValueWithin n value
+OptionWithin n value = OptionBy (ValueWithin n) value
 
 -- the value that an error that is kept is about, if any
 abbrev pub KeptWithin : ℕ → Option KeptError → Type 0
@@ -30,26 +26,23 @@ KeptWithin n (Some error) = OptionWithin n error.value
 
 -- the key of a table names no other co-expression; other roots hold no value
 abbrev pub RootWithin : ℕ → Root → Type 0
-RootWithin n (Key table key) = ValueWithin n key
-RootWithin n root = Unit {0}
+RootWithin n root = RootBy (ValueWithin n) root
 
 -- what a variable is rooted in names no other co-expression
 abbrev pub VariableWithin : ℕ → Variable → Type 0
-VariableWithin n (Whole root) = RootWithin n root
-VariableWithin n (Part root place size) = RootWithin n root
+VariableWithin n variable = VariableBy (ValueWithin n) variable
 
 -- a value, or what a variable is rooted in, names no other co-expression
 abbrev pub ItemWithin : ℕ → Item → Type 0
-ItemWithin n (Val value) = ValueWithin n value
-ItemWithin n (Var variable) = VariableWithin n variable
+ItemWithin n item = ItemBy (ValueWithin n) item
 
 -- the key and the value of a pair name no other co-expression
 abbrev pub PairWithin : ℕ → Value × Value → Type 0
-PairWithin n pair = ValueWithin n pair.0 × ValueWithin n pair.1
+PairWithin n pair = PairBy (ValueWithin n) pair
 
 -- each item of a list names no other co-expression
 abbrev pub ListWithin : ℕ → NumberedList Value → Type 0
-ListWithin n list = Each (ValueWithin n) list.items
+ListWithin n list = ListBy (ValueWithin n) list
 
 -- each member of a set names no other co-expression
 abbrev pub SetWithin : ℕ → List Value → Type 0
@@ -57,7 +50,7 @@ SetWithin n members = Each (ValueWithin n) members
 
 -- the default and each pair of a table name no other co-expression
 abbrev pub TableWithin : ℕ → Table → Type 0
-TableWithin n table = ValueWithin n table.default × Each (PairWithin n) table.pairs
+TableWithin n table = TableBy (ValueWithin n) table
 
 -- each field of a record names no other co-expression
 abbrev pub RecordWithin : ℕ → Record → Type 0
@@ -85,11 +78,7 @@ pub record SettingWithin (n : ℕ) (setting : Setting) : Type 0 where
 
 -- the variables and the old values of a residual name no other co-expression
 abbrev pub ResidualWithin : ℕ → Residual → Type 0
-ResidualWithin n (VariableBytes variable place) = VariableWithin n variable
-ResidualWithin n (UndoAssign variable old) = VariableWithin n variable × ValueWithin n old
-ResidualWithin n (UndoExchange mover x y old_x old_y) =
-    VariableWithin n x × VariableWithin n y × ValueWithin n old_x × ValueWithin n old_y
-ResidualWithin n residual = Unit {0}
+ResidualWithin n residual = ResidualBy (ValueWithin n) residual
 
 -- what a row comes to names no other co-expression, nor does the setting that it leaves
 abbrev pub OutcomeWithin : ℕ → Outcome → Type 0

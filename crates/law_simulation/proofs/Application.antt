@@ -2,6 +2,7 @@
 use Rattle.std.proofs.Common.{◌≡◌, ℕ, zero, suc, ◌-◌, Bool, true, false, ◌≤◌, List, [], ◌∷◌, ◌++◌, length, reverse, option_map, take, drop, replicate, map, Option, Some, None, ℤ, refl, sym, ap, ◌∙◌, subst, arith}
 use mathlib.Core.List.{reverse_aux}
 use Rattle.std.proofs.Math.ListN.{length-reverse}
+use Rattle.std.proofs.lemmas.Bool.Decides.{nat_tests}
 use Rattle.std.specs.Prelude.{slice_get, slice_index_or, slice_set, nat_le, ◌==◌}
 use Rattle.icn_text.specs.declared.op.Op.{Op}
 use Rattle.icn_text.specs.declared.op.Op.TheVariants as Ops
@@ -12,7 +13,8 @@ use Rattle.icn_tree.specs.Trees.{Tree, Trees, NoTrees, Initial}
 use Rattle.icn_value.specs.Values as V
 use Rattle.icn_value.specs.Values.{Value, Null, Item, Val}
 use Rattle.icn_value.specs.Store.{list_at, record_at}
-use Rattle.icn_defs.specs.Conversions.{place_of}
+use Rattle.icn_defs.specs.Arities.{arity}
+use Rattle.icn_defs.specs.Conversions.{position_of}
 use Rattle.icn_defs.specs.StepRows.{coexpression_row, list_row, record_row, apply, Operation, Function}
 use Rattle.icn_meaning.specs.Program as MP
 use Rattle.icn_meaning.specs.Contexts as M
@@ -45,6 +47,9 @@ fitted_filled n vs = fitted_of n n vs (omega arith)
 same_items : (vs : List Value) → MC.items vs ≡ map S.plain vs
 same_items [] = refl
 same_items (v ∷ vs) = ap (λ l. Val v ∷ l) (same_items vs)
+
+pub equal_self : (a : ℕ) → (a == a) ≡ true
+equal_self a = grind (arith, nat_tests)
 
 same_argument : (p : Option ℕ) (xs : List Item) → MC.argument_at p xs ≡ S.argument_at p xs
 same_argument None xs = refl
@@ -286,10 +291,10 @@ module _ (G : Ground) where
       Reaches G (MC.choose i v items k r st)
       (S.integer_called (machine G) v i items (linked_of (chain xs s z o) p st) (store_of st ls))
   on_choose {k = k'} {r = r'} {xs = xs} {s = s} {z = z} {o = o} (Some i) v items p st ls live k r =
-      subst (λ x. Reaches G (MC.choose_item (MC.argument_at (place_of i (length items)) items) k' r' st)
+      subst (λ x. Reaches G (MC.choose_item (MC.argument_at (position_of i (length items)) items) k' r' st)
       (S.pushed_or_fails (machine G) x (linked_of (chain xs s z o) p st) (store_of st ls)))
-      (same_argument (place_of i (length items)) items)
-      (on_chosen (MC.argument_at (place_of i (length items)) items) p st ls live k r)
+      (same_argument (position_of i (length items)) items)
+      (on_chosen (MC.argument_at (position_of i (length items)) items) p st ls live k r)
   on_choose {xs = xs} None v items p st ls live k r = errors_agree G p xs 106 (Some v) st ls live r
 
   on_invoke : {first : Bool} {n' : Nest} {v : Surroundings} {k : Works} {r : Choices} {xs : List Item}
@@ -343,7 +348,7 @@ module _ (G : Ground) where
       {s : Suspensions} {z : List ℕ} {o : Outer} (op : Op) (items : List Item) (p : ℕ) (st : M.Store)
       (ls : List (S.Coexp WaitingChain)) → LiveCoexpressions G first st.active st.coexpressions ls
       → OfSurroundings G.L first n' v z o → OfWorks G.L first k p xs z o → OfChoices G.L first r s z o →
-      Reaches G (MC.apply_form G.L.program (Operating op) items v k r st)
+      Reaches G (MC.apply_op true op items v k r st)
       (S.operate (machine G) op items (linked_of (chain xs s z o) p st) (store_of st ls))
   on_operated {xs = xs} Ops.Refresh (x ∷ items) p st ls live v k r =
       on_value G p xs x st ls _ _ (same_activation G v) live r
@@ -354,6 +359,20 @@ module _ (G : Ground) where
       (S.here (machine G) (linked_of (chain xs s z o) p st) (store_of st ls)))
       (linked_of (chain xs s z o) p st) (store_of st ls))) (sym (same_activation G v))
       (on_answer G (apply st.names (Operation op) items (MT.setting_in (activation_in o) st)) st ls live k r)
+
+  -- an operation has all its operands
+  on_operation : {first : Bool} {n' : Nest} {v : Surroundings} {k : Works} {r : Choices} {xs : List Item}
+      {s : Suspensions} {z : List ℕ} {o : Outer} (op : Op) (items : List Item) (p : ℕ) (st : M.Store)
+      (ls : List (S.Coexp WaitingChain)) → arity op ≡ length items
+      → LiveCoexpressions G first st.active st.coexpressions ls
+      → OfSurroundings G.L first n' v z o → OfWorks G.L first k p xs z o → OfChoices G.L first r s z o →
+      Reaches G (MC.apply_form G.L.program (Operating op) items v k r st)
+      (S.operate (machine G) op items (linked_of (chain xs s z o) p st) (store_of st ls))
+  on_operation {v = v'} {k = k'} {r = r'} {xs = xs} {s = s} {z = z} {o = o} op items p st ls e live v k r =
+      subst (λ all. Reaches G (MC.apply_op all op items v' k' r' st)
+      (S.operate (machine G) op items (linked_of (chain xs s z o) p st) (store_of st ls)))
+      (sym (ap (λ n. length items == n) e ∙ equal_self (length items)))
+      (on_operated op items p st ls live v k r)
 
   on_calling : {first : Bool} {n' : Nest} {v : Surroundings} {k : Works} {r : Choices} {n : ℕ}
       {xs : List Item} {s : Suspensions} {z : List ℕ} {o : Outer} (items : List Item) (p : ℕ) (st : M.Store)
@@ -461,7 +480,7 @@ module _ (G : Ground) where
             S.turn (code_of G) (store_of st ls) (S.operate (machine G) op items m)) en ez;
         whole = sets_no_label G q (chain zs s z o) st ls h refl;
       })
-      (on_turn G st ls _ _ (on_operated op (reverse xs) (suc q) _ ls live v k r))
+      (on_turn G st ls _ _ (on_operation op (reverse xs) (suc q) _ ls (reversed xs en) live v k r))
   on_applied {ys = ys} {zs = zs} {s = s} {z = z} {o = o} xs w q st ls live f_call en ez h v k r =
       follows_by_step G w (record {
         by = instruction_step G q (chain zs s z o) st ls h

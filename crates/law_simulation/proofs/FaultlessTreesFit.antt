@@ -96,7 +96,18 @@ fit_prefix : {L : Linkage} {N : SymbolTable} {j : ℕ} {n : Nest} {e : Tree} (pl
     → is_before o ≡ true → Fits L N j n e → Fits L N j (in_mark n) e → Fits L N j n (Prefix place o e)
 fit_prefix place Signs.At h e m = fits_activate e
 fit_prefix place Signs.Bar h e m = fits_repeated m
-fit_prefix place _ h e m = fits_prefix h e
+fit_prefix place Signs.Slash h e m = fits_prefix refl e
+fit_prefix place Signs.Backslash h e m = fits_prefix refl e
+fit_prefix place Signs.Dot h e m = fits_prefix refl e
+fit_prefix place Signs.Plus h e m = fits_prefix refl e
+fit_prefix place Signs.Minus h e m = fits_prefix refl e
+fit_prefix place Signs.Star h e m = fits_prefix refl e
+fit_prefix place Signs.Tilde h e m = fits_prefix refl e
+fit_prefix place Signs.Bang h e m = fits_prefix refl e
+fit_prefix place Signs.Question h e m = fits_prefix refl e
+fit_prefix place Signs.Equal h e m = fits_prefix refl e
+fit_prefix place Signs.Caret h e m = fits_prefix refl e
+fit_prefix place _ h e m = absurd (false≢true h)
 
 fit_plain : {L : Linkage} {N : SymbolTable} {j : ℕ} {n : Nest} {a b : Tree} (place : Place) (o : Operator)
     → is_between o ≡ true → Fits L N j n a → Fits L N j (in_mark n) a → Fits L N j n b
@@ -107,7 +118,9 @@ fit_plain place Signs.Bar h a m b s = fits_or m b
 fit_plain place Signs.Backslash h a m b s = fits_limit m b
 fit_plain place Signs.At h a m b s = fits_at a b
 fit_plain place Signs.Bang h a m b s = fits_bang a b
-fit_plain place _ h a m b s = fits_infix h a b
+fit_plain place Signs.Dot h a m b s = absurd (false≢true h)
+fit_plain place Signs.Tilde h a m b s = absurd (false≢true h)
+fit_plain place _ h a m b s = fits_infix refl a b
 
 fit_update : {L : Linkage} {N : SymbolTable} {j : ℕ} {n : Nest} {a b : Tree} (place : Place) (o : Operator)
     → is_augmented o ≡ true → Fits L N j n a → Fits L N j n b → Fits L N j (in_scan n) b
@@ -119,7 +132,12 @@ fit_update place Signs.Assign h a b s = absurd (false≢true h)
 fit_update place Signs.Swap h a b s = absurd (false≢true h)
 fit_update place Signs.ReversibleAssign h a b s = absurd (false≢true h)
 fit_update place Signs.ReversibleSwap h a b s = absurd (false≢true h)
-fit_update place _ h a b s = fits_update h a b
+fit_update place Signs.Bang h a b s = absurd (false≢true h)
+fit_update place Signs.Backslash h a b s = absurd (false≢true h)
+fit_update place Signs.Bar h a b s = absurd (false≢true h)
+fit_update place Signs.Dot h a b s = absurd (false≢true h)
+fit_update place Signs.Tilde h a b s = absurd (false≢true h)
+fit_update place _ h a b s = fits_update refl a b
 
 fit_infix : {L : Linkage} {N : SymbolTable} {j : ℕ} {n : Nest} {a b : Tree} (place : Place) (o : Infix)
     → IsInfix o → Fits L N j n a → Fits L N j (in_mark n) a → Fits L N j n b → Fits L N j (in_scan n) b

@@ -7,7 +7,7 @@ use Rattle.std.specs.Option.{option_map}
 use Rattle.std.specs.Str.{bytes_eq}
 use Rattle.std.proofs.lemmas.Bool.{false≢true, or_left, or_right}
 use Rattle.std.proofs.lemmas.Bool.Decides.{nat_tests}
-use Rattle.law_simulation.proofs.WorkSteps.{equal_self}
+use Rattle.law_simulation.proofs.Application.{equal_self}
 use Rattle.std.proofs.lemmas.List.Folds.{find_at, list_any-append}
 use Rattle.std.proofs.lemmas.Iterator.Adapters.{position_from-zero}
 use Rattle.std.proofs.lemmas.Option.{get_or_from_slice_get}

@@ -1,12 +1,13 @@
 -- The first law: one step of the meaning, form by form.
-use Rattle.std.proofs.Common.{◌≡◌, ℕ, suc, Bool, true, false, ◌≤◌, inl, inr, ⊎_elim, List, [], Option, Some, None, refl, sym, subst, arith}
+use Rattle.std.proofs.Common.{◌≡◌, ℕ, suc, Bool, false, ◌≤◌, inl, inr, ⊎_elim, List, [], Option, Some, None, refl, sym, ap, subst, arith}
+use Rattle.icn_text.specs.declared.op.Op.{Op}
 use Rattle.icn_tree.specs.declared.token.Operator.{Operator}
 use Rattle.icn_tree.specs.declared.token.Operator.TheVariants as Signs
 use Rattle.icn_tree.specs.declared.tree.Place.{Place}
 use Rattle.icn_tree.specs.Trees as T
 use Rattle.icn_tree.specs.Trees.{Tree, Trees, NoTrees, More, elements_of}
 use Rattle.icn_value.specs.Values as V
-use Rattle.icn_value.specs.Values.{Value, Item, Val, Var}
+use Rattle.icn_value.specs.Values.{Item, Var}
 use Rattle.icn_value.specs.Store.{KeptError}
 use Rattle.icn_defs.specs.Keywords.{Standing, keyword_item}
 use Rattle.icn_meaning.specs.Program.{meaning_of}
@@ -21,7 +22,7 @@ use Rattle.icn_meaning.specs.Meaning as MM
 use Rattle.icn_run.specs.Chains.{Label, Chain, chain, Suspensions, Outer, mark, WaitingChain}
 use Rattle.icn_run.specs.Step as S
 use Rattle.law_simulation.specs.Linkage.{l_null}
-use Rattle.law_simulation.specs.StandingCode.{Nest, in_mark, IsApplied, i_listing, i_call, i_cocall, i_subscript, i_subscripts, i_section, i_field, i_prefix, i_activate, i_infix, i_at, i_bang, i_to, is_prefix, is_infix, is_empty, w_mark, Stands, s_empty, s_constant, s_identifier, s_keyword, s_fail_keyword, s_applied, s_last, s_before, s_final, s_passed, s_bounded, s_repeated, s_not, s_both, s_scan, s_or, s_limit, s_update_both, s_update_scan, s_update, s_if, s_if_else, s_case, s_while, s_until, s_every, s_repeat, s_create, s_next, s_fail, s_break, s_return, s_suspend, s_nil, s_cons, s_present}
+use Rattle.law_simulation.specs.StandingCode.{Nest, in_mark, IsApplied, i_listing, i_call, i_cocall, i_subscript, i_subscripts, i_section, i_field, i_prefix, i_activate, i_infix, i_at, i_bang, i_to, is_empty, w_mark, Stands, s_empty, s_constant, s_identifier, s_keyword, s_fail_keyword, s_applied, s_last, s_before, s_final, s_passed, s_bounded, s_repeated, s_not, s_both, s_scan, s_or, s_limit, s_update_both, s_update_scan, s_update, s_if, s_if_else, s_case, s_while, s_until, s_every, s_repeat, s_create, s_next, s_fail, s_break, s_return, s_suspend, s_nil, s_cons, s_present}
 use Rattle.law_simulation.specs.Relation.{proc_in, activation_in, OfWorks, k_goto, k_esusp, k_raise, k_args, k_then, k_cut, k_limit, k_scan, k_update_both, k_update_scan, k_update, k_each, k_select, k_return, k_suspend, OfSurroundings, v_mark, m_plain, m_loop, m_control, a_go, a_give, a_fail, a_pass, a_body, a_off, OfChoices, r_mark0, r_do, r_again, OfAll, linked_of, store_of, Rel, at_eval, at_succeed, at_fail, at_hop, at_done, at_end, at_over, at_lost}
 use Rattle.law_simulation.specs.Ground.{Ground, machine}
 use Rattle.law_simulation.proofs.SimulationWords.{LinkedState, Reaches, Follows, LiveCoexpressions, running_at, silent_weight, total, first_weight, weight, reached_already, follows_silently, follows_by_step, steps_to_instruction, opens, opens_flagged, loads, on_turn}
@@ -34,17 +35,16 @@ use Rattle.law_simulation.proofs.ChoiceSteps.{on_choices}
 
 -- Forms that are something applied to operands
 
-before_of : (program : _) (o : Operator) (e : Tree) (v : Surroundings) (k : Works) (r : Choices)
-    (st : M.Store) → is_prefix o ≡ true
-    → ME.before program o e v k r st ≡ MC.operands program (Operating (prefix_op o)) [] (More e NoTrees) v k
-    r st
+before_of : (program : _) (o : Operator) {op : Op} (e : Tree) (v : Surroundings) (k : Works) (r : Choices)
+    (st : M.Store) → prefix_op o ≡ Some op
+    → ME.before program o e v k r st ≡ MC.operands program (Operating op) [] (More e NoTrees) v k r st
 before_of program Signs.Bar e v k r st h = absurd (cc)
 before_of program Signs.At e v k r st h = absurd (cc)
-before_of program o e v k r st h = refl
+before_of program o e v k r st h = ap (λ (found : Option Op). ME.operate program found (More e NoTrees) v k r st) h
 
-between_of : (program : _) (o : Operator) (a b : Tree) (v : Surroundings) (k : Works) (r : Choices)
-    (st : M.Store) → is_infix o ≡ true
-    → ME.between program o a b v k r st ≡ MC.operands program (Operating (infix_op o)) []
+between_of : (program : _) (o : Operator) {op : Op} (a b : Tree) (v : Surroundings) (k : Works) (r : Choices)
+    (st : M.Store) → infix_op o ≡ Some op
+    → ME.between program o a b v k r st ≡ MC.operands program (Operating op) []
     (More a (More b NoTrees)) v k r st
 between_of program Signs.Ampersand a b v k r st h = absurd (cc)
 between_of program Signs.Question a b v k r st h = absurd (cc)
@@ -52,7 +52,8 @@ between_of program Signs.Bar a b v k r st h = absurd (cc)
 between_of program Signs.Backslash a b v k r st h = absurd (cc)
 between_of program Signs.At a b v k r st h = absurd (cc)
 between_of program Signs.Bang a b v k r st h = absurd (cc)
-between_of program o a b v k r st h = refl
+between_of program o a b v k r st h =
+    ap (λ (found : Option Op). ME.operate program found (More a (More b NoTrees)) v k r st) h
 
 applied_of : {e : Tree} {form : Application} {es : Trees} (program : _) (v : Surroundings) (k : Works)
     (r : Choices) (st : M.Store) → IsApplied e form es

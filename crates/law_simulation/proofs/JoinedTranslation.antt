@@ -26,7 +26,7 @@ use Rattle.icn_meaning.specs.Program.{Routine, Constructor, program_of, index_of
 use Rattle.icn_meaning.specs.Calls.{fields_in}
 use Rattle.icn_run.specs.Step as S
 use Rattle.icn_run.specs.Step.{members_of}
-use Rattle.law_simulation.specs.Translation.{SymbolTable, procedure}
+use Rattle.law_simulation.specs.Translation.{procedure}
 use Rattle.law_simulation.specs.Linkage.{Linkage, Loads, l_local, l_static, l_global}
 use Rattle.law_simulation.specs.Mentions.{TableMention, AnInteger, AText, ASet, AField, integers_among, texts_among, sets_among, fields_among}
 use Rattle.law_simulation.specs.JoinedFiles.{routines, routine_mentions, code_mentions, record_fields, fields_of, string_mentions, strings_of, sets_of, text_index, variable_by, names_in, record_entry, start_by, start, global_entry, procedure_entry, code_with}

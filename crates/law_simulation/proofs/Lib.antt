@@ -9,6 +9,7 @@ pub mod FormSteps
 pub mod FirstLawForRuns
 pub mod FirstLaw
 pub mod Segments
+pub mod OperatorForms
 pub mod StandingTranslation
 pub mod Routines
 pub mod FirstLawForFiles

@@ -7,7 +7,7 @@ use Rattle.icn_code.specs.declared.instr.Instr.{Instr}
 use Rattle.icn_code.specs.declared.instr.Instr.TheVariants as I
 use Rattle.icn_run.specs.LinkedStep.{is_chfail_to}
 use Rattle.law_simulation.specs.Linkage.{Linkage, Here}
-use Rattle.law_simulation.proofs.WorkSteps.{equal_self}
+use Rattle.law_simulation.proofs.Application.{equal_self}
 use Rattle.std.specs.Prelude.{◌==◌}
 use Rattle.std.proofs.lemmas.Bool.Decides.{nat_tests}
 

@@ -1,5 +1,5 @@
 -- The translation's code of a tree stands where it sits.
-use Rattle.std.proofs.Common.{◌≡◌, ℕ, zero, suc, ◌+◌, ◌-◌, Bool, true, false, ◌≤◌, List, [], ◌∷◌, ◌++◌, replicate, Some, refl, sym, ap, ◌∙◌, subst, arith}
+use Rattle.std.proofs.Common.{◌≡◌, ℕ, zero, suc, ◌+◌, ◌-◌, Bool, true, false, ◌≤◌, List, [], ◌∷◌, ◌++◌, replicate, Option, Some, refl, sym, ap, ◌∙◌, subst, arith}
 use Rattle.std.specs.Prelude.{codes, if◌then◌else◌}
 use Rattle.std.specs.Str.{bytes_eq}
 use Rattle.icn_code.specs.declared.instr.Instr.{Instr}
@@ -9,21 +9,21 @@ use Rattle.icn_text.specs.declared.op.Op.{Op}
 use Rattle.icn_text.specs.declared.op.Op.TheVariants as Ops
 use Rattle.icn_tree.specs.declared.token.Operator.{Operator}
 use Rattle.icn_tree.specs.declared.tree.Place.{Place}
-use Rattle.icn_tree.specs.declared.token.Operator.TheVariants as Signs
 use Rattle.icn_tree.specs.Trees as T
 use Rattle.icn_tree.specs.declared.tree.Infix.TheVariants as Infixes
 use Rattle.icn_tree.specs.Trees.{Tree, Trees, MaybeTree, Clauses, Absent, Present, NoTrees, More, Default, Guarded, NoClauses, MoreClauses, elements_of}
 use Rattle.icn_value.specs.Values.{Item}
 use Rattle.icn_meaning.specs.Contexts.{Application, Operating}
-use Rattle.icn_meaning.specs.Operators.{prefix_op, infix_op, section_op}
+use Rattle.icn_meaning.specs.Operators.{section_op}
 use Rattle.icn_tree.specs.declared.tree.SectionKind.TheVariants.{Between, Forward, Backward}
 use Rattle.icn_meaning.specs.Succeed.{default_of}
 use Rattle.icn_meaning.specs.Evaluate.{step_of, creations}
 use Rattle.law_simulation.specs.Translation as X
 use Rattle.law_simulation.specs.Translation.{SymbolTable, Depth, LoopExits, deeper, size, sizes, code, operands, elements_size, elements_code, body_size, body_code, literal_code}
 use Rattle.law_simulation.specs.Linkage.{Linkage, Here, Loads, l_null, l_integer, l_string, l_cset, l_local, l_static, l_global, IsAppliedBy, f_operation, f_call, f_spread, f_list, f_field, f_activate, Opens, o_mark, o_mark0}
-use Rattle.law_simulation.specs.StandingCode.{is_prefix, is_infix, is_update, LeavesLoop, b_mark, b_scan, b_loop, b_control, b_each, Nexts, n_mark, n_scan, n_loop, n_each, Nest, top, in_create, in_mark, in_scan, in_loop, in_control, in_each, IsApplied, i_listing, i_call, i_cocall, i_subscript, i_subscripts, i_section, i_field, i_prefix, i_activate, i_infix, i_at, i_bang, i_to, d_activate, d_operate, tree_count, Stands, s_empty, s_constant, s_identifier, s_keyword, s_fail_keyword, s_applied, s_last, s_before, s_final, s_passed, s_bounded, s_repeated, s_not, s_both, s_scan, s_or, s_limit, s_update_both, s_update_scan, s_update, s_if, s_if_else, s_case, s_while, s_until, s_every, s_repeat, s_create, s_next, s_fail, s_break, s_return, s_suspend, StandsAll, s_nil, s_cons, StandsMaybe, s_absent, s_present, StandsCases, s_none, s_default, s_pass, s_guard, s_body, is_empty}
-use Rattle.law_simulation.specs.Translatable.{is_prefix_sign, is_infix_sign, depths, ways_of, Fits, fits_empty, fits_constant, fits_identifier, fits_keyword, fits_fail_keyword, fits_last, fits_before, fits_final, fits_passed, fits_bounded, fits_listing, fits_call, fits_cocall, fits_subscript, fits_section, fits_field, fits_prefix, fits_activate, fits_repeated, fits_not, fits_both, fits_scan, fits_or, fits_limit, fits_infix, fits_at, fits_bang, fits_update_both, fits_update_scan, fits_update_at, fits_update, fits_to, fits_if, fits_if_else, fits_case, fits_while, fits_until, fits_every, fits_repeat, fits_create, fits_next, fits_fail, fits_break, fits_return, fits_suspend, FitsAll, fits_nil, fits_cons, FitsBodies, fits_no_body, fits_body, outside, HasLoop, h_mark, h_scan, h_loop, h_control, h_each, HasNext, x_mark, x_scan, x_loop, x_each, FitsMaybe, fits_absent, fits_present, FitsDefault, fits_no_default, fits_default, FitsCases, fits_no_case, fits_other, fits_guard}
+use Rattle.law_simulation.specs.StandingCode.{LeavesLoop, b_mark, b_scan, b_loop, b_control, b_each, Nexts, n_mark, n_scan, n_loop, n_each, Nest, top, in_create, in_mark, in_scan, in_loop, in_control, in_each, IsApplied, i_listing, i_call, i_cocall, i_subscript, i_subscripts, i_section, i_field, i_prefix, i_activate, i_infix, i_at, i_bang, i_to, d_activate, d_operate, tree_count, Stands, s_empty, s_constant, s_identifier, s_keyword, s_fail_keyword, s_applied, s_last, s_before, s_final, s_passed, s_bounded, s_repeated, s_not, s_both, s_scan, s_or, s_limit, s_update_both, s_update_scan, s_update, s_if, s_if_else, s_case, s_while, s_until, s_every, s_repeat, s_create, s_next, s_fail, s_break, s_return, s_suspend, StandsAll, s_nil, s_cons, StandsMaybe, s_absent, s_present, StandsCases, s_none, s_default, s_pass, s_guard, s_body, is_empty}
+use Rattle.law_simulation.specs.Translatable.{depths, ways_of, Fits, fits_empty, fits_constant, fits_identifier, fits_keyword, fits_fail_keyword, fits_last, fits_before, fits_final, fits_passed, fits_bounded, fits_listing, fits_call, fits_cocall, fits_subscript, fits_section, fits_field, fits_prefix, fits_activate, fits_repeated, fits_not, fits_both, fits_scan, fits_or, fits_limit, fits_infix, fits_at, fits_bang, fits_update_both, fits_update_scan, fits_update_at, fits_update, fits_to, fits_if, fits_if_else, fits_case, fits_while, fits_until, fits_every, fits_repeat, fits_create, fits_next, fits_fail, fits_break, fits_return, fits_suspend, FitsAll, fits_nil, fits_cons, FitsBodies, fits_no_body, fits_body, outside, HasLoop, h_mark, h_scan, h_loop, h_control, h_each, HasNext, x_mark, x_scan, x_loop, x_each, FitsMaybe, fits_absent, fits_present, FitsDefault, fits_no_default, fits_default, FitsCases, fits_no_case, fits_other, fits_guard}
+use Rattle.law_simulation.proofs.OperatorForms.{prefix_is, prefix_arity, infix_is, infix_arity, update_is, update_arity}
 use Rattle.law_simulation.proofs.Segments.{Plain, CodePart, part_nil, part_cons, part_append, part_map, part_repeat}
 
 loads_plain : {L : Linkage} {j : ℕ} {i : Instr} {x : Item} → Loads L j i x → Plain i
@@ -72,55 +72,6 @@ count_creations place es = ap tree_count (elements_creations place es) ∙ same 
 pub same_empty : (d : Tree) → X.is_empty d ≡ is_empty d
 same_empty T.Empty = refl
 same_empty d = refl
-
--- what holds of the operators that are operations
-prefix_facts : (o : Operator) → is_prefix_sign o ≡ true → (is_prefix o ≡ true)
-    × (X.prefix_of o ≡ X.Operating (prefix_op o)) × (arity (prefix_op o) ≡ 1)
-prefix_facts Signs.Slash h = (refl, refl, refl)
-prefix_facts Signs.Backslash h = (refl, refl, refl)
-prefix_facts Signs.Dot h = (refl, refl, refl)
-prefix_facts Signs.Plus h = (refl, refl, refl)
-prefix_facts Signs.Minus h = (refl, refl, refl)
-prefix_facts Signs.Star h = (refl, refl, refl)
-prefix_facts Signs.Tilde h = (refl, refl, refl)
-prefix_facts Signs.Bang h = (refl, refl, refl)
-prefix_facts Signs.Question h = (refl, refl, refl)
-prefix_facts Signs.Equal h = (refl, refl, refl)
-prefix_facts Signs.Caret h = (refl, refl, refl)
-prefix_facts o h = absurd (cc)
-
-infix_facts : (o : Operator) → is_infix_sign o ≡ true → (is_infix o ≡ true) × (is_update o ≡ true)
-    × (X.form_of o ≡ X.Applying (I.Op (infix_op o))) × (arity (infix_op o) ≡ 2)
-infix_facts Signs.Plus h = (refl, refl, refl, refl)
-infix_facts Signs.Minus h = (refl, refl, refl, refl)
-infix_facts Signs.Star h = (refl, refl, refl, refl)
-infix_facts Signs.Slash h = (refl, refl, refl, refl)
-infix_facts Signs.Percent h = (refl, refl, refl, refl)
-infix_facts Signs.Caret h = (refl, refl, refl, refl)
-infix_facts Signs.Less h = (refl, refl, refl, refl)
-infix_facts Signs.LessEqual h = (refl, refl, refl, refl)
-infix_facts Signs.Equal h = (refl, refl, refl, refl)
-infix_facts Signs.GreaterEqual h = (refl, refl, refl, refl)
-infix_facts Signs.Greater h = (refl, refl, refl, refl)
-infix_facts Signs.NotEqual h = (refl, refl, refl, refl)
-infix_facts Signs.LessLess h = (refl, refl, refl, refl)
-infix_facts Signs.LessLessEqual h = (refl, refl, refl, refl)
-infix_facts Signs.EqualEqual h = (refl, refl, refl, refl)
-infix_facts Signs.GreaterGreaterEqual h = (refl, refl, refl, refl)
-infix_facts Signs.GreaterGreater h = (refl, refl, refl, refl)
-infix_facts Signs.NotEqualEqual h = (refl, refl, refl, refl)
-infix_facts Signs.EqualEqualEqual h = (refl, refl, refl, refl)
-infix_facts Signs.NotEqualEqualEqual h = (refl, refl, refl, refl)
-infix_facts Signs.BarBar h = (refl, refl, refl, refl)
-infix_facts Signs.BarBarBar h = (refl, refl, refl, refl)
-infix_facts Signs.PlusPlus h = (refl, refl, refl, refl)
-infix_facts Signs.MinusMinus h = (refl, refl, refl, refl)
-infix_facts Signs.StarStar h = (refl, refl, refl, refl)
-infix_facts Signs.Assign h = (refl, refl, refl, refl)
-infix_facts Signs.Swap h = (refl, refl, refl, refl)
-infix_facts Signs.ReversibleAssign h = (refl, refl, refl, refl)
-infix_facts Signs.ReversibleSwap h = (refl, refl, refl, refl)
-infix_facts o h = absurd (cc)
 
 module _ (L : Linkage) (N : SymbolTable) (j : ℕ) where
   abbrev Good : Nest → Tree → ℕ → Type 0
@@ -175,106 +126,44 @@ module _ (L : Linkage) (N : SymbolTable) (j : ℕ) where
 
   -- the codes of forms that an operator chooses
   prefix_by : {n : Nest} {place : Place} {o : Operator} {e : Tree} (p : ℕ) (op : Op)
-      → X.prefix_of o ≡ X.Operating op
+      → X.prefix_of o ≡ Some (X.Operating op)
       → CodePart L j p (size (depths n) e + 1) (code N (depths n) (ways_of n) p e ++ I.Op op ∷ [])
       (Stands L j n (T.Prefix place o e) p (p + (size (depths n) e + 1))) → Good n (T.Prefix place o e) p
   prefix_by {n} {place} {o} {e} p op eq g = let D = depths n in let W = ways_of n in
-      let Q : X.PrefixForm → Type 0 = λ w.
-      CodePart L j p (elim w as (λ x. ℕ) [
-        | X.Activating ↦ size D e + 2
-        | X.Repeating ↦
-            size (deeper D) e + 3
-        | X.Operating op ↦ size D e + 1
-      ])
-      (elim w as (λ x. List Instr) [
-        | X.Activating ↦ I.Pnull ∷ code N D W (p + 1) e ++ I.Coact
-            ∷ []
-        | X.Repeating ↦ I.Mark0 ∷ code N (deeper D) W (p + 1) e
-            ++ (I.Chfail p ∷ I.Esusp ∷ [])
-        | X.Operating op ↦ code N D W p e ++ I.Op op ∷ []
-      ])
-      (Stands L j n (T.Prefix place o e) p
-      (p + (elim w as (λ x. ℕ) [
-        | X.Activating ↦ size D e + 2
-        | X.Repeating ↦
-            size (deeper D) e + 3
-        | X.Operating op ↦ size D e + 1
-      ]))) in
+      let Q : Option X.PrefixForm → Type 0 = λ form.
+      CodePart L j p (X.prefix_size form (size D e) (size (deeper D) e))
+      (X.prefix_code form (λ p. code N D W p e) (λ p. code N (deeper D) W p e) p)
+      (Stands L j n (T.Prefix place o e) p (p + X.prefix_size form (size D e) (size (deeper D) e))) in
       subst Q (sym eq) g
 
   infix_by : {n : Nest} {place : Place} {o : Operator} {a b : Tree} (p : ℕ) (i : Instr)
-      → X.form_of o ≡ X.Applying i → CodePart L j p (size (depths n) a + size (depths n) b + 1)
+      → X.form_of o ≡ Some (X.Applying i) → CodePart L j p (size (depths n) a + size (depths n) b + 1)
       (code N (depths n) (ways_of n) p a
       ++ (code N (depths n) (ways_of n) (p + size (depths n) a) b ++ i ∷ []))
       (Stands L j n (T.Binary place (Infixes.Plain o) a b) p
       (p + (size (depths n) a + size (depths n) b + 1))) → Good n (T.Binary place (Infixes.Plain o) a b) p
   infix_by {n} {place} {o} {a} {b} p i eq g = let D = depths n in let W = ways_of n in
-      let Q : X.BinaryForm → Type 0 = λ w. CodePart L j p
-      (elim w as (λ x. ℕ) [
-        | X.Both ↦ size D a + size D b + 1
-        | X.Scanning ↦
-            size D a + size D b + 2
-        | X.Either ↦ size (deeper D) a + size D b + 3
-        | X.Limiting ↦
-            size D b + size (deeper D) a + 2
-        | X.Applying i ↦ size D a + size D b + 1
-      ])
-      (elim w as (λ x. List Instr) [
-        | X.Both ↦ code N D W p a ++ I.Pop ∷ code N D W (p + size D a + 1) b
-        | X.Scanning ↦ code N D W p a ++ I.Bscan ∷ code N D W (p + size D a + 1) b ++ I.Escan ∷ []
-        | X.Either ↦ (let m = size (deeper D) a in let n = size D b in I.Mark (p + m + 3)
-            ∷ code N (deeper D) W (p + 1) a ++ (I.Esusp ∷ I.Goto (p + m + 3 + n) ∷ code N D W (p + m + 3) b))
-        | X.Limiting ↦ code N D W p b ++ I.Limit ∷ code N (deeper D) W (p + size D b + 1) a ++ I.Lsusp ∷ []
-        | X.Applying i ↦ code N D W p a ++ (code N D W (p + size D a) b ++ i ∷ [])
-      ])
+      let Q : Option X.BinaryForm → Type 0 = λ form.
+      CodePart L j p (X.plain_size form (size D a) (size (deeper D) a) (size D b))
+      (X.plain_code form (size D a) (size (deeper D) a) (size D b) (λ p. code N D W p a)
+      (λ p. code N (deeper D) W p a) (λ p. code N D W p b) p)
       (Stands L j n (T.Binary place (Infixes.Plain o) a b) p
-      (p + (elim w as (λ x. ℕ) [
-        | X.Both ↦ size D a + size D b + 1
-        | X.Scanning ↦
-            size D a + size D b + 2
-        | X.Either ↦ size (deeper D) a + size D b + 3
-        | X.Limiting ↦
-            size D b + size (deeper D) a + 2
-        | X.Applying i ↦ size D a + size D b + 1
-      ]))) in
+      (p + X.plain_size form (size D a) (size (deeper D) a) (size D b))) in
       subst Q (sym eq) g
 
   update_by : {n : Nest} {place : Place} {o : Operator} {a b : Tree} (p : ℕ) (i : Instr)
-      → X.form_of o ≡ X.Applying i → CodePart L j p (size (depths n) a + size (depths n) b + 3)
+      → X.update_of o ≡ Some (X.UpdatesBy i) → CodePart L j p (size (depths n) a + size (depths n) b + 3)
       (code N (depths n) (ways_of n) p a
       ++ (I.Dup ∷ code N (depths n) (ways_of n) (p + size (depths n) a + 1) b
       ++ (i ∷ I.Op Ops.Assign ∷ [])))
       (Stands L j n (T.Binary place (Infixes.Augmented o) a b) p
       (p + (size (depths n) a + size (depths n) b + 3))) → Good n (T.Binary place (Infixes.Augmented o) a b) p
   update_by {n} {place} {o} {a} {b} p i eq g = let D = depths n in let W = ways_of n in
-      let Q : X.BinaryForm → Type 0 = λ w. CodePart L j p
-      (elim w as (λ x. ℕ) [
-        | X.Both ↦ size D a + size D b + 1
-        | X.Scanning ↦
-            size D a + size D b + 4
-        | X.Either ↦ 0
-        | X.Limiting ↦ 0
-        | X.Applying i ↦ size D a + size D b + 3
-      ])
-      (elim w as (λ x. List Instr) [
-        | X.Both ↦ code N D W p a ++ (code N D W (p + size D a) b ++ I.Op Ops.Assign ∷ [])
-        | X.Scanning ↦ code N D W p a ++ (I.Dup ∷ I.Bscan ∷ code N D W (p + size D a + 2) b
-            ++ (I.Escan ∷ I.Op Ops.Assign ∷ []))
-        | X.Either ↦ []
-        | X.Limiting ↦ []
-        | X.Applying i ↦ code N D W p a
-            ++ (I.Dup ∷ code N D W (p + size D a + 1) b ++ (i ∷ I.Op Ops.Assign ∷ []))
-      ])
+      let Q : Option X.UpdateForm → Type 0 = λ form.
+      CodePart L j p (X.augmented_size form (size D a) (size D b))
+      (X.augmented_code form (size D a) (λ p. code N D W p a) (λ p. code N D W p b) p)
       (Stands L j n (T.Binary place (Infixes.Augmented o) a b) p
-      (p + (elim w as (λ x. ℕ) [
-        | X.Both ↦ size D a + size D b + 1
-        | X.Scanning ↦
-            size D a + size D b + 4
-        | X.Either ↦ 0
-        | X.Limiting ↦ 0
-        | X.Applying i ↦
-            size D a + size D b + 3
-      ]))) in
+      (p + X.augmented_size form (size D a) (size D b))) in
       subst Q (sym eq) g
 
   keyword_by : {n : Nest} {e : Tree} {p q : ℕ} (b : Bool) (text : List ℕ) (i : Instr)
@@ -716,28 +605,28 @@ module _ (L : Linkage) (N : SymbolTable) (j : ℕ) where
         (λ x. ends refl (omega arith) (s_fail_keyword e1 x.0)))
     translation_stands p (fits_bounded {n = n} {d = td} ne d e) =
         bounded_by p ne (translation_stands (p + 1) d) (translation_stands (p + size (depths (in_mark n)) td + 2) e)
-    translation_stands p (fits_prefix {n = n} {o = o} {e = te} h e) = let f = prefix_facts o h in
-        prefix_by p (prefix_op o) f.1 (part_map L j
+    translation_stands p (fits_prefix {n = n} {o = o} {op = op} {e = te} h e) =
+        prefix_by p op (prefix_is o h) (part_map L j
         (part_append L j refl (translation_stands p e)
-        (part_cons L j (I.Op (prefix_op o)) (λ i. refl) refl (part_nil L j _))) (omega arith)
-        (λ x. ends refl (omega arith) (s_applied (i_prefix f.0) (s_cons x.0 s_nil) x.1.0
-        (applies_op (prefix_op o) f.2))))
-    translation_stands p (fits_infix {n = n} {o = o} {a = ta} {b = tb} h a b) = let f = infix_facts o h in
-        infix_by p (I.Op (infix_op o)) f.2
+        (part_cons L j (I.Op op) (λ i. refl) refl (part_nil L j _))) (omega arith)
+        (λ x. ends refl (omega arith) (s_applied (i_prefix h) (s_cons x.0 s_nil) x.1.0
+        (applies_op op (prefix_arity o h)))))
+    translation_stands p (fits_infix {n = n} {o = o} {op = op} {a = ta} {b = tb} h a b) =
+        infix_by p (I.Op op) (infix_is o h)
         (part_map L j (part_append L j refl (translation_stands p a)
         (part_append L j refl (translation_stands (p + size (depths n) ta) b)
-        (part_cons L j (I.Op (infix_op o)) (λ i. refl) refl (part_nil L j _)))) (omega arith)
-        (λ x. ends refl (omega arith) (s_applied (i_infix f.0) (s_cons x.0 (s_cons x.1.0 s_nil)) x.1.1.0
-        (applies_op (infix_op o) f.3))))
-    translation_stands p (fits_update {n = n} {o = o} {x = ta} {y = tb} h a b) = let f = infix_facts o h in
-        update_by p (I.Op (infix_op o)) f.2
+        (part_cons L j (I.Op op) (λ i. refl) refl (part_nil L j _)))) (omega arith)
+        (λ x. ends refl (omega arith) (s_applied (i_infix h) (s_cons x.0 (s_cons x.1.0 s_nil)) x.1.1.0
+        (applies_op op (infix_arity o h)))))
+    translation_stands p (fits_update {n = n} {o = o} {op = op} {x = ta} {y = tb} h a b) =
+        update_by p (I.Op op) (update_is o h)
         (part_map L j (part_append L j refl (translation_stands p a)
         (part_cons L j I.Dup (λ i. refl) (omega arith)
         (part_append L j refl (translation_stands (p + size (depths n) ta + 1) b)
-        (part_cons L j (I.Op (infix_op o)) (λ i. refl) refl
+        (part_cons L j (I.Op op) (λ i. refl) refl
         (part_cons L j (I.Op Ops.Assign) (λ i. refl) refl (part_nil L j _)))))) (omega arith)
-        (λ x. ends refl (omega arith) (s_update (d_operate f.1) x.0 x.1.0 (ends (omega arith) refl x.1.2.0)
-        x.1.2.1.0 (applies_op (infix_op o) f.3) x.1.2.1.2.0)))
+        (λ x. ends refl (omega arith) (s_update (d_operate h) x.0 x.1.0 (ends (omega arith) refl x.1.2.0)
+        x.1.2.1.0 (applies_op op (update_arity o h)) x.1.2.1.2.0)))
     translation_stands p (fits_next {n = n} h) = part_map L j
         (part_append L j refl (nexts p (X.dropped_by_next (depths n)) h refl)
         (part_cons L j (I.Goto (X.next_way (ways_of n))) (λ i. refl) refl (part_nil L j _))) (omega arith)

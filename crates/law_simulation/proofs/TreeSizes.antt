@@ -1,5 +1,5 @@
 -- The size of a tree is the length of its code.
-use Rattle.std.proofs.Common.{◌≡◌, ℕ, zero, suc, ◌+◌, List, [], ◌∷◌, ◌++◌, length, refl, ap, arith, length-append, Bool, true, false, if◌then◌else◌}
+use Rattle.std.proofs.Common.{◌≡◌, ℕ, zero, suc, ◌+◌, List, [], ◌∷◌, ◌++◌, length, Option, Some, None, refl, ap, arith, length-append, Bool, true, false, if◌then◌else◌}
 use Rattle.std.specs.Prelude.{replicate}
 use Rattle.icn_text.specs.declared.op.Op.TheVariants as Ops
 use Rattle.icn_tree.specs.declared.tree.Infix.TheVariants.{Plain, Augmented}
@@ -7,7 +7,7 @@ use Rattle.icn_tree.specs.declared.tree.LoopKind.TheVariants.{While, Until, Ever
 use Rattle.icn_tree.specs.Trees.{Tree, MaybeTree, Trees, Clause, Clauses, Empty, Constant, Identifier, Keyword, Parentheses, Listing, Compound, Call, CoCall, Subscript, Section, Field, Prefix, Not, Binary, To, If, Case, Loop, Repeat, Create, Next, Fail, Break, Return, Suspend, Absent, Present, NoTrees, More, Default, Guarded, NoClauses, MoreClauses}
 use Rattle.icn_code.specs.declared.instr.Instr.{Instr}
 use Rattle.icn_code.specs.declared.instr.Instr.TheVariants as I
-use Rattle.law_simulation.specs.Translation.{SymbolTable, Depth, LoopExits, loop_of, deeper, opened_in, dropped_by_next, around, last_way, next_way, is_empty, is_nothing, is_no_element, elements, BinaryForm, Both, Scanning, Either, Limiting, Applying, form_of, PrefixForm, Activating, Repeating, Operating, prefix_of, section_op, size, sizes, elements_size, conjunction_size, compound_size, bodies_size, creates_size, subscripts_size, by_size, if_size, body_size, clauses_size, clause_size, default_size, is_default_size, ways, create_code, code, operands, elements_code, conjunction, compound, bodies_code, creates, subscripts, by_code, if_code, body_code, clauses_code, clause_code, default_code, is_default}
+use Rattle.law_simulation.specs.Translation.{SymbolTable, Depth, LoopExits, loop_of, deeper, opened_in, dropped_by_next, around, last_way, next_way, is_empty, is_nothing, is_no_element, elements, BinaryForm, Both, Scanning, Either, Limiting, Applying, form_of, UpdateForm, UpdatesBoth, UpdatesScanning, UpdatesBy, update_of, PrefixForm, Activating, Repeating, Operating, prefix_of, section_op, prefix_size, plain_size, augmented_size, prefix_code, plain_code, augmented_code, size, sizes, elements_size, conjunction_size, compound_size, bodies_size, creates_size, subscripts_size, by_size, if_size, body_size, clauses_size, clause_size, default_size, is_default_size, ways, create_code, code, operands, elements_code, conjunction, compound, bodies_code, creates, subscripts, by_code, if_code, body_code, clauses_code, clause_code, default_code, is_default}
 
 la : (xs ys : List Instr) → length (xs ++ ys) ≡ length xs + length ys
 la xs ys = length-append xs ys
@@ -25,92 +25,53 @@ copies (suc n) i = ap suc (copies n i)
 abbrev Sized : SymbolTable → Tree → Type 0
 Sized N e = (D : List Depth) (W : List LoopExits) (p : ℕ) → length (code N D W p e) ≡ size D e
 
-prefix_len : (N : SymbolTable) (D : List Depth) (W : List LoopExits) (p : ℕ) (e : Tree) (f : PrefixForm) → Sized N e
-    → length (elim f as (λ x. List Instr) [
-      | Activating ↦ I.Pnull ∷ code N D W (p + 1) e ++ I.Coact ∷ []
-      | Repeating ↦ I.Mark0
-          ∷ code N (deeper D) W (p + 1) e ++ (I.Chfail p ∷ I.Esusp ∷ [])
-      | Operating op ↦ code N D W p e
-          ++ I.Op op ∷ []
-    ])
-    ≡ elim f as (λ x. ℕ) [
-      | Activating ↦ size D e + 2
-      | Repeating ↦ size (deeper D) e + 3
-      | Operating op ↦
-          size D e + 1
-    ]
-prefix_len N D W p e Activating s = let a = s D W (p + 1) in let b =
+prefix_len : (N : SymbolTable) (D : List Depth) (W : List LoopExits) (p : ℕ) (e : Tree) (f : Option PrefixForm) → Sized N e
+    → length (prefix_code f (λ p. code N D W p e) (λ p. code N (deeper D) W p e) p)
+    ≡ prefix_size f (size D e) (size (deeper D) e)
+prefix_len N D W p e (Some Activating) s = let a = s D W (p + 1) in let b =
     la (code N D W (p + 1) e) (I.Coact ∷ []) in omega arith
-prefix_len N D W p e Repeating s = let a = s (deeper D) W (p + 1) in let b =
+prefix_len N D W p e (Some Repeating) s = let a = s (deeper D) W (p + 1) in let b =
     la (code N (deeper D) W (p + 1) e) (I.Chfail p ∷ I.Esusp ∷ []) in omega arith
-prefix_len N D W p e (Operating op) s = let a = s D W p in let b = la (code N D W p e) (I.Op op ∷ []) in
+prefix_len N D W p e (Some (Operating op)) s = let a = s D W p in let b = la (code N D W p e) (I.Op op ∷ []) in
     omega arith
+prefix_len N D W p e None s = refl
 
-binary_len : (N : SymbolTable) (D : List Depth) (W : List LoopExits) (p : ℕ) (a b : Tree) (f : BinaryForm) → Sized N a
+binary_len : (N : SymbolTable) (D : List Depth) (W : List LoopExits) (p : ℕ) (a b : Tree) (f : Option BinaryForm) → Sized N a
     → Sized N b
-    → length (elim f as (λ x. List Instr) [
-      | Both ↦ code N D W p a ++ I.Pop ∷ code N D W (p + size D a + 1) b
-      | Scanning ↦ code N D W p a ++ I.Bscan ∷ code N D W (p + size D a + 1) b ++ I.Escan ∷ []
-      | Either ↦ (let m = size (deeper D) a in let n = size D b in I.Mark (p + m + 3)
-          ∷ code N (deeper D) W (p + 1) a ++ (I.Esusp ∷ I.Goto (p + m + 3 + n) ∷ code N D W (p + m + 3) b))
-      | Limiting ↦ code N D W p b ++ I.Limit ∷ code N (deeper D) W (p + size D b + 1) a ++ I.Lsusp ∷ []
-      | Applying i ↦ code N D W p a ++ (code N D W (p + size D a) b ++ i ∷ [])
-    ])
-    ≡ elim f as (λ x. ℕ) [
-      | Both ↦ size D a + size D b + 1
-      | Scanning ↦ size D a + size D b + 2
-      | Either ↦
-          size (deeper D) a + size D b + 3
-      | Limiting ↦ size D b + size (deeper D) a + 2
-      | Applying i ↦
-          size D a + size D b + 1
-    ]
-binary_len N D W p a b Both s t = let x = s D W p in let y = t D W (p + size D a + 1) in let z =
+    → length (plain_code f (size D a) (size (deeper D) a) (size D b) (λ p. code N D W p a) (λ p. code N (deeper D) W p a)
+    (λ p. code N D W p b) p)
+    ≡ plain_size f (size D a) (size (deeper D) a) (size D b)
+binary_len N D W p a b (Some Both) s t = let x = s D W p in let y = t D W (p + size D a + 1) in let z =
     la (code N D W p a) (I.Pop ∷ code N D W (p + size D a + 1) b) in omega arith
-binary_len N D W p a b Scanning s t = let x = s D W p in let y = t D W (p + size D a + 1) in let z =
+binary_len N D W p a b (Some Scanning) s t = let x = s D W p in let y = t D W (p + size D a + 1) in let z =
     la (code N D W p a ++ I.Bscan ∷ code N D W (p + size D a + 1) b) (I.Escan ∷ []) in
     let u = la (code N D W p a) (I.Bscan ∷ code N D W (p + size D a + 1) b) in omega arith
-binary_len N D W p a b Either s t = let m = size (deeper D) a in let x = s (deeper D) W (p + 1) in let y =
+binary_len N D W p a b (Some Either) s t = let m = size (deeper D) a in let x = s (deeper D) W (p + 1) in let y =
     t D W (p + m + 3) in
     let z = la (code N (deeper D) W (p + 1) a)
     (I.Esusp ∷ I.Goto (p + m + 3 + size D b) ∷ code N D W (p + m + 3) b) in omega arith
-binary_len N D W p a b Limiting s t = let x = t D W p in let y = s (deeper D) W (p + size D b + 1) in
+binary_len N D W p a b (Some Limiting) s t = let x = t D W p in let y = s (deeper D) W (p + size D b + 1) in
     let z = la (code N D W p b ++ I.Limit ∷ code N (deeper D) W (p + size D b + 1) a) (I.Lsusp ∷ []) in
     let u = la (code N D W p b) (I.Limit ∷ code N (deeper D) W (p + size D b + 1) a) in omega arith
-binary_len N D W p a b (Applying i) s t = let x = s D W p in let y = t D W (p + size D a) in let z =
+binary_len N D W p a b (Some (Applying i)) s t = let x = s D W p in let y = t D W (p + size D a) in let z =
     la (code N D W p a) (code N D W (p + size D a) b ++ i ∷ []) in let u =
     la (code N D W (p + size D a) b) (i ∷ []) in omega arith
+binary_len N D W p a b None s t = refl
 
-augmented_len : (N : SymbolTable) (D : List Depth) (W : List LoopExits) (p : ℕ) (a b : Tree) (f : BinaryForm) → Sized N a
+augmented_len : (N : SymbolTable) (D : List Depth) (W : List LoopExits) (p : ℕ) (a b : Tree) (f : Option UpdateForm) → Sized N a
     → Sized N b
-    → length (elim f as (λ x. List Instr) [
-      | Both ↦ code N D W p a ++ (code N D W (p + size D a) b ++ I.Op Ops.Assign ∷ [])
-      | Scanning ↦ code N D W p a ++ (I.Dup ∷ I.Bscan ∷ code N D W (p + size D a + 2) b
-          ++ (I.Escan ∷ I.Op Ops.Assign ∷ []))
-      | Either ↦ []
-      | Limiting ↦ []
-      | Applying i ↦ code N D W p a ++ (I.Dup ∷ code N D W (p + size D a + 1) b ++ (i ∷ I.Op Ops.Assign ∷ []))
-    ])
-    ≡ elim f as (λ x. ℕ) [
-      | Both ↦ size D a + size D b + 1
-      | Scanning ↦ size D a + size D b + 4
-      | Either ↦
-          0
-      | Limiting ↦ 0
-      | Applying i ↦ size D a + size D b + 3
-    ]
-augmented_len N D W p a b Both s t = let x = s D W p in let y = t D W (p + size D a) in let z =
+    → length (augmented_code f (size D a) (λ p. code N D W p a) (λ p. code N D W p b) p) ≡ augmented_size f (size D a) (size D b)
+augmented_len N D W p a b (Some UpdatesBoth) s t = let x = s D W p in let y = t D W (p + size D a) in let z =
     la (code N D W p a) (code N D W (p + size D a) b ++ I.Op Ops.Assign ∷ []) in let u =
     la (code N D W (p + size D a) b) (I.Op Ops.Assign ∷ []) in omega arith
-augmented_len N D W p a b Scanning s t = let x = s D W p in let y = t D W (p + size D a + 2) in let z =
+augmented_len N D W p a b (Some UpdatesScanning) s t = let x = s D W p in let y = t D W (p + size D a + 2) in let z =
     la (code N D W p a) (I.Dup ∷ I.Bscan ∷ code N D W (p + size D a + 2) b
     ++ (I.Escan ∷ I.Op Ops.Assign ∷ [])) in
     let u = la (code N D W (p + size D a + 2) b) (I.Escan ∷ I.Op Ops.Assign ∷ []) in omega arith
-augmented_len N D W p a b Either s t = refl
-augmented_len N D W p a b Limiting s t = refl
-augmented_len N D W p a b (Applying i) s t = let x = s D W p in let y = t D W (p + size D a + 1) in let z =
+augmented_len N D W p a b (Some (UpdatesBy i)) s t = let x = s D W p in let y = t D W (p + size D a + 1) in let z =
     la (code N D W p a) (I.Dup ∷ code N D W (p + size D a + 1) b ++ (i ∷ I.Op Ops.Assign ∷ [])) in
     let u = la (code N D W (p + size D a + 1) b) (i ∷ I.Op Ops.Assign ∷ []) in omega arith
+augmented_len N D W p a b None s t = refl
 
 created_len : (p n : ℕ) (xs : List Instr) → length (create_code p n xs) ≡ length xs + 5
 created_len p n xs = let a = la xs (I.Coret ∷ I.Efail ∷ I.Cofail ∷ []) in omega arith
@@ -153,7 +114,7 @@ mutual
   code_size N (Binary place (Plain operator) a b) D W p =
       binary_len N D W p a b (form_of operator) (code_size N a) (code_size N b)
   code_size N (Binary place (Augmented operator) a b) D W p =
-      augmented_len N D W p a b (form_of operator) (code_size N a) (code_size N b)
+      augmented_len N D W p a b (update_of operator) (code_size N a) (code_size N b)
   code_size N (To place a b by) D W p = let x = code_size N a D W p in let y =
       code_size N b D W (p + size D a) in let z = by_code_length N by D W (p + size D a + size D b) in
       let c = la (code N D W p a) (code N D W (p + size D a) b

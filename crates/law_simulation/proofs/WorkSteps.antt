@@ -1,7 +1,8 @@
 -- What each work does with a result.
 use Rattle.std.proofs.Common.{◌≡◌, ℕ, zero, suc, ◌&&◌, not, Bool, true, false, List, [], ◌∷◌, Option, Some, None, option_map, ℤ, pos, negsuc, refl, sym, ap, ◌∙◌, subst, arith}
-use Rattle.std.specs.Prelude.{slice_set, if◌then◌else◌, ◌==◌}
+use Rattle.std.specs.Prelude.{slice_set, if◌then◌else◌}
 use Rattle.icn_code.specs.declared.instr.Instr.TheVariants as I
+use Rattle.icn_text.specs.declared.op.Op.{Op}
 use Rattle.icn_text.specs.declared.op.Op.TheVariants as Ops
 use Rattle.icn_tree.specs.declared.token.Operator.{Operator}
 use Rattle.icn_tree.specs.declared.token.Operator.TheVariants as Signs
@@ -12,7 +13,7 @@ use Rattle.icn_defs.specs.Conversions.{integer_of}
 use Rattle.icn_defs.specs.StepRows.{text_row}
 use Rattle.icn_meaning.specs.Contexts as M
 use Rattle.icn_meaning.specs.Contexts.{Operating, Works, ◌and_then◌, Choices, Surroundings}
-use Rattle.icn_meaning.specs.Operators.{infix_op}
+use Rattle.icn_meaning.specs.Operators.{update_op}
 use Rattle.icn_meaning.specs.Turns as MT
 use Rattle.icn_meaning.specs.Scanning as MS
 use Rattle.icn_meaning.specs.Coexpressions as MX
@@ -21,18 +22,14 @@ use Rattle.icn_meaning.specs.Succeed as MW
 use Rattle.icn_run.specs.Chains.{Label, flagged, Chain, chain, Suspensions, Outer, base, mark, limit, WaitingChain, LinkedStack, frame_of, oldest as oldest_until, first_scan, swap_at, relabelled_if, leave_frame, saved_at}
 use Rattle.icn_run.specs.Step as S
 use Rattle.law_simulation.specs.Linkage.{Here, f_operation}
-use Rattle.law_simulation.specs.StandingCode.{Nest, in_mark, in_scan, Stands, s_nil, s_cons, StandsMaybe, s_absent, s_present, d_activate, d_operate, is_update}
+use Rattle.law_simulation.specs.StandingCode.{Nest, in_mark, in_scan, Stands, s_nil, s_cons, StandsMaybe, s_absent, s_present, d_activate, d_operate}
 use Rattle.law_simulation.specs.Relation.{At, proc_in, activation_in, OfWorks, k_goto, k_esusp, k_raise, k_args, k_then, k_cut, k_limit, k_count, k_scan, k_leave, k_update_both, k_update_scan, k_update, k_each, k_select, k_return, k_suspend, k_result, OfSurroundings, v_scan, v_mark, v_limit, m_plain, m_each, a_fail, OfChoices, r_alt, r_limit, r_efail, r_restore, r_reenter, r_back, t_after, linked_of, store_of, at_eval, at_succeed, at_fail}
 use Rattle.law_simulation.specs.Ground.{Ground, code_of, machine}
 use Rattle.law_simulation.proofs.SimulationWords.{LinkedState, StepsTo, instruction_step, Reaches, Follows, LiveCoexpressions, running_at, running_on, silent_weight, weight, reached_already, follows_silently, follows_by_step, then_reach, steps_to_instruction, opens, on_turn, on_value, on_made, errors_agree, sets_no_label}
 use Rattle.law_simulation.proofs.WaysOut.{oldest, oldest_in_mark, all_scans_left, same_activation, same_scans, running_call}
 use Rattle.law_simulation.proofs.ActionSteps.{unmark, pops, gotos, efails, on_action, on_try}
 use Rattle.law_simulation.proofs.BothCoexpressions.{coexpression_at, status_all, on_entered}
-use Rattle.law_simulation.proofs.Application.{on_applied}
-use Rattle.std.proofs.lemmas.Bool.Decides.{nat_tests}
-
-pub equal_self : (a : ℕ) → (a == a) ≡ true
-equal_self a = grind (arith, nat_tests)
+use Rattle.law_simulation.proofs.Application.{equal_self, on_applied}
 
 -- the pair that an oldest scan saved changes places with the present one
 abbrev pub exchanged_by : Option ℕ → M.Store → M.Store
@@ -44,14 +41,14 @@ exchanged_of [] st = refl
 exchanged_of (i ∷ []) st = refl
 exchanged_of (i ∷ j ∷ z) st = exchanged_of (j ∷ z) st
 
-update_of : (o : Operator) (x : Item) (y : Tree) (v : Surroundings) (k : Works) (r : Choices) (st : M.Store)
-    → is_update o ≡ true → MW.update o x y v k r st ≡ M.eval y v
-    (M.Args (Operating (infix_op o)) (x ∷ []) NoTrees v and_then M.Args (Operating Ops.Assign) (x ∷ [])
+update_of : (o : Operator) {op : Op} (x : Item) (y : Tree) (v : Surroundings) (k : Works) (r : Choices) (st : M.Store)
+    → update_op o ≡ Some op → MW.update o x y v k r st ≡ M.eval y v
+    (M.Args (Operating op) (x ∷ []) NoTrees v and_then M.Args (Operating Ops.Assign) (x ∷ [])
     NoTrees v and_then k) r st
 update_of Signs.Ampersand x y v k r st e = absurd (cc)
 update_of Signs.Question x y v k r st e = absurd (cc)
 update_of Signs.At x y v k r st e = absurd (cc)
-update_of o x y v k r st e = refl
+update_of o x y v k r st e = ap (λ (found : Option Op). MW.update_by found x y v k r st) e
 
 module _ (G : Ground) where
   -- the innermost mark is dropped, with no scan opened in it, and an item is pushed
@@ -69,7 +66,7 @@ module _ (G : Ground) where
       (xs : List Item) (x : Item) (st : M.Store) (ls : List (S.Coexp WaitingChain)) (f : Item → M.Evaluation)
       (g : Item → LinkedState) → a ≡ activation_in o → LiveCoexpressions G first st.active st.coexpressions ls
       → OfChoices G.L first r s z o → ((x : Item) → Reaches G (f x) (g x))
-      → Reaches G (MT.outgoing x a r st f)
+      → Reaches G (MT.with_outgoing x a r st f)
       (S.with_result (machine G) x (linked_of (chain xs s z o) p st) (store_of st ls) g)
   on_outgoing p xs (Var (V.Whole (V.Local n))) st ls f g e live r h =
       on_value G p xs (Var (V.Whole (V.Local n))) st ls _ _ e live r (λ v. h (Val v))
@@ -202,8 +199,8 @@ module _ (G : Ground) where
       (λ value. on_limit (integer_of value) value (suc p) st ls live e h2 v k r))
   on_works x p st ls live (k_count {c = c} h r0 k) r =
       follows_by_step G _ (steps_to_instruction G p _ st ls h refl)
-      (on_count (MW.remaining c st) x (suc p)
-      (record st { limits = slice_set st.limits c (MW.remaining c st) }) ls live r0 k r)
+      (on_count (MW.results_left c st) x (suc p)
+      (record st { limits = slice_set st.limits c (MW.results_left c st) }) ls live r0 k r)
   on_works {xs = xs} x p st ls live (k_scan h e h2 v k) r =
       follows_by_step G _ (steps_to_instruction G p _ st ls h refl)
       (on_value G _ xs x st ls _ _ (same_activation G v) live r

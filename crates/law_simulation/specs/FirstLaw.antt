@@ -3,7 +3,7 @@ use Rattle.std.specs.Prelude.{◌<◌, ◌≡◌, ℕ, All, List}
 use Rattle.icn_tree.specs.Trees.{Declaration}
 use Rattle.icn_code.specs.Codes.{Tables}
 use Rattle.icn_defs.specs.Running.{Launch, Observation, Ending, Errored, AtBound}
-use Rattle.icn_defs.specs.Interruptions.{Streams, BreaksRun}
+use Rattle.icn_defs.specs.Interruptions.{Breaks, Streams}
 use Rattle.icn_meaning.specs.Program.{program}
 use Rattle.icn_meaning.specs.Meaning.{Means}
 use Rattle.icn_run.specs.LinkedStep as Linked
@@ -30,13 +30,13 @@ RunsLinked tables launch seen = Linked.Runs (repeats_of tables) tables launch se
 abbrev pub RunsFlat : Tables → Launch → Observation → Type 0
 RunsFlat tables launch seen = Flat.Runs tables launch seen
 
--- Broken off, what comes to some end leaves these streams so.
+-- Broken off at one moment, what comes to some end leaves these streams so.
 pub record BrokenOff (Sees : Launch → Observation → Type 0) (launch : Launch)
     (before after : Streams) : Type 0
   where
     pub seen : Observation
     pub sees : Sees launch seen
-    pub breaks : BreaksRun launch.outside.left seen before after
+    pub breaks : Breaks launch.outside seen.outside before after
 
 -- the same launch with another bound of turns, another limit of string bytes, and another one of cells
 abbrev pub with_turns : ℕ → Launch → Launch

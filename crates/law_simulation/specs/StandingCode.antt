@@ -1,5 +1,6 @@
 -- Where the code of a tree stands. Nothing is said of how labels were numbered.
 use Rattle.std.specs.Prelude.{◌≡◌, ℕ, suc, Bool, true, false, Some, None}
+use Rattle.icn_text.specs.declared.op.Op.{Op}
 use Rattle.icn_text.specs.declared.op.Op.TheVariants as Ops
 use Rattle.icn_text.specs.declared.keyword.Keyword.{Keyword}
 use Rattle.icn_text.specs.declared.keyword.Keyword.TheVariants as Keywords
@@ -19,7 +20,7 @@ use Rattle.icn_code.specs.declared.instr.Instr.TheVariants as I
 use Rattle.icn_value.specs.Values.{Val, Var, Whole}
 use Rattle.icn_meaning.specs.Program.{meaning_of}
 use Rattle.icn_meaning.specs.Contexts.{Application, Operating, Calling, Spreading, Collecting, Taking, Activating}
-use Rattle.icn_meaning.specs.Operators.{prefix_op, infix_op, section_op}
+use Rattle.icn_meaning.specs.Operators.{prefix_op, infix_op, update_op, section_op}
 use Rattle.icn_meaning.specs.Evaluate.{literal, keyword_among, creations, step_of}
 use Rattle.icn_meaning.specs.Succeed.{default_of}
 use Rattle.law_simulation.specs.Linkage.{Linkage, Here, Loads, IsAppliedBy, Opens}
@@ -63,29 +64,6 @@ pub data Nexts (L : Linkage) (j : ℕ) : Nest → ℕ → ℕ → ℕ → Type 0
   n_loop : {n : Nest} {p l g : ℕ} → Nexts L j (in_loop l g n) p p g
   n_each : {n : Nest} {p l g : ℕ} → Nexts L j (in_each l g n) p p g
 
--- the operators that are an operation before an operand, between two, and in an assignment
-abbrev pub is_prefix : Operator → Bool
-is_prefix Signs.Bar = false
-is_prefix Signs.At = false
-is_prefix o = true
-
--- the operators that are an operation between two operands
-abbrev pub is_infix : Operator → Bool
-is_infix Signs.Ampersand = false
-is_infix Signs.Question = false
-is_infix Signs.Bar = false
-is_infix Signs.Backslash = false
-is_infix Signs.At = false
-is_infix Signs.Bang = false
-is_infix o = true
-
--- the operators that are an operation in an assignment
-abbrev pub is_update : Operator → Bool
-is_update Signs.Ampersand = false
-is_update Signs.Question = false
-is_update Signs.At = false
-is_update o = true
-
 -- the empty expression
 abbrev pub is_empty : Tree → Bool
 is_empty T.Empty = true
@@ -109,12 +87,12 @@ pub data IsApplied : Tree → Application → Trees → Type 0 where
       (More x (More i (More e NoTrees)))
   i_field : {place : Place} {x : Tree} {name : Name}
       → IsApplied (T.Field place x name) (Taking name.text) (More x NoTrees)
-  i_prefix : {place : Place} {o : Operator} {e : Tree} → is_prefix o ≡ true
-      → IsApplied (T.Prefix place o e) (Operating (prefix_op o)) (More e NoTrees)
+  i_prefix : {place : Place} {o : Operator} {op : Op} {e : Tree} → prefix_op o ≡ Some op
+      → IsApplied (T.Prefix place o e) (Operating op) (More e NoTrees)
   i_activate : {place : Place} {e : Tree}
       → IsApplied (T.Prefix place Signs.At e) Activating (More T.Empty (More e NoTrees))
-  i_infix : {place : Place} {o : Operator} {a b : Tree} → is_infix o ≡ true
-      → IsApplied (T.Binary place (Plain o) a b) (Operating (infix_op o)) (More a (More b NoTrees))
+  i_infix : {place : Place} {o : Operator} {op : Op} {a b : Tree} → infix_op o ≡ Some op
+      → IsApplied (T.Binary place (Plain o) a b) (Operating op) (More a (More b NoTrees))
   i_at : {place : Place} {a b : Tree}
       → IsApplied (T.Binary place (Plain Signs.At) a b) Activating (More a (More b NoTrees))
   i_bang : {place : Place} {a b : Tree}
@@ -125,7 +103,7 @@ pub data IsApplied : Tree → Application → Trees → Type 0 where
 -- what `op:=` applies before it assigns
 pub data Updating : Operator → Application → Type 0 where
   d_activate : Updating Signs.At Activating
-  d_operate : {o : Operator} → is_update o ≡ true → Updating o (Operating (infix_op o))
+  d_operate : {o : Operator} {op : Op} → update_op o ≡ Some op → Updating o (Operating op)
 
 -- how many trees there are
 abbrev pub tree_count : Trees → ℕ

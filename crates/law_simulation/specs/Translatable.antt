@@ -1,8 +1,9 @@
 -- The trees whose translation stands: names and literals are in the tables, operators have their
 -- instructions, and `break`, `next`, `return`, `fail` and
 -- `suspend` stand where they may.
-use Rattle.std.specs.Prelude.{Bool, ◌≡◌, ℕ, true, false, List, [], ◌∷◌, Some, codes, slice_get}
+use Rattle.std.specs.Prelude.{◌≡◌, ℕ, true, false, List, [], ◌∷◌, Some, codes, slice_get}
 use Rattle.std.specs.Str.{bytes_eq}
+use Rattle.icn_text.specs.declared.op.Op.{Op}
 use Rattle.icn_text.specs.declared.keyword.Keyword.TheVariants as Keywords
 use Rattle.icn_text.specs.declared.keyword.TheConstants.Keyword.{ALL as keywords}
 use Rattle.icn_tree.specs.declared.token.Operator.{Operator}
@@ -17,6 +18,7 @@ use Rattle.icn_tree.specs.Trees as T
 use Rattle.icn_tree.specs.Trees.{Tree, Trees, MaybeTree, Clauses, Absent, Present, NoTrees, More, Default, Guarded, NoClauses, MoreClauses, elements_of, Initial, NoInitial, Initially}
 use Rattle.icn_value.specs.Values.{Val, Var, Whole}
 use Rattle.icn_meaning.specs.Program.{meaning_of, index_of}
+use Rattle.icn_meaning.specs.Operators.{prefix_op, infix_op, update_op}
 use Rattle.icn_meaning.specs.Calls.{fields_in}
 use Rattle.icn_meaning.specs.Evaluate.{literal, keyword_among, step_of}
 use Rattle.icn_meaning.specs.Succeed.{default_of}
@@ -70,54 +72,6 @@ pub data HasNext : Nest → Type 0 where
   x_loop : {n : Nest} {l g : ℕ} → HasNext (in_loop l g n)
   x_each : {n : Nest} {l g : ℕ} → HasNext (in_each l g n)
 
--- the operators that are an operation before an operand, and between two or before `:=`
-abbrev pub is_prefix_sign : Operator → Bool
-is_prefix_sign Signs.Slash = true
-is_prefix_sign Signs.Backslash = true
-is_prefix_sign Signs.Dot = true
-is_prefix_sign Signs.Plus = true
-is_prefix_sign Signs.Minus = true
-is_prefix_sign Signs.Star = true
-is_prefix_sign Signs.Tilde = true
-is_prefix_sign Signs.Bang = true
-is_prefix_sign Signs.Question = true
-is_prefix_sign Signs.Equal = true
-is_prefix_sign Signs.Caret = true
-is_prefix_sign o = false
-
--- the operators that are an operation between two operands or before `:=`
-abbrev pub is_infix_sign : Operator → Bool
-is_infix_sign Signs.Plus = true
-is_infix_sign Signs.Minus = true
-is_infix_sign Signs.Star = true
-is_infix_sign Signs.Slash = true
-is_infix_sign Signs.Percent = true
-is_infix_sign Signs.Caret = true
-is_infix_sign Signs.Less = true
-is_infix_sign Signs.LessEqual = true
-is_infix_sign Signs.Equal = true
-is_infix_sign Signs.GreaterEqual = true
-is_infix_sign Signs.Greater = true
-is_infix_sign Signs.NotEqual = true
-is_infix_sign Signs.LessLess = true
-is_infix_sign Signs.LessLessEqual = true
-is_infix_sign Signs.EqualEqual = true
-is_infix_sign Signs.GreaterGreaterEqual = true
-is_infix_sign Signs.GreaterGreater = true
-is_infix_sign Signs.NotEqualEqual = true
-is_infix_sign Signs.EqualEqualEqual = true
-is_infix_sign Signs.NotEqualEqualEqual = true
-is_infix_sign Signs.BarBar = true
-is_infix_sign Signs.BarBarBar = true
-is_infix_sign Signs.PlusPlus = true
-is_infix_sign Signs.MinusMinus = true
-is_infix_sign Signs.StarStar = true
-is_infix_sign Signs.Assign = true
-is_infix_sign Signs.Swap = true
-is_infix_sign Signs.ReversibleAssign = true
-is_infix_sign Signs.ReversibleSwap = true
-is_infix_sign o = false
-
 mutual
   pub data Fits (L : Linkage) (N : SymbolTable) (j : ℕ) : Nest → Tree → Type 0 where
     fits_empty : {n : Nest} → Fits L N j n T.Empty
@@ -158,7 +112,7 @@ mutual
     fits_field : {n : Nest} {place : Place} {x : Tree} {name : Name} → Fits L N j n x
         → ((kind : ℕ) → index_of name.text (fields_in (slice_get L.program.kinds kind)) ≡ field_index
         L.tables (N.field name.text) kind) → Fits L N j n (T.Field place x name)
-    fits_prefix : {n : Nest} {place : Place} {o : Operator} {e : Tree} → is_prefix_sign o ≡ true
+    fits_prefix : {n : Nest} {place : Place} {o : Operator} {op : Op} {e : Tree} → prefix_op o ≡ Some op
         → Fits L N j n e → Fits L N j n (T.Prefix place o e)
     fits_activate : {n : Nest} {place : Place} {e : Tree} → Fits L N j n e
         → Fits L N j n (T.Prefix place Signs.At e)
@@ -173,7 +127,7 @@ mutual
         → Fits L N j n (T.Binary place (Plain Signs.Bar) a b)
     fits_limit : {n : Nest} {place : Place} {a b : Tree} → Fits L N j (in_mark n) a → Fits L N j n b
         → Fits L N j n (T.Binary place (Plain Signs.Backslash) a b)
-    fits_infix : {n : Nest} {place : Place} {o : Operator} {a b : Tree} → is_infix_sign o ≡ true
+    fits_infix : {n : Nest} {place : Place} {o : Operator} {op : Op} {a b : Tree} → infix_op o ≡ Some op
         → Fits L N j n a → Fits L N j n b → Fits L N j n (T.Binary place (Plain o) a b)
     fits_at : {n : Nest} {place : Place} {a b : Tree} → Fits L N j n a → Fits L N j n b
         → Fits L N j n (T.Binary place (Plain Signs.At) a b)
@@ -185,7 +139,7 @@ mutual
         → Fits L N j n (T.Binary place (Augmented Signs.Question) x y)
     fits_update_at : {n : Nest} {place : Place} {x y : Tree} → Fits L N j n x → Fits L N j n y
         → Fits L N j n (T.Binary place (Augmented Signs.At) x y)
-    fits_update : {n : Nest} {place : Place} {o : Operator} {x y : Tree} → is_infix_sign o ≡ true
+    fits_update : {n : Nest} {place : Place} {o : Operator} {op : Op} {x y : Tree} → update_op o ≡ Some op
         → Fits L N j n x → Fits L N j n y → Fits L N j n (T.Binary place (Augmented o) x y)
     fits_to : {n : Nest} {place : Place} {a b : Tree} {by : MaybeTree} → Fits L N j n a → Fits L N j n b
         → Fits L N j n (step_of place by) → Fits L N j n (T.To place a b by)

@@ -1,6 +1,6 @@
 -- The translation of a tree to instructions, whose labels are places. What stands in front of an
 -- instruction is counted by sizes.
-use Rattle.std.specs.Prelude.{ℕ, suc, ◌+◌, ◌-◌, ℤ, pos, Bool, true, false, List, [], ◌∷◌, ◌++◌, replicate, codes, if◌then◌else◌}
+use Rattle.std.specs.Prelude.{ℕ, suc, ◌+◌, ◌-◌, ℤ, pos, Bool, true, false, List, [], ◌∷◌, ◌++◌, Option, Some, None, replicate, codes, if◌then◌else◌}
 use Rattle.std.specs.Str.{bytes_eq}
 use Rattle.icn_text.specs.declared.keyword.Keyword.{Keyword as KeywordNamed}
 use Rattle.icn_text.specs.declared.op.Op.{Op}
@@ -102,46 +102,91 @@ pub data BinaryForm : Type 0 where
   Limiting : BinaryForm
   Applying : Instr → BinaryForm
 
--- the form of a binary operator
-abbrev pub form_of : Operator → BinaryForm
-form_of Operators.Ampersand = Both
-form_of Operators.Question = Scanning
-form_of Operators.Bar = Either
-form_of Operators.Backslash = Limiting
-form_of Operators.At = Applying I.Coact
-form_of Operators.Bang = Applying I.Appl
-form_of Operators.Star = Applying (I.Op Ops.Multiply)
-form_of Operators.StarStar = Applying (I.Op Ops.Intersection)
-form_of Operators.Plus = Applying (I.Op Ops.Add)
-form_of Operators.PlusPlus = Applying (I.Op Ops.Union)
-form_of Operators.Minus = Applying (I.Op Ops.Subtract)
-form_of Operators.MinusMinus = Applying (I.Op Ops.Difference)
-form_of Operators.Slash = Applying (I.Op Ops.Divide)
-form_of Operators.Percent = Applying (I.Op Ops.Remainder)
-form_of Operators.Caret = Applying (I.Op Ops.Power)
-form_of Operators.BarBar = Applying (I.Op Ops.Concatenate)
-form_of Operators.BarBarBar = Applying (I.Op Ops.ConcatenateLists)
-form_of Operators.Equal = Applying (I.Op Ops.Equal)
-form_of Operators.NotEqual = Applying (I.Op Ops.NotEqual)
-form_of Operators.EqualEqual = Applying (I.Op Ops.LexicallyEqual)
-form_of Operators.NotEqualEqual = Applying (I.Op Ops.LexicallyNotEqual)
-form_of Operators.EqualEqualEqual = Applying (I.Op Ops.Equivalent)
-form_of Operators.NotEqualEqualEqual = Applying (I.Op Ops.NotEquivalent)
-form_of Operators.Less = Applying (I.Op Ops.Less)
-form_of Operators.LessEqual = Applying (I.Op Ops.LessOrEqual)
-form_of Operators.Greater = Applying (I.Op Ops.Greater)
-form_of Operators.GreaterEqual = Applying (I.Op Ops.GreaterOrEqual)
-form_of Operators.LessLess = Applying (I.Op Ops.LexicallyLess)
-form_of Operators.LessLessEqual = Applying (I.Op Ops.LexicallyLessOrEqual)
-form_of Operators.GreaterGreater = Applying (I.Op Ops.LexicallyGreater)
-form_of Operators.GreaterGreaterEqual = Applying (I.Op Ops.LexicallyGreaterOrEqual)
-form_of Operators.Assign = Applying (I.Op Ops.Assign)
-form_of Operators.Swap = Applying (I.Op Ops.Swap)
-form_of Operators.ReversibleAssign = Applying (I.Op Ops.ReversibleAssign)
-form_of Operators.ReversibleSwap = Applying (I.Op Ops.ReversibleSwap)
--- the others never stand between two operands
-form_of Operators.Dot = Both
-form_of Operators.Tilde = Both
+-- what an operator between two operands is; `.` and `~` never stand there
+abbrev pub form_of : Operator → Option BinaryForm
+form_of Operators.Ampersand = Some Both
+form_of Operators.Question = Some Scanning
+form_of Operators.Bar = Some Either
+form_of Operators.Backslash = Some Limiting
+form_of Operators.At = Some (Applying I.Coact)
+form_of Operators.Bang = Some (Applying I.Appl)
+form_of Operators.Star = Some (Applying (I.Op Ops.Multiply))
+form_of Operators.StarStar = Some (Applying (I.Op Ops.Intersection))
+form_of Operators.Plus = Some (Applying (I.Op Ops.Add))
+form_of Operators.PlusPlus = Some (Applying (I.Op Ops.Union))
+form_of Operators.Minus = Some (Applying (I.Op Ops.Subtract))
+form_of Operators.MinusMinus = Some (Applying (I.Op Ops.Difference))
+form_of Operators.Slash = Some (Applying (I.Op Ops.Divide))
+form_of Operators.Percent = Some (Applying (I.Op Ops.Remainder))
+form_of Operators.Caret = Some (Applying (I.Op Ops.Power))
+form_of Operators.BarBar = Some (Applying (I.Op Ops.Concatenate))
+form_of Operators.BarBarBar = Some (Applying (I.Op Ops.ConcatenateLists))
+form_of Operators.Equal = Some (Applying (I.Op Ops.Equal))
+form_of Operators.NotEqual = Some (Applying (I.Op Ops.NotEqual))
+form_of Operators.EqualEqual = Some (Applying (I.Op Ops.LexicallyEqual))
+form_of Operators.NotEqualEqual = Some (Applying (I.Op Ops.LexicallyNotEqual))
+form_of Operators.EqualEqualEqual = Some (Applying (I.Op Ops.Equivalent))
+form_of Operators.NotEqualEqualEqual = Some (Applying (I.Op Ops.NotEquivalent))
+form_of Operators.Less = Some (Applying (I.Op Ops.Less))
+form_of Operators.LessEqual = Some (Applying (I.Op Ops.LessOrEqual))
+form_of Operators.Greater = Some (Applying (I.Op Ops.Greater))
+form_of Operators.GreaterEqual = Some (Applying (I.Op Ops.GreaterOrEqual))
+form_of Operators.LessLess = Some (Applying (I.Op Ops.LexicallyLess))
+form_of Operators.LessLessEqual = Some (Applying (I.Op Ops.LexicallyLessOrEqual))
+form_of Operators.GreaterGreater = Some (Applying (I.Op Ops.LexicallyGreater))
+form_of Operators.GreaterGreaterEqual = Some (Applying (I.Op Ops.LexicallyGreaterOrEqual))
+form_of Operators.Assign = Some (Applying (I.Op Ops.Assign))
+form_of Operators.Swap = Some (Applying (I.Op Ops.Swap))
+form_of Operators.ReversibleAssign = Some (Applying (I.Op Ops.ReversibleAssign))
+form_of Operators.ReversibleSwap = Some (Applying (I.Op Ops.ReversibleSwap))
+form_of Operators.Dot = None
+form_of Operators.Tilde = None
+
+-- what an operator with `:=` behind it is: `&`, `?`, or an instruction on the variable and the operand
+pub data UpdateForm : Type 0 where
+  UpdatesBoth : UpdateForm
+  UpdatesScanning : UpdateForm
+  UpdatesBy : Instr → UpdateForm
+
+-- what an operator with `:=` behind it is; the last ones never stand there
+abbrev pub update_of : Operator → Option UpdateForm
+update_of Operators.Ampersand = Some UpdatesBoth
+update_of Operators.Question = Some UpdatesScanning
+update_of Operators.At = Some (UpdatesBy I.Coact)
+update_of Operators.Star = Some (UpdatesBy (I.Op Ops.Multiply))
+update_of Operators.StarStar = Some (UpdatesBy (I.Op Ops.Intersection))
+update_of Operators.Plus = Some (UpdatesBy (I.Op Ops.Add))
+update_of Operators.PlusPlus = Some (UpdatesBy (I.Op Ops.Union))
+update_of Operators.Minus = Some (UpdatesBy (I.Op Ops.Subtract))
+update_of Operators.MinusMinus = Some (UpdatesBy (I.Op Ops.Difference))
+update_of Operators.Slash = Some (UpdatesBy (I.Op Ops.Divide))
+update_of Operators.Percent = Some (UpdatesBy (I.Op Ops.Remainder))
+update_of Operators.Caret = Some (UpdatesBy (I.Op Ops.Power))
+update_of Operators.BarBar = Some (UpdatesBy (I.Op Ops.Concatenate))
+update_of Operators.BarBarBar = Some (UpdatesBy (I.Op Ops.ConcatenateLists))
+update_of Operators.Equal = Some (UpdatesBy (I.Op Ops.Equal))
+update_of Operators.NotEqual = Some (UpdatesBy (I.Op Ops.NotEqual))
+update_of Operators.EqualEqual = Some (UpdatesBy (I.Op Ops.LexicallyEqual))
+update_of Operators.NotEqualEqual = Some (UpdatesBy (I.Op Ops.LexicallyNotEqual))
+update_of Operators.EqualEqualEqual = Some (UpdatesBy (I.Op Ops.Equivalent))
+update_of Operators.NotEqualEqualEqual = Some (UpdatesBy (I.Op Ops.NotEquivalent))
+update_of Operators.Less = Some (UpdatesBy (I.Op Ops.Less))
+update_of Operators.LessEqual = Some (UpdatesBy (I.Op Ops.LessOrEqual))
+update_of Operators.Greater = Some (UpdatesBy (I.Op Ops.Greater))
+update_of Operators.GreaterEqual = Some (UpdatesBy (I.Op Ops.GreaterOrEqual))
+update_of Operators.LessLess = Some (UpdatesBy (I.Op Ops.LexicallyLess))
+update_of Operators.LessLessEqual = Some (UpdatesBy (I.Op Ops.LexicallyLessOrEqual))
+update_of Operators.GreaterGreater = Some (UpdatesBy (I.Op Ops.LexicallyGreater))
+update_of Operators.GreaterGreaterEqual = Some (UpdatesBy (I.Op Ops.LexicallyGreaterOrEqual))
+update_of Operators.Bang = None
+update_of Operators.Backslash = None
+update_of Operators.Bar = None
+update_of Operators.Dot = None
+update_of Operators.Tilde = None
+update_of Operators.Assign = None
+update_of Operators.Swap = None
+update_of Operators.ReversibleAssign = None
+update_of Operators.ReversibleSwap = None
 
 -- what a prefix operator is: `@`, `|`, or an operation
 pub data PrefixForm : Type 0 where
@@ -149,46 +194,45 @@ pub data PrefixForm : Type 0 where
   Repeating : PrefixForm
   Operating : Op → PrefixForm
 
--- the form of a prefix operator
-abbrev pub prefix_of : Operator → PrefixForm
-prefix_of Operators.At = Activating
-prefix_of Operators.Bar = Repeating
-prefix_of Operators.Bang = Operating Ops.Elements
-prefix_of Operators.Star = Operating Ops.Size
-prefix_of Operators.Plus = Operating Ops.Number
-prefix_of Operators.Minus = Operating Ops.Negate
-prefix_of Operators.Slash = Operating Ops.IsNull
-prefix_of Operators.Backslash = Operating Ops.IsNotNull
-prefix_of Operators.Caret = Operating Ops.Refresh
-prefix_of Operators.Dot = Operating Ops.Dereference
-prefix_of Operators.Question = Operating Ops.Random
-prefix_of Operators.Tilde = Operating Ops.Complement
-prefix_of Operators.Equal = Operating Ops.TabMatch
--- the others never stand before one operand
-prefix_of Operators.Ampersand = Operating Ops.TabMatch
-prefix_of Operators.StarStar = Operating Ops.TabMatch
-prefix_of Operators.PlusPlus = Operating Ops.TabMatch
-prefix_of Operators.MinusMinus = Operating Ops.TabMatch
-prefix_of Operators.Percent = Operating Ops.TabMatch
-prefix_of Operators.BarBar = Operating Ops.TabMatch
-prefix_of Operators.BarBarBar = Operating Ops.TabMatch
-prefix_of Operators.NotEqual = Operating Ops.TabMatch
-prefix_of Operators.EqualEqual = Operating Ops.TabMatch
-prefix_of Operators.NotEqualEqual = Operating Ops.TabMatch
-prefix_of Operators.EqualEqualEqual = Operating Ops.TabMatch
-prefix_of Operators.NotEqualEqualEqual = Operating Ops.TabMatch
-prefix_of Operators.Less = Operating Ops.TabMatch
-prefix_of Operators.LessEqual = Operating Ops.TabMatch
-prefix_of Operators.Greater = Operating Ops.TabMatch
-prefix_of Operators.GreaterEqual = Operating Ops.TabMatch
-prefix_of Operators.LessLess = Operating Ops.TabMatch
-prefix_of Operators.LessLessEqual = Operating Ops.TabMatch
-prefix_of Operators.GreaterGreater = Operating Ops.TabMatch
-prefix_of Operators.GreaterGreaterEqual = Operating Ops.TabMatch
-prefix_of Operators.Assign = Operating Ops.TabMatch
-prefix_of Operators.Swap = Operating Ops.TabMatch
-prefix_of Operators.ReversibleAssign = Operating Ops.TabMatch
-prefix_of Operators.ReversibleSwap = Operating Ops.TabMatch
+-- what an operator before its operand is; the last ones never stand there
+abbrev pub prefix_of : Operator → Option PrefixForm
+prefix_of Operators.At = Some Activating
+prefix_of Operators.Bar = Some Repeating
+prefix_of Operators.Bang = Some (Operating Ops.Elements)
+prefix_of Operators.Star = Some (Operating Ops.Size)
+prefix_of Operators.Plus = Some (Operating Ops.Number)
+prefix_of Operators.Minus = Some (Operating Ops.Negate)
+prefix_of Operators.Slash = Some (Operating Ops.IsNull)
+prefix_of Operators.Backslash = Some (Operating Ops.IsNotNull)
+prefix_of Operators.Caret = Some (Operating Ops.Refresh)
+prefix_of Operators.Dot = Some (Operating Ops.Dereference)
+prefix_of Operators.Question = Some (Operating Ops.Random)
+prefix_of Operators.Tilde = Some (Operating Ops.Complement)
+prefix_of Operators.Equal = Some (Operating Ops.TabMatch)
+prefix_of Operators.Ampersand = None
+prefix_of Operators.StarStar = None
+prefix_of Operators.PlusPlus = None
+prefix_of Operators.MinusMinus = None
+prefix_of Operators.Percent = None
+prefix_of Operators.BarBar = None
+prefix_of Operators.BarBarBar = None
+prefix_of Operators.NotEqual = None
+prefix_of Operators.EqualEqual = None
+prefix_of Operators.NotEqualEqual = None
+prefix_of Operators.EqualEqualEqual = None
+prefix_of Operators.NotEqualEqualEqual = None
+prefix_of Operators.Less = None
+prefix_of Operators.LessEqual = None
+prefix_of Operators.Greater = None
+prefix_of Operators.GreaterEqual = None
+prefix_of Operators.LessLess = None
+prefix_of Operators.LessLessEqual = None
+prefix_of Operators.GreaterGreater = None
+prefix_of Operators.GreaterGreaterEqual = None
+prefix_of Operators.Assign = None
+prefix_of Operators.Swap = None
+prefix_of Operators.ReversibleAssign = None
+prefix_of Operators.ReversibleSwap = None
 
 -- the operation of a section, by what stands between its bounds
 abbrev pub section_op : SectionKind → Op
@@ -197,6 +241,29 @@ section_op Forward = Ops.SectionPlus
 section_op Backward = Ops.SectionMinus
 
 -- Sizes
+
+-- an operator before its operand, of these sizes: as it stands, and in a mark
+abbrev pub prefix_size : Option PrefixForm → (operand marked : ℕ) → ℕ
+prefix_size (Some Activating) operand marked = operand + 2
+prefix_size (Some Repeating) operand marked = marked + 3
+prefix_size (Some (Operating op)) operand marked = operand + 1
+prefix_size None operand marked = 0
+
+-- an operator between two operands, and the first one in a mark
+abbrev pub plain_size : Option BinaryForm → (left marked right : ℕ) → ℕ
+plain_size (Some Both) left marked right = left + right + 1
+plain_size (Some Scanning) left marked right = left + right + 2
+plain_size (Some Either) left marked right = marked + right + 3
+plain_size (Some Limiting) left marked right = right + marked + 2
+plain_size (Some (Applying i)) left marked right = left + right + 1
+plain_size None left marked right = 0
+
+-- an operator with `:=` behind it
+abbrev pub augmented_size : Option UpdateForm → (left right : ℕ) → ℕ
+augmented_size (Some UpdatesBoth) left right = left + right + 1
+augmented_size (Some UpdatesScanning) left right = left + right + 4
+augmented_size (Some (UpdatesBy i)) left right = left + right + 3
+augmented_size None left right = 0
 
 -- how many instructions the code of a tree has, in loops with these depths
 abbrev mutual
@@ -213,29 +280,11 @@ abbrev mutual
   size D (Subscript place e es) = size D e + subscripts_size D es
   size D (Section place kind e i j) = size D e + size D i + size D j + 1
   size D (Field place e name) = size D e + 1
-  size D (Prefix place operator e) =
-      elim (prefix_of operator) as (λ x. ℕ)
-      [ Activating ↦ size D e + 2 | Repeating ↦ size (deeper D) e + 3 | Operating op ↦ size D e + 1 ]
+  size D (Prefix place operator e) = prefix_size (prefix_of operator) (size D e) (size (deeper D) e)
   size D (Not place e) = size (deeper D) e + 4
   size D (Binary place (Plain operator) a b) =
-      elim (form_of operator) as (λ x. ℕ) [
-        | Both ↦ size D a + size D b + 1
-        | Scanning ↦ size D a + size D b + 2
-        | Either ↦
-            size (deeper D) a + size D b + 3
-        | Limiting ↦ size D b + size (deeper D) a + 2
-        | Applying i ↦
-            size D a + size D b + 1
-      ]
-  size D (Binary place (Augmented operator) a b) =
-      elim (form_of operator) as (λ x. ℕ) [
-        | Both ↦ size D a + size D b + 1
-        | Scanning ↦ size D a + size D b + 4
-        | Either ↦ 0
-        | Limiting ↦
-            0
-        | Applying i ↦ size D a + size D b + 3
-      ]
+      plain_size (form_of operator) (size D a) (size (deeper D) a) (size D b)
+  size D (Binary place (Augmented operator) a b) = augmented_size (update_of operator) (size D a) (size D b)
   size D (To place a b by) = size D a + size D b + by_size D by + 1
   size D (If place c a b) = if_size (size (deeper D) c + size D a) D b
   size D (Case place e clauses) = size (deeper D) e + clauses_size D clauses + default_size D clauses + 3
@@ -335,6 +384,32 @@ keyword_code N text = if bytes_eq text (codes "fail") then I.Efail else I.Keywd 
 abbrev pub create_code : ℕ → ℕ → List Instr → List Instr
 create_code p n body = I.Create (p + n + 5) ∷ I.Mark (p + n + 4) ∷ body ++ (I.Coret ∷ I.Efail ∷ I.Cofail ∷ [])
 
+-- an operator before its operand, with the code of that at a place: as it stands, and in a mark
+abbrev pub prefix_code : Option PrefixForm → (operand marked : ℕ → List Instr) → ℕ → List Instr
+prefix_code (Some Activating) operand marked p = I.Pnull ∷ operand (p + 1) ++ I.Coact ∷ []
+prefix_code (Some Repeating) operand marked p = I.Mark0 ∷ marked (p + 1) ++ (I.Chfail p ∷ I.Esusp ∷ [])
+prefix_code (Some (Operating op)) operand marked p = operand p ++ I.Op op ∷ []
+prefix_code None operand marked p = []
+
+-- an operator between two operands with these codes, whose sizes, and that of the first one in a mark, are l, r and m
+abbrev pub plain_code : Option BinaryForm → (l m r : ℕ) → (left marked right : ℕ → List Instr) → ℕ → List Instr
+plain_code (Some Both) l m r left marked right p = left p ++ I.Pop ∷ right (p + l + 1)
+plain_code (Some Scanning) l m r left marked right p = left p ++ I.Bscan ∷ right (p + l + 1) ++ I.Escan ∷ []
+plain_code (Some Either) l m r left marked right p =
+    I.Mark (p + m + 3) ∷ marked (p + 1) ++ (I.Esusp ∷ I.Goto (p + m + 3 + r) ∷ right (p + m + 3))
+plain_code (Some Limiting) l m r left marked right p = right p ++ I.Limit ∷ marked (p + r + 1) ++ I.Lsusp ∷ []
+plain_code (Some (Applying i)) l m r left marked right p = left p ++ (right (p + l) ++ i ∷ [])
+plain_code None l m r left marked right p = []
+
+-- an operator with `:=` behind it, where the first operand has the size l
+abbrev pub augmented_code : Option UpdateForm → ℕ → (left right : ℕ → List Instr) → ℕ → List Instr
+augmented_code (Some UpdatesBoth) l left right p = left p ++ (right (p + l) ++ I.Op Ops.Assign ∷ [])
+augmented_code (Some UpdatesScanning) l left right p =
+    left p ++ (I.Dup ∷ I.Bscan ∷ right (p + l + 2) ++ (I.Escan ∷ I.Op Ops.Assign ∷ []))
+augmented_code (Some (UpdatesBy i)) l left right p =
+    left p ++ (I.Dup ∷ right (p + l + 1) ++ (i ∷ I.Op Ops.Assign ∷ []))
+augmented_code None l left right p = []
+
 -- The code of trees, with that of their parts
 abbrev mutual
   -- the code of a tree that begins at a place, in loops with these depths and ways
@@ -356,31 +431,14 @@ abbrev mutual
       ++ (code N D W (p + size D e + size D i) j ++ I.Op (section_op kind) ∷ []))
   code N D W p (Field place e name) = code N D W p e ++ I.Field (N.field name.text) ∷ []
   code N D W p (Prefix place operator e) =
-      elim (prefix_of operator) as (λ x. List Instr) [
-        | Activating ↦ I.Pnull ∷ code N D W (p + 1) e ++ I.Coact ∷ []
-        | Repeating ↦ I.Mark0
-            ∷ code N (deeper D) W (p + 1) e ++ (I.Chfail p ∷ I.Esusp ∷ [])
-        | Operating op ↦ code N D W p e
-            ++ I.Op op ∷ []
-      ]
+      prefix_code (prefix_of operator) (λ p. code N D W p e) (λ p. code N (deeper D) W p e) p
   code N D W p (Not place e) = let n = size (deeper D) e in I.Mark (p + n + 3)
       ∷ code N (deeper D) W (p + 1) e ++ (I.Unmark ∷ I.Efail ∷ I.Pnull ∷ [])
-  code N D W p (Binary place (Plain operator) a b) = elim (form_of operator) as (λ x. List Instr) [
-    | Both ↦ code N D W p a ++ I.Pop ∷ code N D W (p + size D a + 1) b
-    | Scanning ↦ code N D W p a ++ I.Bscan ∷ code N D W (p + size D a + 1) b ++ I.Escan ∷ []
-    | Either ↦ (let m = size (deeper D) a in let n = size D b in I.Mark (p + m + 3)
-        ∷ code N (deeper D) W (p + 1) a ++ (I.Esusp ∷ I.Goto (p + m + 3 + n) ∷ code N D W (p + m + 3) b))
-    | Limiting ↦ code N D W p b ++ I.Limit ∷ code N (deeper D) W (p + size D b + 1) a ++ I.Lsusp ∷ []
-    | Applying i ↦ code N D W p a ++ (code N D W (p + size D a) b ++ i ∷ [])
-  ]
-  code N D W p (Binary place (Augmented operator) a b) = elim (form_of operator) as (λ x. List Instr) [
-    | Both ↦ code N D W p a ++ (code N D W (p + size D a) b ++ I.Op Ops.Assign ∷ [])
-    | Scanning ↦ code N D W p a ++ (I.Dup ∷ I.Bscan ∷ code N D W (p + size D a + 2) b
-        ++ (I.Escan ∷ I.Op Ops.Assign ∷ []))
-    | Either ↦ []
-    | Limiting ↦ []
-    | Applying i ↦ code N D W p a ++ (I.Dup ∷ code N D W (p + size D a + 1) b ++ (i ∷ I.Op Ops.Assign ∷ []))
-  ]
+  code N D W p (Binary place (Plain operator) a b) =
+      plain_code (form_of operator) (size D a) (size (deeper D) a) (size D b) (λ p. code N D W p a)
+      (λ p. code N (deeper D) W p a) (λ p. code N D W p b) p
+  code N D W p (Binary place (Augmented operator) a b) =
+      augmented_code (update_of operator) (size D a) (λ p. code N D W p a) (λ p. code N D W p b) p
   code N D W p (To place a b by) = code N D W p a
       ++ (code N D W (p + size D a) b ++ (by_code N D W (p + size D a + size D b) by ++ I.Op Ops.ToBy ∷ []))
   code N D W p (If place c a b) =

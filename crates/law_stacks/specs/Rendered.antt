@@ -215,6 +215,7 @@ module _ (repeats : ℕ → ℕ → Bool) (Opens : ℕ → ℕ → Option ℕ �
           → FlatOuter outer z r.mark r.base → FlatSusps s z r.newest → FlatScans scans z r.scan
           → IsFlat (chain items s scans outer) cells r
 
+    -- the newest suspension is the cell on top, if there is one
     pub data FlatSusps : Suspensions → List NCell → Option ℕ → Type 0 where
       f_none : {z : List NCell} → FlatSusps none z None
       f_susp : {reason : Reason} {q h : ℕ} {inside : Chain} {r : Registers} {z : List NCell}

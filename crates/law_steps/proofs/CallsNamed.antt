@@ -1,58 +1,15 @@
 -- What the calls of a flat stack leave names only what has a name.
-use Rattle.std.proofs.Common.{ℕ, zero, suc, ◌+◌, true, false, List, [], ◌∷◌, ◌++◌, length, Option, Some, None}
-use Rattle.std.specs.Prelude.{◌-◌, pred, drop, take, replicate, slice_get, slice_index_or, slice_set}
-use Rattle.std.specs.List.{All}
+use Rattle.std.proofs.Common.{ℕ, zero, suc, ◌+◌, true, false, List, [], ◌∷◌, length, Option, Some, None}
+use Rattle.std.specs.Prelude.{◌-◌, pred, take, slice_get}
 use Rattle.std.specs.Option.{option_and_then}
-use Rattle.std.proofs.lemmas.List.Elements.{All-nil, All-cons, All-head, All-tail}
 use Rattle.icn_value.specs.Values.{Value, Item}
 use Rattle.icn_value.specs.Store.{Names}
+use Rattle.law_rows.proofs.EachOfList.{Each, each_of, all_of, each_drop, each_set}
 use Rattle.law_names.specs.NamedSettings.{ItemNamed, ValueNamed}
 use Rattle.icn_run.specs.Calls.{Pair, Why, Alt, Op, Scan, Escan, Proc, MarkDrop, NoMark, Goes, Repeats, Outside}
 use Rattle.icn_run.specs.Stacks as S
 use Rattle.icn_run.specs.Stacks.{Cell, base, call, local, mark, limit, suspension, operand, Frames, Registers}
 use Rattle.law_steps.specs.StateNames.{CellNamed, StackNamed, WhyNamed}
-
--- All of a list, by recursion on it
-
-abbrev pub Each : {A : Type 0} → (A → Type 0) → List A → Type 0
-Each Q [] = Unit {0}
-Each Q (x ∷ xs) = Q x × Each Q xs
-
-pub each_of : {A : Type 0} (P : A → Type 0) (xs : List A) → All P xs → Each P xs
-each_of P [] h = tt
-each_of P (x ∷ xs) h = (All-head P x xs h, each_of P xs (All-tail P x xs h))
-
-pub all_of : {A : Type 0} (P : A → Type 0) (xs : List A) → Each P xs → All P xs
-all_of P [] h = All-nil P
-all_of P (x ∷ xs) h = All-cons P x xs h.0 (all_of P xs h.1)
-
-pub each_drop : {A : Type 0} (P : A → Type 0) (n : ℕ) (xs : List A) → Each P xs → Each P (drop n xs)
-each_drop P zero xs h = h
-each_drop P (suc n) [] h = tt
-each_drop P (suc n) (x ∷ xs) h = each_drop P n xs h.1
-
-pub each_take : {A : Type 0} (P : A → Type 0) (n : ℕ) (xs : List A) → Each P xs → Each P (take n xs)
-each_take P zero xs h = tt
-each_take P (suc n) [] h = tt
-each_take P (suc n) (x ∷ xs) h = (h.0, each_take P n xs h.1)
-
-pub each_append : {A : Type 0} (P : A → Type 0) (xs ys : List A) → Each P xs → Each P ys → Each P (xs ++ ys)
-each_append P [] ys h g = g
-each_append P (x ∷ xs) ys h g = (h.0, each_append P xs ys h.1 g)
-
-pub each_replicate : {A : Type 0} (P : A → Type 0) (n : ℕ) (x : A) → P x → Each P (replicate n x)
-each_replicate P zero x h = tt
-each_replicate P (suc n) x h = (h, each_replicate P n x h)
-
-pub each_set : {A : Type 0} (P : A → Type 0) (xs : List A) (n : ℕ) (v : A) → Each P xs → P v → Each P (slice_set xs n v)
-each_set P [] n v h g = tt
-each_set P (x ∷ xs) zero v h g = (g, h.1)
-each_set P (x ∷ xs) (suc n) v h g = (h.0, each_set P xs n v h.1 g)
-
-pub each_index : {A : Type 0} (P : A → Type 0) (xs : List A) (n : ℕ) (v : A) → Each P xs → P v → P (slice_index_or xs n v)
-each_index P [] n v h g = g
-each_index P (x ∷ xs) zero v h g = h.0
-each_index P (x ∷ xs) (suc n) v h g = each_index P xs n v h.1 g
 
 -- where there is one, it is so
 abbrev pub IfThere : {A : Type 0} → (A → Type 0) → Option A → Type 0

@@ -19,7 +19,7 @@ use Rattle.icn_run.specs.Step as S
 use Rattle.icn_run.specs.Step.{Store, running}
 use Rattle.law_steps.specs.Starts.{StartsNamed}
 use Rattle.law_steps.proofs.CallsNamed as C
-use Rattle.law_steps.proofs.CallsNamed.{Each, all_of, each_append}
+use Rattle.law_rows.proofs.EachOfList.{Each, all_of, each_append}
 use Rattle.law_steps.proofs.StepsNamed as N
 
 both : (a b : Bool) → (a && b) ≡ true → (a ≡ true) × (b ≡ true)

@@ -30,7 +30,8 @@ use Rattle.icn_run.proofs.Errors.{at_error}
 use Rattle.law_steps.specs.StateNames.{CoexpNamed, StackNamed, StateNamed, StatusNamed, StoreNamed, WhyNamed}
 use Rattle.law_steps.specs.KeepingNames.{FunctionNamed, MayCall, StepsKeepNames}
 use Rattle.law_steps.proofs.CallsNamed as C
-use Rattle.law_steps.proofs.CallsNamed.{Each, IfThere, each_of, all_of, each_append, each_drop, each_index, each_get, each_replicate, each_set, each_take}
+use Rattle.law_rows.proofs.EachOfList.{Each, each_of, all_of, each_append, each_drop, each_index, each_replicate, each_set, each_take}
+use Rattle.law_steps.proofs.CallsNamed.{IfThere, each_get}
 
 module _ (rows : RowsKeepNames) (P : Tables) where
   abbrev pub ns : Names

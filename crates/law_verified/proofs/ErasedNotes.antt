@@ -1,5 +1,5 @@
 -- The noted code without its notes is the code, and as long as its size.
-use Rattle.std.proofs.Common.{◌≡◌, ℕ, zero, suc, ◌+◌, List, [], ◌∷◌, ◌++◌, length, refl, sym, ap, ◌∙◌, append_assoc, Bool, true, false, if◌then◌else◌}
+use Rattle.std.proofs.Common.{◌≡◌, ℕ, zero, suc, ◌+◌, List, [], ◌∷◌, ◌++◌, length, Option, Some, None, refl, sym, ap, ◌∙◌, append_assoc, Bool, true, false, if◌then◌else◌}
 use Rattle.std.specs.Prelude.{replicate}
 use Rattle.icn_text.specs.declared.op.Op.TheVariants as Ops
 use Rattle.icn_tree.specs.declared.tree.Infix.TheVariants.{Plain, Augmented}
@@ -7,7 +7,7 @@ use Rattle.icn_tree.specs.declared.tree.LoopKind.TheVariants.{While, Until, Ever
 use Rattle.icn_tree.specs.Trees.{Initial, NoInitial, Initially, Tree, MaybeTree, Trees, Clause, Clauses, Empty, Constant, Identifier, Keyword, Parentheses, Listing, Compound, Call, CoCall, Subscript, Section, Field, Prefix, Not, Binary, To, If, Case, Loop, Repeat, Create, Next, Fail, Break, Return, Suspend, Absent, Present, NoTrees, More, Default, Guarded, NoClauses, MoreClauses}
 use Rattle.icn_code.specs.declared.instr.Instr.{Instr}
 use Rattle.icn_code.specs.declared.instr.Instr.TheVariants as I
-use Rattle.law_simulation.specs.Translation.{bodies_size, SymbolTable, Depth, LoopExits, loop_of, deeper, opened_in, dropped_by_next, around, is_empty, is_nothing, is_no_element, BinaryForm, Both, Scanning, Either, Limiting, Applying, form_of, PrefixForm, Activating, Repeating, Operating, prefix_of, size, elements_size, by_size, body_size, clauses_size, clause_size, default_size, ways, bounded_size}
+use Rattle.law_simulation.specs.Translation.{bodies_size, SymbolTable, Depth, LoopExits, loop_of, deeper, opened_in, dropped_by_next, around, is_empty, is_nothing, is_no_element, BinaryForm, Both, Scanning, Either, Limiting, Applying, form_of, UpdateForm, UpdatesBoth, UpdatesScanning, UpdatesBy, update_of, PrefixForm, Activating, Repeating, Operating, prefix_of, size, elements_size, by_size, body_size, clauses_size, clause_size, default_size, ways, bounded_size}
 use Rattle.law_simulation.specs.Translation as C
 use Rattle.law_verified.specs.Noted.{bodies_code, NotedShape, Note, start, more, in_mark, within, Limited, with_scan, drops, without_mark, unmarks, create_notes, code, operands, elements_code, conjunction, compound, creates, subscripts, by_code, body_code, clauses_code, clause_code, default_code, prefix_code, plain_code, augmented_code, instrs, bounded_notes, body, procedure}
 use Rattle.law_simulation.proofs.TreeSizes as Z
@@ -33,49 +33,33 @@ unmarked (suc n) s = next I.Unmark (unmarked n (without_mark s))
 abbrev Noted : SymbolTable → Tree → Type 0
 Noted N e = (D : List Depth) (W : List LoopExits) (p : ℕ) (s : NotedShape) → instrs (code N D W p s e) ≡ C.code N D W p e
 
-prefix_noted : (N : SymbolTable) (D : List Depth) (W : List LoopExits) (p : ℕ) (s : NotedShape) (e : Tree) (f : PrefixForm) → Noted N e
+prefix_noted : (N : SymbolTable) (D : List Depth) (W : List LoopExits) (p : ℕ) (s : NotedShape) (e : Tree) (f : Option PrefixForm) → Noted N e
     → instrs (prefix_code D p s (λ D' p' s'. code N D' W p' s' e) f)
-    ≡ elim f as (λ x. List Instr) [
-      | Activating ↦ I.Pnull ∷ C.code N D W (p + 1) e ++ I.Coact ∷ []
-      | Repeating ↦ I.Mark0 ∷ C.code N (deeper D) W (p + 1) e ++ (I.Chfail p ∷ I.Esusp ∷ [])
-      | Operating op ↦ C.code N D W p e ++ I.Op op ∷ []
-    ]
-prefix_noted N D W p s e Activating g = next I.Pnull (join _ _ (g D W (p + 1) (more s)) refl)
-prefix_noted N D W p s e Repeating g = next I.Mark0 (join _ _ (g (deeper D) W (p + 1) (in_mark s)) refl)
-prefix_noted N D W p s e (Operating op) g = join _ _ (g D W p s) refl
+    ≡ C.prefix_code f (λ p. C.code N D W p e) (λ p. C.code N (deeper D) W p e) p
+prefix_noted N D W p s e (Some Activating) g = next I.Pnull (join _ _ (g D W (p + 1) (more s)) refl)
+prefix_noted N D W p s e (Some Repeating) g = next I.Mark0 (join _ _ (g (deeper D) W (p + 1) (in_mark s)) refl)
+prefix_noted N D W p s e (Some (Operating op)) g = join _ _ (g D W p s) refl
+prefix_noted N D W p s e None g = refl
 
-plain_noted : (N : SymbolTable) (D : List Depth) (W : List LoopExits) (p : ℕ) (s : NotedShape) (a b : Tree) (f : BinaryForm) → Noted N a → Noted N b
+plain_noted : (N : SymbolTable) (D : List Depth) (W : List LoopExits) (p : ℕ) (s : NotedShape) (a b : Tree) (f : Option BinaryForm) → Noted N a → Noted N b
     → instrs (plain_code D p s (size D a) (size D b) (size (deeper D) a) (λ D' p' s'. code N D' W p' s' a) (λ D' p' s'. code N D' W p' s' b) f)
-    ≡ elim f as (λ x. List Instr) [
-      | Both ↦ C.code N D W p a ++ I.Pop ∷ C.code N D W (p + size D a + 1) b
-      | Scanning ↦ C.code N D W p a ++ I.Bscan ∷ C.code N D W (p + size D a + 1) b ++ I.Escan ∷ []
-      | Either ↦ (let m = size (deeper D) a in let n = size D b in
-          I.Mark (p + m + 3) ∷ C.code N (deeper D) W (p + 1) a ++ (I.Esusp ∷ I.Goto (p + m + 3 + n) ∷ C.code N D W (p + m + 3) b))
-      | Limiting ↦ C.code N D W p b ++ I.Limit ∷ C.code N (deeper D) W (p + size D b + 1) a ++ I.Lsusp ∷ []
-      | Applying i ↦ C.code N D W p a ++ (C.code N D W (p + size D a) b ++ i ∷ [])
-    ]
-plain_noted N D W p s a b Both g h = join _ _ (g D W p s) (next I.Pop (h D W (p + size D a + 1) s))
-plain_noted N D W p s a b Scanning g h = join _ _ (g D W p s) (next I.Bscan (join _ _ (h D W (p + size D a + 1) (with_scan s)) refl))
+    ≡ C.plain_code f (size D a) (size (deeper D) a) (size D b) (λ p. C.code N D W p a) (λ p. C.code N (deeper D) W p a) (λ p. C.code N D W p b) p
+plain_noted N D W p s a b (Some Both) g h = join _ _ (g D W p s) (next I.Pop (h D W (p + size D a + 1) s))
+plain_noted N D W p s a b (Some Scanning) g h = join _ _ (g D W p s) (next I.Bscan (join _ _ (h D W (p + size D a + 1) (with_scan s)) refl))
     ∙ sym (append_assoc (C.code N D W p a) (I.Bscan ∷ C.code N D W (p + size D a + 1) b) (I.Escan ∷ []))
-plain_noted N D W p s a b Either g h = next _ (join _ _ (g (deeper D) W (p + 1) (in_mark s)) (next I.Esusp (next _ (h D W (p + size (deeper D) a + 3) s))))
-plain_noted N D W p s a b Limiting g h = join _ _ (h D W p s) (next I.Limit (join _ _ (g (deeper D) W (p + size D b + 1) (within Limited s)) refl))
+plain_noted N D W p s a b (Some Either) g h = next _ (join _ _ (g (deeper D) W (p + 1) (in_mark s)) (next I.Esusp (next _ (h D W (p + size (deeper D) a + 3) s))))
+plain_noted N D W p s a b (Some Limiting) g h = join _ _ (h D W p s) (next I.Limit (join _ _ (g (deeper D) W (p + size D b + 1) (within Limited s)) refl))
     ∙ sym (append_assoc (C.code N D W p b) (I.Limit ∷ C.code N (deeper D) W (p + size D b + 1) a) (I.Lsusp ∷ []))
-plain_noted N D W p s a b (Applying i) g h = join _ _ (g D W p s) (join _ _ (h D W (p + size D a) (more s)) refl)
+plain_noted N D W p s a b (Some (Applying i)) g h = join _ _ (g D W p s) (join _ _ (h D W (p + size D a) (more s)) refl)
+plain_noted N D W p s a b None g h = refl
 
-augmented_noted : (N : SymbolTable) (D : List Depth) (W : List LoopExits) (p : ℕ) (s : NotedShape) (a b : Tree) (f : BinaryForm) → Noted N a → Noted N b
+augmented_noted : (N : SymbolTable) (D : List Depth) (W : List LoopExits) (p : ℕ) (s : NotedShape) (a b : Tree) (f : Option UpdateForm) → Noted N a → Noted N b
     → instrs (augmented_code D p s (size D a) (λ D' p' s'. code N D' W p' s' a) (λ D' p' s'. code N D' W p' s' b) f)
-    ≡ elim f as (λ x. List Instr) [
-      | Both ↦ C.code N D W p a ++ (C.code N D W (p + size D a) b ++ I.Op Ops.Assign ∷ [])
-      | Scanning ↦ C.code N D W p a ++ (I.Dup ∷ I.Bscan ∷ C.code N D W (p + size D a + 2) b ++ (I.Escan ∷ I.Op Ops.Assign ∷ []))
-      | Either ↦ []
-      | Limiting ↦ []
-      | Applying i ↦ C.code N D W p a ++ (I.Dup ∷ C.code N D W (p + size D a + 1) b ++ (i ∷ I.Op Ops.Assign ∷ []))
-    ]
-augmented_noted N D W p s a b Both g h = join _ _ (g D W p s) (join _ _ (h D W (p + size D a) (more s)) refl)
-augmented_noted N D W p s a b Scanning g h = join _ _ (g D W p s) (next I.Dup (next I.Bscan (join _ _ (h D W (p + size D a + 2) (with_scan (more s))) refl)))
-augmented_noted N D W p s a b Either g h = refl
-augmented_noted N D W p s a b Limiting g h = refl
-augmented_noted N D W p s a b (Applying i) g h = join _ _ (g D W p s) (next I.Dup (join _ _ (h D W (p + size D a + 1) (more (more s))) refl))
+    ≡ C.augmented_code f (size D a) (λ p. C.code N D W p a) (λ p. C.code N D W p b) p
+augmented_noted N D W p s a b (Some UpdatesBoth) g h = join _ _ (g D W p s) (join _ _ (h D W (p + size D a) (more s)) refl)
+augmented_noted N D W p s a b (Some UpdatesScanning) g h = join _ _ (g D W p s) (next I.Dup (next I.Bscan (join _ _ (h D W (p + size D a + 2) (with_scan (more s))) refl)))
+augmented_noted N D W p s a b None g h = refl
+augmented_noted N D W p s a b (Some (UpdatesBy i)) g h = join _ _ (g D W p s) (next I.Dup (join _ _ (h D W (p + size D a + 1) (more (more s))) refl))
 
 created_noted : (p n : ℕ) (s : NotedShape) (xs : List Note) (A : List Instr) → instrs xs ≡ A → instrs (create_notes p n s xs) ≡ C.create_code p n A
 created_noted p n s xs A e = next _ (next _ (join _ _ e refl))
@@ -98,7 +82,7 @@ mutual
   noted N (Prefix place operator e) D W p s = prefix_noted N D W p s e (prefix_of operator) (noted N e)
   noted N (Not place e) D W p s = next _ (join _ _ (noted N e (deeper D) W (p + 1) (in_mark s)) refl)
   noted N (Binary place (Plain operator) a b) D W p s = plain_noted N D W p s a b (form_of operator) (noted N a) (noted N b)
-  noted N (Binary place (Augmented operator) a b) D W p s = augmented_noted N D W p s a b (form_of operator) (noted N a) (noted N b)
+  noted N (Binary place (Augmented operator) a b) D W p s = augmented_noted N D W p s a b (update_of operator) (noted N a) (noted N b)
   noted N (To place a b by) D W p s = join _ _ (noted N a D W p s)
       (join _ _ (noted N b D W (p + size D a) (more s)) (join _ _ (by_noted N by D W (p + size D a + size D b) (more (more s))) refl))
   noted N (If place c a Absent) D W p s = next _ (join _ _ (noted N c (deeper D) W (p + 1) (in_mark s)) (next _ (noted N a D W (p + size (deeper D) c + 2) s)))

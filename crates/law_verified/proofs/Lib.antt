@@ -9,6 +9,5 @@ pub mod SoundProcedures
 pub mod LoopNesting
 pub mod NestedTrees
 pub mod BackwardLabels
-pub mod OperatorsFit
 pub mod TreesFit
 pub mod VerifiedFiles

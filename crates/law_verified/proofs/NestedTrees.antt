@@ -1,5 +1,5 @@
 -- The noted code of a tree is neat.
-use Rattle.std.proofs.Common.{◌≡◌, ℕ, suc, ◌+◌, ◌≤◌, Bool, true, false, List, [], ◌∷◌, ◌++◌, refl, sym, ◌∙◌, subst, arith, append_assoc, if◌then◌else◌}
+use Rattle.std.proofs.Common.{◌≡◌, ℕ, suc, ◌+◌, ◌≤◌, Bool, true, false, List, [], ◌∷◌, ◌++◌, Option, refl, sym, ◌∙◌, subst, arith, append_assoc, if◌then◌else◌}
 use Rattle.std.specs.Prelude.{codes}
 use Rattle.std.specs.Str.{bytes_eq}
 use Rattle.icn_code.specs.declared.instr.Instr.{Instr}
@@ -9,7 +9,7 @@ use Rattle.icn_tree.specs.declared.tree.Infix.TheVariants.{Plain, Augmented}
 use Rattle.icn_tree.specs.declared.tree.LoopKind.TheVariants.{While, Until, Every}
 use Rattle.icn_tree.specs.Trees as T
 use Rattle.icn_tree.specs.Trees.{Tree, Trees, MaybeTree, Clauses, Absent, Present, NoTrees, More, Default, Guarded, NoClauses, MoreClauses}
-use Rattle.law_simulation.specs.Translation.{bodies_size, SymbolTable, Depth, LoopExits, loop_of, ways, deeper, opened_in, dropped_by_next, around, size, sizes, elements_size, conjunction_size, compound_size, creates_size, subscripts_size, by_size, body_size, clauses_size, default_size, keyword_code, BinaryForm, Both, Scanning, Either, Limiting, Applying, PrefixForm, Activating, Repeating, Operating}
+use Rattle.law_simulation.specs.Translation.{bodies_size, SymbolTable, Depth, LoopExits, loop_of, ways, deeper, opened_in, dropped_by_next, around, size, sizes, elements_size, conjunction_size, compound_size, creates_size, subscripts_size, by_size, body_size, clauses_size, default_size, keyword_code, BinaryForm, UpdateForm, PrefixForm, prefix_size, plain_size, augmented_size}
 use Rattle.law_simulation.specs.Linkage.{Linkage, Loads, l_null, l_integer, l_string, l_cset, l_local, l_static, l_global}
 use Rattle.law_verified.specs.Noted.{bodies_code, NotedShape, o, flagged_note, start, more, in_mark, within, Limited, with_scan, drops, create_notes, code, operands, elements_code, conjunction, compound, creates, subscripts, by_code, body_code, clauses_code, clause_code, default_code, prefix_code, plain_code, augmented_code}
 use Rattle.law_verified.specs.FittingTrees.{Infixes, x_both, x_scan, x_either, x_limit, x_at, x_bang, x_op, Augments, u_both, u_scan, u_at, u_op, Prefixes, p_at, p_bar, p_op, Fit, FitAll, FitCreates, FitBy, FitMaybe, FitClauses, FitDefault}
@@ -43,12 +43,12 @@ module _ (L : Linkage) (j : ℕ) (N : SymbolTable) where
       → WaysAhead (p' + size D x) W
       → WellNested W p' (code N D W p s x) (p' + size D x)
 
-  prefix_neat : (D : List Depth) (W : List LoopExits) (B : List Bool) (c : Bool) (s : NotedShape) (x : Tree) {op : Operator} {form : PrefixForm} → Goal x
+  prefix_neat : (D : List Depth) (W : List LoopExits) (B : List Bool) (c : Bool) (s : NotedShape) (x : Tree) {op : Operator} {form : Option PrefixForm} → Goal x
       → Same W B
       → Prefixes op form → Fit L j N B c x → (p p' : ℕ) → p' ≡ p
-      → WaysAhead (p' + elim form as (λ x. ℕ) [ Activating ↦ size D x + 2 | Repeating ↦ size (deeper D) x + 3 | Operating op ↦ size D x + 1 ]) W
+      → WaysAhead (p' + prefix_size form (size D x) (size (deeper D) x)) W
       → WellNested W p' (prefix_code D p s (λ D' p' s'. code N D' W p' s' x) form)
-      (p' + elim form as (λ x. ℕ) [ Activating ↦ size D x + 2 | Repeating ↦ size (deeper D) x + 3 | Operating op ↦ size D x + 1 ])
+      (p' + prefix_size form (size D x) (size (deeper D) x))
   prefix_neat D W B c s x g w p_at f p p' e a =
       nested_plain _ refl (nested_append (g D W B c (more s) w f (p + 1) (suc p') (omega arith) (ways_ahead (omega arith) a))
       (nested_plain _ refl (nested_nil _ (omega arith))) a)
@@ -64,24 +64,12 @@ module _ (L : Linkage) (j : ℕ) (N : SymbolTable) where
   prefix_neat D W B c s x g w (p_op i r) f p p' e a =
       nested_append (g D W B c s w f p p' e (ways_ahead (omega arith) a)) (nested_plain _ refl (nested_nil _ (omega arith))) a
 
-  plain_neat : (D : List Depth) (W : List LoopExits) (B : List Bool) (c : Bool) (s : NotedShape) (x y : Tree) {op : Operator} {form : BinaryForm} → Goal x
+  plain_neat : (D : List Depth) (W : List LoopExits) (B : List Bool) (c : Bool) (s : NotedShape) (x y : Tree) {op : Operator} {form : Option BinaryForm} → Goal x
       → Goal y → Same W B
       → Infixes op form → Fit L j N B c x → Fit L j N B c y → (p p' : ℕ) → p' ≡ p
-      → WaysAhead (p' + elim form as (λ x. ℕ) [
-        | Both ↦ size D x + size D y + 1
-        | Scanning ↦ size D x + size D y + 2
-        | Either ↦ size (deeper D) x + size D y + 3
-        | Limiting ↦ size D y + size (deeper D) x + 2
-        | Applying i ↦ size D x + size D y + 1
-      ]) W
+      → WaysAhead (p' + plain_size form (size D x) (size (deeper D) x) (size D y)) W
       → WellNested W p' (plain_code D p s (size D x) (size D y) (size (deeper D) x) (λ D' p' s'. code N D' W p' s' x) (λ D' p' s'. code N D' W p' s' y) form)
-      (p' + elim form as (λ x. ℕ) [
-        | Both ↦ size D x + size D y + 1
-        | Scanning ↦ size D x + size D y + 2
-        | Either ↦ size (deeper D) x + size D y + 3
-        | Limiting ↦ size D y + size (deeper D) x + 2
-        | Applying i ↦ size D x + size D y + 1
-      ])
+      (p' + plain_size form (size D x) (size (deeper D) x) (size D y))
   plain_neat D W B c s x y g v w x_both f t p p' e a = nested_append (g D W B c s w f p p' e (ways_ahead (omega arith) a))
       (nested_plain _ refl (nested_to _ (omega arith) (v D W B c s w t (p + size D x + 1) (suc (p' + size D x)) (omega arith) (ways_ahead (omega arith) a)))) a
   plain_neat D W B c s x y g v w x_scan f t p p' e a =
@@ -109,13 +97,11 @@ module _ (L : Linkage) (j : ℕ) (N : SymbolTable) where
       (nested_append (v D W B c (more s) w t (p + size D x) (p' + size D x) (omega arith) (ways_ahead (omega arith) a))
       (nested_plain _ refl (nested_nil _ (omega arith))) a) a
 
-  augmented_neat : (D : List Depth) (W : List LoopExits) (B : List Bool) (c : Bool) (s : NotedShape) (x y : Tree) {op : Operator} {form : BinaryForm} → Goal x
+  augmented_neat : (D : List Depth) (W : List LoopExits) (B : List Bool) (c : Bool) (s : NotedShape) (x y : Tree) {op : Operator} {form : Option UpdateForm} → Goal x
       → Goal y
       → Same W B → Augments op form → Fit L j N B c x → Fit L j N B c y → (p p' : ℕ) → p' ≡ p
-      → WaysAhead (p' + elim form as (λ x. ℕ)
-      [ Both ↦ size D x + size D y + 1 | Scanning ↦ size D x + size D y + 4 | Either ↦ 0 | Limiting ↦ 0 | Applying i ↦ size D x + size D y + 3 ]) W
-      → WellNested W p' (augmented_code D p s (size D x) (λ D' p' s'. code N D' W p' s' x) (λ D' p' s'. code N D' W p' s' y) form) (p' + elim form as (λ x. ℕ)
-      [ Both ↦ size D x + size D y + 1 | Scanning ↦ size D x + size D y + 4 | Either ↦ 0 | Limiting ↦ 0 | Applying i ↦ size D x + size D y + 3 ])
+      → WaysAhead (p' + augmented_size form (size D x) (size D y)) W
+      → WellNested W p' (augmented_code D p s (size D x) (λ D' p' s'. code N D' W p' s' x) (λ D' p' s'. code N D' W p' s' y) form) (p' + augmented_size form (size D x) (size D y))
   augmented_neat D W B c s x y g v w u_both f t p p' e a = nested_append (g D W B c s w f p p' e (ways_ahead (omega arith) a))
       (nested_append (v D W B c (more s) w t (p + size D x) (p' + size D x) (omega arith) (ways_ahead (omega arith) a))
       (nested_plain _ refl (nested_nil _ (omega arith))) a) a

@@ -1,20 +1,20 @@
 -- The trees of files that break no rule fit.
-use Rattle.std.proofs.Common.{◌≡◌, ℕ, Bool, true, false, List, [], ◌∷◌, refl}
+use Rattle.std.proofs.Common.{◌≡◌, ℕ, Bool, true, false, List, [], ◌∷◌, Some, refl, sym, subst}
+use Rattle.icn_text.specs.declared.op.Op.{Op}
 use Rattle.icn_tree.specs.declared.token.Operator.{Operator}
-use Rattle.icn_tree.specs.declared.token.Operator.TheVariants as Signs
 use Rattle.icn_tree.specs.declared.tree.Place.{Place}
 use Rattle.icn_tree.specs.Trees as T
 use Rattle.icn_tree.specs.Trees.{Tree, Trees, MaybeTree, Clauses, Absent, Present, NoTrees, More, Default, Guarded, NoClauses, MoreClauses, elements_of, Initial}
+use Rattle.icn_meaning.specs.Operators.{prefix_op, infix_op, update_op}
 use Rattle.icn_meaning.specs.Evaluate.{step_of}
 use Rattle.icn_meaning.specs.Succeed.{default_of}
-use Rattle.law_simulation.specs.Translation.{SymbolTable, prefix_of}
+use Rattle.law_simulation.specs.Translation.{SymbolTable, form_of, update_of, prefix_of}
 use Rattle.law_simulation.specs.Linkage.{Linkage, f_field}
 use Rattle.law_simulation.specs.StandingCode.{Nest, top, in_create, in_mark, in_scan, in_loop, in_control, in_each, Proper, w_top, w_mark, w_scan, w_loop, w_control, w_each}
-use Rattle.law_simulation.specs.Translatable.{outside, HasLoop, h_mark, h_scan, h_loop, h_control, h_each, HasNext, x_mark, x_scan, x_loop, x_each, is_prefix_sign, is_infix_sign, Fits, fits_empty, fits_constant, fits_identifier, fits_keyword, fits_fail_keyword, fits_last, fits_before, fits_final, fits_passed, fits_bounded, fits_listing, fits_call, fits_cocall, fits_subscript, fits_section, fits_field, fits_prefix, fits_activate, fits_repeated, fits_not, fits_both, fits_scan, fits_or, fits_limit, fits_infix, fits_at, fits_bang, fits_update_both, fits_update_scan, fits_update_at, fits_update, fits_to, fits_if, fits_if_else, fits_case, fits_while, fits_until, fits_every, fits_repeat, fits_create, fits_next, fits_fail, fits_break, fits_return, fits_suspend, FitsAll, fits_nil, fits_cons, FitsBodies, fits_no_body, fits_body, FitsMaybe, fits_absent, fits_present, FitsDefault, fits_no_default, fits_default, FitsCases, fits_no_case, fits_other, fits_guard, FitsRest, fits_end, fits_skipped, fits_more, FitsRoutine, fits_plain, fits_blank, fits_initial}
-use Rattle.law_verified.specs.FittingTrees.{x_both, x_scan as i_scan, x_either, x_limit, x_at, x_bang, u_both, u_scan, u_at, Prefixes, p_at, p_bar, p_op, k_fail, k_word, Fit, FitAll, FitCreates, FitBy, FitMaybe, FitClauses, FitDefault, MayNext}
+use Rattle.law_simulation.specs.Translatable.{outside, HasLoop, h_mark, h_scan, h_loop, h_control, h_each, HasNext, x_mark, x_scan, x_loop, x_each, Fits, fits_empty, fits_constant, fits_identifier, fits_keyword, fits_fail_keyword, fits_last, fits_before, fits_final, fits_passed, fits_bounded, fits_listing, fits_call, fits_cocall, fits_subscript, fits_section, fits_field, fits_prefix, fits_activate, fits_repeated, fits_not, fits_both, fits_scan, fits_or, fits_limit, fits_infix, fits_at, fits_bang, fits_update_both, fits_update_scan, fits_update_at, fits_update, fits_to, fits_if, fits_if_else, fits_case, fits_while, fits_until, fits_every, fits_repeat, fits_create, fits_next, fits_fail, fits_break, fits_return, fits_suspend, FitsAll, fits_nil, fits_cons, FitsBodies, fits_no_body, fits_body, FitsMaybe, fits_absent, fits_present, FitsDefault, fits_no_default, fits_default, FitsCases, fits_no_case, fits_other, fits_guard, FitsRest, fits_end, fits_skipped, fits_more, FitsRoutine, fits_plain, fits_blank, fits_initial}
+use Rattle.law_simulation.proofs.OperatorForms.{prefix_is, prefix_arity, infix_is, infix_arity, update_is, update_arity}
+use Rattle.law_verified.specs.FittingTrees.{x_both, x_scan as i_scan, x_either, x_limit, x_at, x_bang, Infixes, x_op, u_both, u_scan, u_at, Augments, u_op, Prefixes, p_at, p_bar, p_op, k_fail, k_word, Fit, FitAll, FitCreates, FitBy, FitMaybe, FitClauses, FitDefault, MayNext}
 use Rattle.law_verified.specs.TranslationLaws.{FitInitial}
-use Rattle.law_verified.proofs.UnmarkLengths.{false_is_not_true}
-use Rattle.law_verified.proofs.OperatorsFit.{is_between, infix_fits, is_augmented, augment_fits}
 
 -- the open loops, each with whether `next` may stand there
 abbrev loops : Nest → List Bool
@@ -61,32 +61,14 @@ breaks L j N place e h_each f = f
 
 -- Operators
 
-between : (o : Operator) → is_infix_sign o ≡ true → is_between o ≡ true
-between Signs.Dot e = absurd (false_is_not_true e)
-between Signs.Tilde e = absurd (false_is_not_true e)
-between o e = refl
+before : (o : Operator) {op : Op} → prefix_op o ≡ Some op → Prefixes o (prefix_of o)
+before o e = subst (λ form. Prefixes o form) (sym (prefix_is o e)) (p_op e (prefix_arity o e))
 
-augmented : (o : Operator) → is_infix_sign o ≡ true → is_augmented o ≡ true
-augmented Signs.Dot e = absurd (false_is_not_true e)
-augmented Signs.Tilde e = absurd (false_is_not_true e)
-augmented Signs.Bar e = absurd (false_is_not_true e)
-augmented Signs.Backslash e = absurd (false_is_not_true e)
-augmented Signs.Bang e = absurd (false_is_not_true e)
-augmented o e = refl
+between : (o : Operator) {op : Op} → infix_op o ≡ Some op → Infixes o (form_of o)
+between o e = subst (λ form. Infixes o form) (sym (infix_is o e)) (x_op e (infix_arity o e))
 
-before : (o : Operator) → is_prefix_sign o ≡ true → Prefixes o (prefix_of o)
-before Signs.Slash e = p_op refl refl
-before Signs.Backslash e = p_op refl refl
-before Signs.Dot e = p_op refl refl
-before Signs.Plus e = p_op refl refl
-before Signs.Minus e = p_op refl refl
-before Signs.Star e = p_op refl refl
-before Signs.Tilde e = p_op refl refl
-before Signs.Bang e = p_op refl refl
-before Signs.Question e = p_op refl refl
-before Signs.Equal e = p_op refl refl
-before Signs.Caret e = p_op refl refl
-before o e = absurd (false_is_not_true e)
+augmented : (o : Operator) {op : Op} → update_op o ≡ Some op → Augments o (update_of o)
+augmented o e = subst (λ form. Augments o form) (sym (update_is o e)) (u_op e (update_arity o e))
 
 module _ (L : Linkage) (j : ℕ) (N : SymbolTable) where
   -- a list of one empty expression has no element
@@ -138,13 +120,13 @@ module _ (L : Linkage) (j : ℕ) (N : SymbolTable) where
     fit (fits_scan f g) = (i_scan, fit f, fit g)
     fit (fits_or f g) = (x_either, fit f, fit g)
     fit (fits_limit f g) = (x_limit, fit f, fit g)
-    fit (fits_infix {o = o} e f g) = (infix_fits o (between o e), fit f, fit g)
+    fit (fits_infix {o = o} e f g) = (between o e, fit f, fit g)
     fit (fits_at f g) = (x_at, fit f, fit g)
     fit (fits_bang f g) = (x_bang, fit f, fit g)
     fit (fits_update_both f g) = (u_both, fit f, fit g)
     fit (fits_update_scan f g) = (u_scan, fit f, fit g)
     fit (fits_update_at f g) = (u_at, fit f, fit g)
-    fit (fits_update {o = o} e f g) = (augment_fits o (augmented o e), fit f, fit g)
+    fit (fits_update {o = o} e f g) = (augmented o e, fit f, fit g)
     fit (fits_to {place = place} {by = by} f g h) = (fit f, fit g, by_of _ _ place by (fit h))
     fit (fits_if f g) = (fit f, fit g, tt)
     fit (fits_if_else f g h) = (fit f, fit g, fit h)

@@ -1,5 +1,5 @@
 -- The noted code of a tree is fine, with the shapes that are noted.
-use Rattle.std.proofs.Common.{◌≡◌, ℕ, suc, ◌+◌, ◌-◌, ◌<◌, ◌≤◌, Bool, true, false, List, [], ◌∷◌, ◌++◌, refl, sym, subst, arith, if◌then◌else◌}
+use Rattle.std.proofs.Common.{◌≡◌, ℕ, suc, ◌+◌, ◌-◌, ◌<◌, ◌≤◌, Bool, true, false, List, [], ◌∷◌, ◌++◌, Option, refl, sym, subst, arith, if◌then◌else◌}
 use Rattle.std.specs.Prelude.{codes}
 use Rattle.std.specs.Str.{bytes_eq}
 use Rattle.icn_text.specs.declared.op.Op.{Op}
@@ -13,7 +13,7 @@ use Rattle.icn_tree.specs.declared.tree.Infix.TheVariants.{Plain, Augmented}
 use Rattle.icn_tree.specs.declared.tree.LoopKind.TheVariants.{While, Until, Every}
 use Rattle.icn_tree.specs.Trees as T
 use Rattle.icn_tree.specs.Trees.{Tree, Trees, MaybeTree, Clauses, Absent, Present, NoTrees, More, Default, Guarded, NoClauses, MoreClauses}
-use Rattle.law_simulation.specs.Translation.{bodies_size, SymbolTable, Depth, LoopExits, loop_of, ways, deeper, opened_in, dropped_by_next, around, last_way, next_way, size, sizes, elements_size, conjunction_size, compound_size, creates_size, subscripts_size, by_size, body_size, clauses_size, default_size, elements, count_of, keyword_code, section_op, BinaryForm, Both, Scanning, Either, Limiting, Applying, PrefixForm, Activating, Repeating, Operating}
+use Rattle.law_simulation.specs.Translation.{bodies_size, SymbolTable, Depth, LoopExits, loop_of, ways, deeper, opened_in, dropped_by_next, around, last_way, next_way, size, sizes, elements_size, conjunction_size, compound_size, creates_size, subscripts_size, by_size, body_size, clauses_size, default_size, elements, count_of, keyword_code, section_op, BinaryForm, UpdateForm, PrefixForm, prefix_size, plain_size, augmented_size}
 use Rattle.law_simulation.specs.Linkage.{Linkage, Loads, l_null, l_integer, l_string, l_cset, l_local, l_static, l_global}
 use Rattle.law_verified.specs.Noted.{bodies_code, NotedShape, o, start, many, more, in_mark, within, Limited, with_scan, drops, unmarks, create_notes, code, operands, elements_code, conjunction, compound, creates, subscripts, by_code, body_code, clauses_code, clause_code, default_code, prefix_code, plain_code, augmented_code}
 use Rattle.law_verified.specs.FittingTrees.{Infixes, x_both, x_scan, x_either, x_limit, x_at, x_bang, x_op, Augments, u_both, u_scan, u_at, u_op, Prefixes, p_at, p_bar, p_op, Some_trees, Fit, FitAll, FitCreates, FitBy, FitMaybe, FitClauses, FitDefault}
@@ -56,12 +56,12 @@ module _ (At : ℕ → NotedShape → Type 0) (L : Linkage) (j : ℕ) (N : Symbo
       (r : ℕ) (D : List Depth) (W : List LoopExits) (B : List Bool) (c : Bool) (s : NotedShape) → Ctx At r D W B c s → Fit L j N B c x → (p p' : ℕ) → p' ≡ p
       → p' + size D x ≤ r → Has At p' (code N D W p s x) → At (p' + size D x) (more s) → At p' s × AllFine At p' (code N D W p s x)
 
-  prefix_fine : (r : ℕ) (D : List Depth) (W : List LoopExits) (B : List Bool) (c : Bool) (s : NotedShape) (x : Tree) {op : Operator} {form : PrefixForm}
+  prefix_fine : (r : ℕ) (D : List Depth) (W : List LoopExits) (B : List Bool) (c : Bool) (s : NotedShape) (x : Tree) {op : Operator} {form : Option PrefixForm}
       → Goal x
       → Ctx At r D W B c s → Prefixes op form → Fit L j N B c x → (p p' : ℕ) → p' ≡ p
-      → p' + elim form as (λ x. ℕ) [ Activating ↦ size D x + 2 | Repeating ↦ size (deeper D) x + 3 | Operating op ↦ size D x + 1 ] ≤ r
+      → p' + prefix_size form (size D x) (size (deeper D) x) ≤ r
       → Has At p' (prefix_code D p s (λ D' p' s'. code N D' W p' s' x) form)
-      → At (p' + elim form as (λ x. ℕ) [ Activating ↦ size D x + 2 | Repeating ↦ size (deeper D) x + 3 | Operating op ↦ size D x + 1 ]) (more s)
+      → At (p' + prefix_size form (size D x) (size (deeper D) x)) (more s)
       → At p' s × AllFine At p' (prefix_code D p s (λ D' p' s'. code N D' W p' s' x) form)
   prefix_fine r D W B c s x g a p_at f p p' e b h z =
       let k = fine_cut At _ _ (suc p') (size D x) (code_length N x D W (p + 1) (more s)) h.1 in
@@ -71,29 +71,17 @@ module _ (At : ℕ → NotedShape → Type 0) (L : Linkage) (j : ℕ) (N : Symbo
       let k = fine_cut At _ _ (suc p') (size (deeper D) x) (code_length N x (deeper D) W (p + 1) (in_mark s)) h.1 in
       let y = g r (deeper D) W B c (in_mark s) (context_deeper At _ a) f (p + 1) (suc p') (omega arith) (omega arith) k.0 k.1.0 in
       (h.0, (f_mark0 s y.0, k.2 y.1 (f_chfail s k.1.1.0 (to _ h.0 e) (omega arith), (f_esusp s (to _ z (omega arith)), tt))))
-  prefix_fine r D W B c s x g a (p_op {o = op} i w) f p p' e b h z =
+  prefix_fine r D W B c s x g a (p_op i w) f p p' e b h z =
       let k = fine_cut At _ _ p' (size D x) (code_length N x D W p s) h in
       let y = g r D W B c s a f p p' e (omega arith) k.0 k.1.0 in
       (y.0, k.2 y.1 (f_takes 1 s (takes _ w) (to _ z (omega arith)), tt))
 
-  plain_fine : (r : ℕ) (D : List Depth) (W : List LoopExits) (B : List Bool) (c : Bool) (s : NotedShape) (x y : Tree) {op : Operator} {form : BinaryForm}
+  plain_fine : (r : ℕ) (D : List Depth) (W : List LoopExits) (B : List Bool) (c : Bool) (s : NotedShape) (x y : Tree) {op : Operator} {form : Option BinaryForm}
       → Goal x → Goal y
       → Ctx At r D W B c s → Infixes op form → Fit L j N B c x → Fit L j N B c y → (p p' : ℕ) → p' ≡ p
-      → p' + elim form as (λ x. ℕ) [
-        | Both ↦ size D x + size D y + 1
-        | Scanning ↦ size D x + size D y + 2
-        | Either ↦ size (deeper D) x + size D y + 3
-        | Limiting ↦ size D y + size (deeper D) x + 2
-        | Applying i ↦ size D x + size D y + 1
-      ] ≤ r
+      → p' + plain_size form (size D x) (size (deeper D) x) (size D y) ≤ r
       → Has At p' (plain_code D p s (size D x) (size D y) (size (deeper D) x) (λ D' p' s'. code N D' W p' s' x) (λ D' p' s'. code N D' W p' s' y) form)
-      → At (p' + elim form as (λ x. ℕ) [
-        | Both ↦ size D x + size D y + 1
-        | Scanning ↦ size D x + size D y + 2
-        | Either ↦ size (deeper D) x + size D y + 3
-        | Limiting ↦ size D y + size (deeper D) x + 2
-        | Applying i ↦ size D x + size D y + 1
-      ]) (more s)
+      → At (p' + plain_size form (size D x) (size (deeper D) x) (size D y)) (more s)
       → At p' s
       × AllFine At p' (plain_code D p s (size D x) (size D y) (size (deeper D) x) (λ D' p' s'. code N D' W p' s' x) (λ D' p' s'. code N D' W p' s' y) form)
   plain_fine r D W B c s x y g v a x_both f t p p' e b h z =
@@ -139,14 +127,12 @@ module _ (At : ℕ → NotedShape → Type 0) (L : Linkage) (j : ℕ) (N : Symbo
       let u = g r D W B c s a f p p' e (omega arith) k.0 w.0 in
       (u.0, k.2 u.1 (m.2 w.1 (f_takes 2 s (takes _ q) (to _ z (omega arith)), tt)))
 
-  augmented_fine : (r : ℕ) (D : List Depth) (W : List LoopExits) (B : List Bool) (c : Bool) (s : NotedShape) (x y : Tree) {op : Operator} {form : BinaryForm}
+  augmented_fine : (r : ℕ) (D : List Depth) (W : List LoopExits) (B : List Bool) (c : Bool) (s : NotedShape) (x y : Tree) {op : Operator} {form : Option UpdateForm}
       → Goal x → Goal y
       → Ctx At r D W B c s → Augments op form → Fit L j N B c x → Fit L j N B c y → (p p' : ℕ) → p' ≡ p
-      → p' + elim form as (λ x. ℕ)
-      [ Both ↦ size D x + size D y + 1 | Scanning ↦ size D x + size D y + 4 | Either ↦ 0 | Limiting ↦ 0 | Applying i ↦ size D x + size D y + 3 ] ≤ r
+      → p' + augmented_size form (size D x) (size D y) ≤ r
       → Has At p' (augmented_code D p s (size D x) (λ D' p' s'. code N D' W p' s' x) (λ D' p' s'. code N D' W p' s' y) form)
-      → At (p' + elim form as (λ x. ℕ)
-      [ Both ↦ size D x + size D y + 1 | Scanning ↦ size D x + size D y + 4 | Either ↦ 0 | Limiting ↦ 0 | Applying i ↦ size D x + size D y + 3 ]) (more s)
+      → At (p' + augmented_size form (size D x) (size D y)) (more s)
       → At p' s × AllFine At p' (augmented_code D p s (size D x) (λ D' p' s'. code N D' W p' s' x) (λ D' p' s'. code N D' W p' s' y) form)
   augmented_fine r D W B c s x y g v a u_both f t p p' e b h z =
       let k = fine_cut At _ _ p' (size D x) (code_length N x D W p s) h in

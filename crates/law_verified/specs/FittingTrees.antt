@@ -1,7 +1,8 @@
 -- The condition under which the code of a tree is sound: names and literals are in the tables, operators are those of the language in their
 -- position, and `break`, `next`, `return`, `fail` and `suspend` stand where they may.
-use Rattle.std.specs.Prelude.{◌≡◌, ℕ, Bool, true, false, pos, List, [], ◌∷◌, Some, codes}
+use Rattle.std.specs.Prelude.{◌≡◌, ℕ, Bool, true, false, pos, List, [], ◌∷◌, Option, Some, codes}
 use Rattle.std.specs.Str.{bytes_eq}
+use Rattle.icn_text.specs.declared.op.Op.{Op}
 use Rattle.icn_text.specs.declared.keyword.Keyword.TheVariants as Keywords
 use Rattle.icn_text.specs.declared.keyword.TheConstants.Keyword.{ALL as keywords}
 use Rattle.icn_tree.specs.declared.token.Operator.{Operator}
@@ -15,36 +16,35 @@ use Rattle.icn_defs.specs.Arities.{arity}
 use Rattle.icn_value.specs.Values.{Val, Var, Whole, Integer}
 use Rattle.icn_meaning.specs.Program.{meaning_of}
 use Rattle.icn_meaning.specs.Contexts as M
-use Rattle.icn_meaning.specs.Operators.{prefix_op, infix_op}
+use Rattle.icn_meaning.specs.Operators.{prefix_op, infix_op, update_op}
 use Rattle.icn_meaning.specs.Evaluate.{literal, keyword_among}
-use Rattle.law_simulation.specs.Translation.{SymbolTable, BinaryForm, Both, Scanning, Either, Limiting, Applying, form_of, PrefixForm, Activating, Repeating, Operating, prefix_of, literal_code}
+use Rattle.law_simulation.specs.Translation.{SymbolTable, BinaryForm, Both, Scanning, Either, Limiting, Applying, form_of, UpdateForm, UpdatesBoth, UpdatesScanning, UpdatesBy, update_of, PrefixForm, Activating, Repeating, Operating, prefix_of, literal_code}
 use Rattle.law_simulation.specs.Linkage.{Linkage, Loads, IsAppliedBy}
-use Rattle.law_simulation.specs.StandingCode.{is_prefix, is_infix, is_update}
 
 -- what an operator is, if it is one of the language's in that position
-pub data Infixes : Operator → BinaryForm → Type 0 where
-  x_both : Infixes Signs.Ampersand Both
-  x_scan : Infixes Signs.Question Scanning
-  x_either : Infixes Signs.Bar Either
-  x_limit : Infixes Signs.Backslash Limiting
-  x_at : Infixes Signs.At (Applying I.Coact)
-  x_bang : Infixes Signs.Bang (Applying I.Appl)
-  x_op : {o : Operator} → is_infix o ≡ true → arity (infix_op o) ≡ 2
-      → Infixes o (Applying (I.Op (infix_op o)))
+pub data Infixes : Operator → Option BinaryForm → Type 0 where
+  x_both : Infixes Signs.Ampersand (Some Both)
+  x_scan : Infixes Signs.Question (Some Scanning)
+  x_either : Infixes Signs.Bar (Some Either)
+  x_limit : Infixes Signs.Backslash (Some Limiting)
+  x_at : Infixes Signs.At (Some (Applying I.Coact))
+  x_bang : Infixes Signs.Bang (Some (Applying I.Appl))
+  x_op : {o : Operator} {op : Op} → infix_op o ≡ Some op → arity op ≡ 2
+      → Infixes o (Some (Applying (I.Op op)))
 
 -- what an operator is before `:=`, if it is one of the language's in that position
-pub data Augments : Operator → BinaryForm → Type 0 where
-  u_both : Augments Signs.Ampersand Both
-  u_scan : Augments Signs.Question Scanning
-  u_at : Augments Signs.At (Applying I.Coact)
-  u_op : {o : Operator} → is_update o ≡ true → arity (infix_op o) ≡ 2
-      → Augments o (Applying (I.Op (infix_op o)))
+pub data Augments : Operator → Option UpdateForm → Type 0 where
+  u_both : Augments Signs.Ampersand (Some UpdatesBoth)
+  u_scan : Augments Signs.Question (Some UpdatesScanning)
+  u_at : Augments Signs.At (Some (UpdatesBy I.Coact))
+  u_op : {o : Operator} {op : Op} → update_op o ≡ Some op → arity op ≡ 2
+      → Augments o (Some (UpdatesBy (I.Op op)))
 
 -- what an operator is before an operand, if it is one of the language's in that position
-pub data Prefixes : Operator → PrefixForm → Type 0 where
-  p_at : Prefixes Signs.At Activating
-  p_bar : Prefixes Signs.Bar Repeating
-  p_op : {o : Operator} → is_prefix o ≡ true → arity (prefix_op o) ≡ 1 → Prefixes o (Operating (prefix_op o))
+pub data Prefixes : Operator → Option PrefixForm → Type 0 where
+  p_at : Prefixes Signs.At (Some Activating)
+  p_bar : Prefixes Signs.Bar (Some Repeating)
+  p_op : {o : Operator} {op : Op} → prefix_op o ≡ Some op → arity op ≡ 1 → Prefixes o (Some (Operating op))
 
 -- a keyword is known, and N knows it
 pub data KeywordFits (N : SymbolTable) (text : List ℕ) : Type 0 where
@@ -84,7 +84,7 @@ abbrev mutual
   Fit L j N B c (T.Not place e) = Fit L j N B c e
   Fit L j N B c (T.Binary place (Plain o) a b) = Infixes o (form_of o) × Fit L j N B c a × Fit L j N B c b
   Fit L j N B c (T.Binary place (Augmented o) a b) =
-      Augments o (form_of o) × Fit L j N B c a × Fit L j N B c b
+      Augments o (update_of o) × Fit L j N B c a × Fit L j N B c b
   Fit L j N B c (T.To place a b by) = Fit L j N B c a × Fit L j N B c b × FitBy L j N B c by
   Fit L j N B c (T.If place e a b) = Fit L j N B c e × Fit L j N B c a × FitMaybe L j N B c b
   Fit L j N B c (T.Case place e cases) =

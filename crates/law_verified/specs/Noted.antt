@@ -1,12 +1,12 @@
 -- The translation again, in which beside each instruction stands whether it opens a repeated alternation, and the shape with which it is reached.
-use Rattle.std.specs.Prelude.{ℕ, zero, suc, ◌+◌, pos, Bool, true, false, List, [], ◌∷◌, ◌++◌, if◌then◌else◌}
+use Rattle.std.specs.Prelude.{ℕ, zero, suc, ◌+◌, pos, Bool, true, false, List, [], ◌∷◌, ◌++◌, Option, Some, None, if◌then◌else◌}
 use Rattle.icn_text.specs.declared.op.Op.TheVariants as Ops
 use Rattle.icn_tree.specs.declared.tree.Infix.TheVariants.{Plain, Augmented}
 use Rattle.icn_tree.specs.declared.tree.LoopKind.TheVariants.{While, Until, Every}
 use Rattle.icn_tree.specs.Trees.{Initial, NoInitial, Initially, Tree, MaybeTree, Trees, Clause, Clauses, Empty, Constant, Identifier, Keyword, Parentheses, Listing, Compound, Call, CoCall, Subscript, Section, Field, Prefix, Not, Binary, To, If, Case, Loop, Repeat, Create, Next, Fail, Break, Return, Suspend, Absent, Present, NoTrees, More, Default, Guarded, NoClauses, MoreClauses}
 use Rattle.icn_code.specs.declared.instr.Instr.{Instr}
 use Rattle.icn_code.specs.declared.instr.Instr.TheVariants as I
-use Rattle.law_simulation.specs.Translation.{SymbolTable, Depth, LoopExits, loop_of, deeper, opened_in, dropped_by_next, around, last_way, next_way, is_empty, is_nothing, is_no_element, elements, BinaryForm, Both, Scanning, Either, Limiting, Applying, form_of, PrefixForm, Activating, Repeating, Operating, prefix_of, section_op, size, body_size, clauses_size, clause_size, default_size, ways, literal_code, keyword_code, bounded_size}
+use Rattle.law_simulation.specs.Translation.{SymbolTable, Depth, LoopExits, loop_of, deeper, opened_in, dropped_by_next, around, last_way, next_way, is_empty, is_nothing, is_no_element, elements, BinaryForm, Both, Scanning, Either, Limiting, Applying, form_of, UpdateForm, UpdatesBoth, UpdatesScanning, UpdatesBy, update_of, PrefixForm, Activating, Repeating, Operating, prefix_of, section_op, size, body_size, clauses_size, clause_size, default_size, ways, literal_code, keyword_code, bounded_size}
 
 -- Shapes
 
@@ -101,34 +101,37 @@ abbrev pub Part : Type 0
 Part = List Depth → ℕ → NotedShape → List Note
 
 -- the code of a prefix operator, by the code of its operand
-abbrev pub prefix_code : List Depth → ℕ → NotedShape → Part → PrefixForm → List Note
-prefix_code D p s c Activating = o s I.Pnull ∷ c D (p + 1) (more s) ++ o (more (more s)) I.Coact ∷ []
-prefix_code D p s c Repeating = flagged_note s I.Mark0 ∷ c (deeper D) (p + 1) (in_mark s)
+abbrev pub prefix_code : List Depth → ℕ → NotedShape → Part → Option PrefixForm → List Note
+prefix_code D p s c (Some Activating) = o s I.Pnull ∷ c D (p + 1) (more s) ++ o (more (more s)) I.Coact ∷ []
+prefix_code D p s c (Some Repeating) = flagged_note s I.Mark0 ∷ c (deeper D) (p + 1) (in_mark s)
     ++ (o (more (in_mark s)) (I.Chfail p) ∷ o (more (in_mark s)) I.Esusp ∷ [])
-prefix_code D p s c (Operating op) = c D p s ++ o (more s) (I.Op op) ∷ []
+prefix_code D p s c (Some (Operating op)) = c D p s ++ o (more s) (I.Op op) ∷ []
+prefix_code D p s c None = []
 
 -- by the sizes of the parts, and that of the first one in a mark
-abbrev pub plain_code : List Depth → ℕ → NotedShape → (m n k : ℕ) → (a b : Part) → BinaryForm → List Note
-plain_code D p s m n k a b Both = a D p s ++ o (more s) I.Pop ∷ b D (p + m + 1) s
-plain_code D p s m n k a b Scanning =
+abbrev pub plain_code : List Depth → ℕ → NotedShape → (m n k : ℕ) → (a b : Part) → Option BinaryForm → List Note
+plain_code D p s m n k a b (Some Both) = a D p s ++ o (more s) I.Pop ∷ b D (p + m + 1) s
+plain_code D p s m n k a b (Some Scanning) =
     a D p s ++ (o (more s) I.Bscan ∷ b D (p + m + 1) (with_scan s) ++ o (more (with_scan s)) I.Escan ∷ [])
-plain_code D p s m n k a b Either = o s (I.Mark (p + k + 3)) ∷ a (deeper D) (p + 1) (in_mark s)
+plain_code D p s m n k a b (Some Either) = o s (I.Mark (p + k + 3)) ∷ a (deeper D) (p + 1) (in_mark s)
     ++ (o (more (in_mark s)) I.Esusp ∷ o (more s) (I.Goto (p + k + 3 + n)) ∷ b D (p + k + 3) s)
-plain_code D p s m n k a b Limiting = b D p s ++ (o (more s) I.Limit
+plain_code D p s m n k a b (Some Limiting) = b D p s ++ (o (more s) I.Limit
     ∷ a (deeper D) (p + n + 1) (within Limited s) ++ o (more (within Limited s)) I.Lsusp ∷ [])
-plain_code D p s m n k a b (Applying i) = a D p s ++ (b D (p + m) (more s) ++ o (more (more s)) i ∷ [])
+plain_code D p s m n k a b (Some (Applying i)) =
+    a D p s ++ (b D (p + m) (more s) ++ o (more (more s)) i ∷ [])
+plain_code D p s m n k a b None = []
 
 -- the code of an augmented assignment, by the size of its first part
-abbrev pub augmented_code : List Depth → ℕ → NotedShape → ℕ → (a b : Part) → BinaryForm → List Note
-augmented_code D p s m a b Both =
+abbrev pub augmented_code : List Depth → ℕ → NotedShape → ℕ → (a b : Part) → Option UpdateForm → List Note
+augmented_code D p s m a b (Some UpdatesBoth) =
     a D p s ++ (b D (p + m) (more s) ++ o (more (more s)) (I.Op Ops.Assign) ∷ [])
-augmented_code D p s m a b Scanning =
+augmented_code D p s m a b (Some UpdatesScanning) =
     a D p s ++ (o (more s) I.Dup ∷ o (more (more s)) I.Bscan ∷ b D (p + m + 2) (with_scan (more s))
     ++ (o (more (with_scan (more s))) I.Escan ∷ o (more (more s)) (I.Op Ops.Assign) ∷ []))
-augmented_code D p s m a b Either = []
-augmented_code D p s m a b Limiting = []
-augmented_code D p s m a b (Applying i) = a D p s ++ (o (more s) I.Dup ∷ b D (p + m + 1) (more (more s))
+augmented_code D p s m a b (Some (UpdatesBy i)) =
+    a D p s ++ (o (more s) I.Dup ∷ b D (p + m + 1) (more (more s))
     ++ (o (more (more (more s))) i ∷ o (more (more s)) (I.Op Ops.Assign) ∷ []))
+augmented_code D p s m a b None = []
 
 -- The code of trees with its shapes, with that of their parts
 abbrev mutual
@@ -161,7 +164,7 @@ abbrev mutual
       plain_code D p s (size D a) (size D b) (size (deeper D) a) (λ D' p' s'. code N D' W p' s' a)
       (λ D' p' s'. code N D' W p' s' b) (form_of operator)
   code N D W p s (Binary place (Augmented operator) a b) = augmented_code D p s (size D a)
-      (λ D' p' s'. code N D' W p' s' a) (λ D' p' s'. code N D' W p' s' b) (form_of operator)
+      (λ D' p' s'. code N D' W p' s' a) (λ D' p' s'. code N D' W p' s' b) (update_of operator)
   code N D W p s (To place a b by) = code N D W p s a
       ++ (code N D W (p + size D a) (more s) b ++ (by_code N D W (p + size D a + size D b) (more (more s)) by
       ++ o (more (more (more s))) (I.Op Ops.ToBy) ∷ []))

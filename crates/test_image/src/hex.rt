@@ -9,7 +9,7 @@ fn digit(byte: u8) -> Option<u8> {
     }
 }
 
-/// Adds the bytes of digits, two a byte; other characters are skipped.
+/// Adds the bytes of digits, two a byte; other characters are skipped. The error is want of memory.
 pub fn put_hex(out: &mut Vec<u8>, hex: &str) -> Result<(), AllocError> {
     let mut high = None;
     for byte in hex.as_bytes() {

@@ -12,13 +12,15 @@ pub struct Cases {
 }
 
 impl Cases {
+    /// Cases of which none has set bytes in front.
     pub fn new(alloc: Global) -> Cases {
         Cases {
             front: Vec::new(alloc),
         }
     }
 
-    /// What comes of a case, behind an arrow. A line of another kind, as a comment, has no outcome.
+    /// What comes of a case, behind an arrow. A line of another kind, as a comment, has no outcome. The error is want of
+    /// memory.
     pub fn outcome(&mut self, alloc: Global, line: &str) -> Result<String, AllocError> {
         let Some((word, hex)) = line.split_once(" ") else {
             return Ok(String::new(alloc));

@@ -29,7 +29,7 @@ fn shown_by(word: &str) -> Option<CodeView> {
     }
 }
 
-/// What comes of a case, behind an arrow. A line of another kind, as a comment, has no outcome.
+/// What comes of a case, behind an arrow. A line of another kind, as a comment, has no outcome. The error is want of memory.
 pub fn outcome(alloc: Global, line: &str) -> Result<String, AllocError> {
     let (word, case) = line.split_once(" ").unwrap_or((line, ""));
     let Some(shown) = shown_by(word) else {

@@ -3,7 +3,7 @@ use icn_ucode::{UcodeFault, Unit, read_unit};
 use std::alloc::{AllocError, Global};
 use std::fmt::Write;
 
-/// The units of a case, or none where a text of one breaks a rule.
+/// The units of a case, or none where a text of one breaks a rule. The error is want of memory.
 pub fn units(alloc: Global, case: &str) -> Result<Option<Vec<Unit>>, AllocError> {
     let mut units = Vec::new(alloc);
     for part in case.split(" + ") {

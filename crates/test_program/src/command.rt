@@ -4,7 +4,8 @@ use icont_top::icont_main;
 use iconx_top::iconx_main;
 use std::alloc::{AllocError, Global};
 
-// What a command puts: the lines of its output, those of its error output behind a mark, and its status.
+/// What a command puts: the lines of its output, those of its error output behind a mark, and its status. The error is want
+/// of memory.
 pub fn outcome(
     alloc: Global,
     words: &str,
@@ -33,7 +34,7 @@ pub fn outcome(
     Ok(shown)
 }
 
-// Each line of a text, behind this mark.
+/// Each line of a text, behind this mark. The error is want of memory.
 pub fn push_lines(
     alloc: Global,
     shown: &mut String,

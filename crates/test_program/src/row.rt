@@ -18,6 +18,7 @@ pub struct CaseFiles {
 }
 
 impl CaseFiles {
+    /// A case with no file and no input.
     pub fn new(alloc: Global) -> Self {
         CaseFiles {
             files: SureFiles::new(alloc, BTreeMap::new(alloc)),
@@ -28,7 +29,7 @@ impl CaseFiles {
         }
     }
 
-    // Reads a line of rows, and gives what is printed for it.
+    /// Reads a line of rows, and gives what is printed for it. The error is want of memory.
     pub fn read<F: Files>(
         &mut self,
         alloc: Global,

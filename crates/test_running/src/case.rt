@@ -6,7 +6,7 @@ use icn_segments::RawStack;
 use icn_verify::Verified;
 use std::alloc::{AllocError, Global};
 
-// What is printed behind a case.
+/// What is printed behind a case. The error is want of memory.
 pub fn show_case(alloc: Global, line: &str) -> Result<String, AllocError> {
     let (source, input) = line.split_once(" << ").unwrap_or((line, ""));
     let input = input.replace(alloc, "/", "\n")?;

@@ -6,7 +6,8 @@ use icont_top::icont_main;
 use std::alloc::{AllocError, Global};
 use std::collections::BTreeMap;
 
-// The verified code of a program: of declarations, or else of the body of `main`. A pilcrow stands for the end of a line.
+/// The verified code of a program: of declarations, or else of the body of `main`. A pilcrow stands for the end of a line.
+/// There is none where it isn't translated. The error is want of memory.
 pub fn code_of(alloc: Global, source: &str) -> Result<Option<Verified>, AllocError> {
     let mut files = SureFiles::new(alloc, BTreeMap::new(alloc));
     let text = text_of(alloc, source)?;

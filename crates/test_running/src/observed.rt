@@ -15,8 +15,9 @@ pub enum Object {
     Errors,
 }
 
-// What a run over stacks of one kind puts on its output and its error output, with a slash for the end of each line, and how it ends,
-// where this call of this object fails, if one does; and whether it ended by itself.
+/// What a run over stacks of one kind puts on its output and its error output, with a slash for the end of each line, and
+/// how it ends, where this call of this object fails, if one does; and whether it ended by itself. The error is want of
+/// memory.
 pub fn observe_run<K: Stack<Cell> + Drop>(
     alloc: Global,
     code: &Verified,

@@ -19,8 +19,8 @@ pub returns-clause-named : goal.returns-clause-named
 returns-clause-named g c =
     applies_named (g.N.Names.known c.args.names.now) (again (residual_in (extent_of c.args.w.now.heap) c.args.rest))
     (call_state c.args.w.now (g.L.Locals.items c.args.l.now)
-    (call_streams (g.I.Source.left c.args.input.now) (g.I.Source.faults c.args.input.now) (g.O.Sink.state c.args.out.now) (g.E.Sink.state c.args.err.now)))
-    (call_state c.resume.new.w (g.L.Locals.items c.resume.new.l) (call_streams (g.I.Source.left c.resume.new.input) (g.I.Source.faults c.resume.new.input)
+    (call_streams (g.I.Source.left c.args.input.now) (g.I.Source.counts c.args.input.now) (g.O.Sink.state c.args.out.now) (g.E.Sink.state c.args.err.now)))
+    (call_state c.resume.new.w (g.L.Locals.items c.resume.new.l) (call_streams (g.I.Source.left c.resume.new.input) (g.I.Source.counts c.resume.new.input)
     (g.O.Sink.state c.resume.new.out) (g.E.Sink.state c.resume.new.err)))
     c.resume.result
     (λ was. rows_keep_names.resumed (g.N.Names.known c.args.names.now) (residual_in (extent_of c.args.w.now.heap) c.args.rest)
@@ -35,8 +35,8 @@ pub returns-clause-sized : goal.returns-clause-sized
 returns-clause-sized g c =
     applies_sized (again (residual_in (extent_of c.args.w.now.heap) c.args.rest))
     (call_state c.args.w.now (g.L.Locals.items c.args.l.now)
-    (call_streams (g.I.Source.left c.args.input.now) (g.I.Source.faults c.args.input.now) (g.O.Sink.state c.args.out.now) (g.E.Sink.state c.args.err.now)))
-    (call_state c.resume.new.w (g.L.Locals.items c.resume.new.l) (call_streams (g.I.Source.left c.resume.new.input) (g.I.Source.faults c.resume.new.input)
+    (call_streams (g.I.Source.left c.args.input.now) (g.I.Source.counts c.args.input.now) (g.O.Sink.state c.args.out.now) (g.E.Sink.state c.args.err.now)))
+    (call_state c.resume.new.w (g.L.Locals.items c.resume.new.l) (call_streams (g.I.Source.left c.resume.new.input) (g.I.Source.counts c.resume.new.input)
     (g.O.Sink.state c.resume.new.out) (g.E.Sink.state c.resume.new.err)))
     c.resume.result
     (λ was sizes.

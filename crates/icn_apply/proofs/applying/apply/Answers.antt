@@ -23,9 +23,9 @@ pub returns-in-Op-clause-named : goal.returns-in-Op-clause-named
 returns-in-Op-clause-named g c =
     applies_named (g.N.Names.known c.args.names.now) (operation_row c.in-Op.op (map (item_in (extent_of c.args.w.now.heap)) c.args.args.now))
     (call_state c.args.w.now (g.L.Locals.items c.args.l.now)
-    (call_streams (g.I.Source.left c.args.input.now) (g.I.Source.faults c.args.input.now) (g.O.Sink.state c.args.out.now) (g.E.Sink.state c.args.err.now)))
+    (call_streams (g.I.Source.left c.args.input.now) (g.I.Source.counts c.args.input.now) (g.O.Sink.state c.args.out.now) (g.E.Sink.state c.args.err.now)))
     (call_state c.first.new.w (g.L.Locals.items c.first.new.l)
-    (call_streams (g.I.Source.left c.first.new.input) (g.I.Source.faults c.first.new.input) (g.O.Sink.state c.first.new.out) (g.E.Sink.state c.first.new.err)))
+    (call_streams (g.I.Source.left c.first.new.input) (g.I.Source.counts c.first.new.input) (g.O.Sink.state c.first.new.out) (g.E.Sink.state c.first.new.err)))
     c.first.result
     (λ was. rows_keep_names.operations (g.N.Names.known c.args.names.now) c.in-Op.op (map (item_in (extent_of c.args.w.now.heap)) c.args.args.now)
     (setting_of was c.args.w.now (g.L.Locals.items c.args.l.now))
@@ -42,9 +42,9 @@ pub returns-in-Op-clause-sized : goal.returns-in-Op-clause-sized
 returns-in-Op-clause-sized g c =
     applies_sized (operation_row c.in-Op.op (map (item_in (extent_of c.args.w.now.heap)) c.args.args.now))
     (call_state c.args.w.now (g.L.Locals.items c.args.l.now)
-    (call_streams (g.I.Source.left c.args.input.now) (g.I.Source.faults c.args.input.now) (g.O.Sink.state c.args.out.now) (g.E.Sink.state c.args.err.now)))
+    (call_streams (g.I.Source.left c.args.input.now) (g.I.Source.counts c.args.input.now) (g.O.Sink.state c.args.out.now) (g.E.Sink.state c.args.err.now)))
     (call_state c.first.new.w (g.L.Locals.items c.first.new.l)
-    (call_streams (g.I.Source.left c.first.new.input) (g.I.Source.faults c.first.new.input) (g.O.Sink.state c.first.new.out) (g.E.Sink.state c.first.new.err)))
+    (call_streams (g.I.Source.left c.first.new.input) (g.I.Source.counts c.first.new.input) (g.O.Sink.state c.first.new.out) (g.E.Sink.state c.first.new.err)))
     c.first.result
     (λ was sizes. rows_keep_sizes.operations sizes c.in-Op.op (map (item_in (extent_of c.args.w.now.heap)) c.args.args.now)
     (setting_of was c.args.w.now (g.L.Locals.items c.args.l.now)))

@@ -14,7 +14,7 @@ use Rattle.icn_apply.proofs.functions.apply_function.Goals as goal
 pub returns-in-Errors-clause-applies : goal.returns-in-Errors-clause-applies
 returns-in-Errors-clause-applies g c =
     rw (subst (λ (kind : FunctionGroup). IsOfKind kind c.args.func) c.in-Errors.is c.kind_of.ensures)
-    (c.apply_errorclear.ensures.applies (call_streams (g.I.Source.left c.args.input.now) (g.I.Source.faults c.args.input.now)
+    (c.apply_errorclear.ensures.applies (call_streams (g.I.Source.left c.args.input.now) (g.I.Source.counts c.args.input.now)
     (g.O.Sink.state c.args.out.now) (g.E.Sink.state c.args.err.now)))
 
 pub returns-in-Errors-clause-named : goal.returns-in-Errors-clause-named
@@ -34,9 +34,9 @@ returns-in-Files-clause-named g c =
     applies_named (g.N.Names.known c.args.names.now)
     (function_row (g.N.Names.known c.args.names.now) c.args.func (map (item_in (extent_of c.args.w.now.heap)) c.args.args.now))
     (call_state c.args.w.now (g.L.Locals.items c.args.l.now)
-    (call_streams (g.I.Source.left c.args.input.now) (g.I.Source.faults c.args.input.now) (g.O.Sink.state c.args.out.now) (g.E.Sink.state c.args.err.now)))
+    (call_streams (g.I.Source.left c.args.input.now) (g.I.Source.counts c.args.input.now) (g.O.Sink.state c.args.out.now) (g.E.Sink.state c.args.err.now)))
     (call_state c.first.new.w (g.L.Locals.items c.args.l.now)
-    (call_streams (g.I.Source.left c.first.new.input) (g.I.Source.faults c.first.new.input) (g.O.Sink.state c.first.new.out) (g.E.Sink.state c.first.new.err)))
+    (call_streams (g.I.Source.left c.first.new.input) (g.I.Source.counts c.first.new.input) (g.O.Sink.state c.first.new.out) (g.E.Sink.state c.first.new.err)))
     c.first.result
     (λ was. file_function_named (g.N.Names.known c.args.names.now) c.args.func (map (item_in (extent_of c.args.w.now.heap)) c.args.args.now)
     (setting_of was c.args.w.now (g.L.Locals.items c.args.l.now))
@@ -48,7 +48,7 @@ pub apply_scanning-requires-clause-function : goal.apply_scanning-requires-claus
 apply_scanning-requires-clause-function g c = subst (λ (kind : FunctionGroup). IsOfKind kind c.args.func) c.in-Scanning.is c.kind_of.ensures
 
 pub returns-in-Scanning-clause-applies : goal.returns-in-Scanning-clause-applies
-returns-in-Scanning-clause-applies g c = c.apply_scanning.ensures.applies (call_streams (g.I.Source.left c.args.input.now) (g.I.Source.faults c.args.input.now)
+returns-in-Scanning-clause-applies g c = c.apply_scanning.ensures.applies (call_streams (g.I.Source.left c.args.input.now) (g.I.Source.counts c.args.input.now)
     (g.O.Sink.state c.args.out.now) (g.E.Sink.state c.args.err.now))
 
 pub returns-in-Scanning-clause-named : goal.returns-in-Scanning-clause-named
@@ -58,7 +58,7 @@ pub apply_to_strings-requires-clause-function : goal.apply_to_strings-requires-c
 apply_to_strings-requires-clause-function g c = subst (λ (kind : FunctionGroup). IsOfKind kind c.args.func) c.in-Strings.is c.kind_of.ensures
 
 pub returns-in-Strings-clause-applies : goal.returns-in-Strings-clause-applies
-returns-in-Strings-clause-applies g c = c.apply_to_strings.ensures.applies (call_streams (g.I.Source.left c.args.input.now) (g.I.Source.faults c.args.input.now)
+returns-in-Strings-clause-applies g c = c.apply_to_strings.ensures.applies (call_streams (g.I.Source.left c.args.input.now) (g.I.Source.counts c.args.input.now)
     (g.O.Sink.state c.args.out.now) (g.E.Sink.state c.args.err.now))
 
 pub returns-in-Strings-clause-named : goal.returns-in-Strings-clause-named
@@ -69,7 +69,7 @@ apply_to_structures-requires-clause-function g c = subst (λ (kind : FunctionGro
 
 pub returns-in-Structures-clause-applies : goal.returns-in-Structures-clause-applies
 returns-in-Structures-clause-applies g c = c.apply_to_structures.ensures.applies (call_streams (g.I.Source.left c.args.input.now)
-    (g.I.Source.faults c.args.input.now) (g.O.Sink.state c.args.out.now) (g.E.Sink.state c.args.err.now))
+    (g.I.Source.counts c.args.input.now) (g.O.Sink.state c.args.out.now) (g.E.Sink.state c.args.err.now))
 
 pub returns-in-Structures-clause-named : goal.returns-in-Structures-clause-named
 returns-in-Structures-clause-named g c = c.apply_to_structures.ensures.named
@@ -78,9 +78,9 @@ pub returns-in-Files-clause-sized : goal.returns-in-Files-clause-sized
 returns-in-Files-clause-sized g c =
     applies_sized (function_row (g.N.Names.known c.args.names.now) c.args.func (map (item_in (extent_of c.args.w.now.heap)) c.args.args.now))
     (call_state c.args.w.now (g.L.Locals.items c.args.l.now)
-    (call_streams (g.I.Source.left c.args.input.now) (g.I.Source.faults c.args.input.now) (g.O.Sink.state c.args.out.now) (g.E.Sink.state c.args.err.now)))
+    (call_streams (g.I.Source.left c.args.input.now) (g.I.Source.counts c.args.input.now) (g.O.Sink.state c.args.out.now) (g.E.Sink.state c.args.err.now)))
     (call_state c.first.new.w (g.L.Locals.items c.args.l.now)
-    (call_streams (g.I.Source.left c.first.new.input) (g.I.Source.faults c.first.new.input) (g.O.Sink.state c.first.new.out) (g.E.Sink.state c.first.new.err)))
+    (call_streams (g.I.Source.left c.first.new.input) (g.I.Source.counts c.first.new.input) (g.O.Sink.state c.first.new.out) (g.E.Sink.state c.first.new.err)))
     c.first.result
     (λ was. file_function_sized (g.N.Names.known c.args.names.now) c.args.func (map (item_in (extent_of c.args.w.now.heap)) c.args.args.now)
     (setting_of was c.args.w.now (g.L.Locals.items c.args.l.now))

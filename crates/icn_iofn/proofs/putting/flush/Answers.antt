@@ -1,11 +1,11 @@
 use Rattle.icn_heap.specs.Keys.{file_of}
 use Rattle.std.proofs.Common.{ap}
-use Rattle.icn_iofn.proofs.PutSteps.{on_ok_map, other_way, output_put, output_broken, errors_put, errors_broken}
+use Rattle.icn_iofn.proofs.PutSteps.{on_ok_map, other_way, puts_on_output, output_broken, puts_on_errors, errors_broken}
 use Rattle.icn_iofn.proofs.putting.flush.Goals as goal
 
 pub returns-in-Output-clause-ok : goal.returns-in-Output-clause-ok
 returns-in-Output-clause-ok g c =
-    output_put c.put_behind.result _ _ _ _ (file_of c.args.file) c.args.text.now (ap file_of c.in-Output.is) c.put_behind.ensures.ok
+    puts_on_output c.put_behind.result _ _ _ _ (file_of c.args.file) c.args.text.now (ap file_of c.in-Output.is) c.put_behind.ensures.ok
 
 pub returns-in-Output-clause-err : goal.returns-in-Output-clause-err
 returns-in-Output-clause-err g c =
@@ -13,7 +13,7 @@ returns-in-Output-clause-err g c =
 
 pub returns-in-Errout-clause-ok : goal.returns-in-Errout-clause-ok
 returns-in-Errout-clause-ok g c =
-    errors_put c.put_behind-in-Errout.result _ _ _ _ (file_of c.args.file) c.args.text.now (ap file_of c.in-Errout.is) c.put_behind-in-Errout.ensures.ok
+    puts_on_errors c.put_behind-in-Errout.result _ _ _ _ (file_of c.args.file) c.args.text.now (ap file_of c.in-Errout.is) c.put_behind-in-Errout.ensures.ok
 
 pub returns-in-Errout-clause-err : goal.returns-in-Errout-clause-err
 returns-in-Errout-clause-err g c =

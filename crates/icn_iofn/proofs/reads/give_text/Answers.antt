@@ -16,8 +16,8 @@ pub returns-in_err-text : goal.returns-in_err-text
 returns-in_err-text g c = λ output errors.
     read_halts (asked_in c.args.ask) (λ text. gives_value (Text text)) (record { outside = λ text s. refl }) c.args.w.now c.read_text.new.w
     (g.L.Locals.items c.args.l.now)
-    (g.I.Source.left c.args.input.now) (g.I.Source.left c.read_text.new.input) (g.I.Source.faults c.args.input.now)
-    (g.I.Source.faults c.read_text.new.input) output errors
+    (g.I.Source.left c.args.input.now) (g.I.Source.left c.read_text.new.input) (g.I.Source.counts c.args.input.now)
+    (g.I.Source.counts c.read_text.new.input) c.read_text.ensures.called output errors
     c.in_err-text.field-0.0 c.from_residual.result c.from_residual.ensures.1 (λ was told. c.in_err-text.ensures.reads was output errors told)
     (c.in_err-text.ensures.some output errors) c.in_err-text.ensures.cause
     c.in_err-text.ensures.halts c.read_text.ensures.locals c.read_text.ensures.kept
@@ -28,8 +28,8 @@ returns-in-Some g c = λ output errors.
     (IsText (extent_of c.read_text.new.w.heap)) c.in-Some.is c.in_ok-text.ensures.live in
     read_gives (asked_in c.args.ask) (λ text. gives_value (Text text)) (record { outside = λ text s. refl }) c.args.w.now c.read_text.new.w
     (g.L.Locals.items c.args.l.now)
-    (g.I.Source.left c.args.input.now) (g.I.Source.left c.read_text.new.input) (g.I.Source.faults c.args.input.now)
-    (g.I.Source.faults c.read_text.new.input) output errors
+    (g.I.Source.left c.args.input.now) (g.I.Source.left c.read_text.new.input) (g.I.Source.counts c.args.input.now)
+    (g.I.Source.counts c.read_text.new.input) c.read_text.ensures.called output errors
     c.in_ok-text.field-0 c.in-Some.text (Gives (HeldVal (HeldText c.in-Some.text))) c.in-Some.is (λ s. refl)
     (λ was told. c.in_ok-text.ensures.reads was output errors told) (c.in_ok-text.ensures.some output errors)
     c.in_ok-text.ensures.cause (record { live = record { live = record { live = text } } }) c.read_text.ensures.locals c.read_text.ensures.kept
@@ -38,7 +38,7 @@ pub returns-in-None : goal.returns-in-None
 returns-in-None g c = λ output errors.
     read_fails (asked_in c.args.ask) (λ text. gives_value (Text text)) (record { outside = λ text s. refl }) c.args.w.now c.read_text.new.w
     (g.L.Locals.items c.args.l.now)
-    (g.I.Source.left c.args.input.now) (g.I.Source.left c.read_text.new.input) (g.I.Source.faults c.args.input.now)
-    (g.I.Source.faults c.read_text.new.input) output errors
+    (g.I.Source.left c.args.input.now) (g.I.Source.left c.read_text.new.input) (g.I.Source.counts c.args.input.now)
+    (g.I.Source.counts c.read_text.new.input) c.read_text.ensures.called output errors
     c.in_ok-text.field-0 c.in-None.is (λ was told. c.in_ok-text.ensures.reads was output errors told)
     (c.in_ok-text.ensures.some output errors) c.in_ok-text.ensures.cause c.read_text.ensures.locals c.read_text.ensures.kept

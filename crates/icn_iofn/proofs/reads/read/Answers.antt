@@ -22,7 +22,7 @@ returns-in_err-file-clause-row g c =
     (λ from.
     check (is_input from) 212 (Some (arg (map (value_in (extent_of c.args.w.now.heap)) c.args.vals.now) 0)) (next_line (λ line. gives_value (Text line))))
     (call_state c.args.w.now (g.L.Locals.items c.args.l.now)
-    (call_streams (g.I.Source.left c.args.input.now) (g.I.Source.faults c.args.input.now) (g.O.Sink.state c.args.out.now) (g.E.Sink.state c.args.err.now)))
+    (call_streams (g.I.Source.left c.args.input.now) (g.I.Source.counts c.args.input.now) (g.O.Sink.state c.args.out.now) (g.E.Sink.state c.args.err.now)))
     c.in_err-file.field-0.0 c.from_residual.result c.from_residual.ensures.1
     (λ was. c.in_err-file.ensures.found (extent_of c.args.w.now.heap) (setting_of was c.args.w.now (g.L.Locals.items c.args.l.now)))
     (c.in_err-file.ensures.stops (extent_of c.args.w.now.heap) c.requires.live) c.requires.locals
@@ -32,9 +32,9 @@ returns-clause-row g c =
     applies_same (read_row (map (value_in (extent_of c.args.w.now.heap)) c.args.vals.now))
     (read_from ALine (file_of c.in_ok-file.file) (value_in (extent_of c.args.w.now.heap) c.arg.result))
     (call_state c.args.w.now (g.L.Locals.items c.args.l.now)
-    (call_streams (g.I.Source.left c.args.input.now) (g.I.Source.faults c.args.input.now) (g.O.Sink.state c.args.out.now) (g.E.Sink.state c.args.err.now)))
+    (call_streams (g.I.Source.left c.args.input.now) (g.I.Source.counts c.args.input.now) (g.O.Sink.state c.args.out.now) (g.E.Sink.state c.args.err.now)))
     (call_state c.read_from.new.w (g.L.Locals.items c.args.l.now)
-    (call_streams (g.I.Source.left c.read_from.new.input) (g.I.Source.faults c.read_from.new.input)
+    (call_streams (g.I.Source.left c.read_from.new.input) (g.I.Source.counts c.read_from.new.input)
     (g.O.Sink.state c.read_from.new.out) (g.E.Sink.state c.read_from.new.err))) c.read_from.result
     (λ was. c.in_ok-file.ensures.found (extent_of c.args.w.now.heap) (setting_of was c.args.w.now (g.L.Locals.items c.args.l.now))
     (λ from.

@@ -13,20 +13,20 @@ pub returns-in_err-settle-clause-row : goal.returns-in_err-settle-clause-row
 returns-in_err-settle-clause-row g c =
     settling_stops (reads_from (asked_in c.args.ask))
     (reads_quietly (asked_in c.args.ask) (λ text. gives_value (Text text)) (record { outside = λ text s. refl })) c.args.w.now (g.L.Locals.items c.args.l.now)
-    (call_streams (g.I.Source.left c.args.input.now) (g.I.Source.faults c.args.input.now) (g.O.Sink.state c.args.out.now) (g.E.Sink.state c.args.err.now))
-    (call_streams (g.I.Source.left c.args.input.now) (g.I.Source.faults c.args.input.now) (g.O.Sink.state c.settle.new.out) (g.E.Sink.state c.settle.new.err))
+    (call_streams (g.I.Source.left c.args.input.now) (g.I.Source.counts c.args.input.now) (g.O.Sink.state c.args.out.now) (g.E.Sink.state c.args.err.now))
+    (call_streams (g.I.Source.left c.args.input.now) (g.I.Source.counts c.args.input.now) (g.O.Sink.state c.settle.new.out) (g.E.Sink.state c.settle.new.err))
     c.in_err-settle.field-0.0 c.from_residual.result c.from_residual.ensures.1 (c.in_err-settle.ensures.settles _ _) c.requires
 
 pub returns-clause-row : goal.returns-clause-row
 returns-clause-row g c =
     behind_settling (reads_from (asked_in c.args.ask)) c.args.w.now (g.L.Locals.items c.args.l.now)
-    (call_streams (g.I.Source.left c.args.input.now) (g.I.Source.faults c.args.input.now) (g.O.Sink.state c.args.out.now) (g.E.Sink.state c.args.err.now))
-    (call_streams (g.I.Source.left c.args.input.now) (g.I.Source.faults c.args.input.now) (g.O.Sink.state c.settle.new.out) (g.E.Sink.state c.settle.new.err))
+    (call_streams (g.I.Source.left c.args.input.now) (g.I.Source.counts c.args.input.now) (g.O.Sink.state c.args.out.now) (g.E.Sink.state c.args.err.now))
+    (call_streams (g.I.Source.left c.args.input.now) (g.I.Source.counts c.args.input.now) (g.O.Sink.state c.settle.new.out) (g.E.Sink.state c.settle.new.err))
     (call_state c.give_text.new.w (g.L.Locals.items c.args.l.now) (call_streams (g.I.Source.left c.give_text.new.input)
-    (g.I.Source.faults c.give_text.new.input) (g.O.Sink.state c.settle.new.out) (g.E.Sink.state c.settle.new.err)))
+    (g.I.Source.counts c.give_text.new.input) (g.O.Sink.state c.settle.new.out) (g.E.Sink.state c.settle.new.err)))
     c.give_text.result (c.in_ok-settle.ensures.settles _ _) (c.give_text.ensures _ _)
 
 pub returns-in_err-settle-clause-settled : goal.returns-in_err-settle-clause-settled
 returns-in_err-settle-clause-settled g c =
     unsettled_stops _ _ c.in_err-settle.field-0.0 c.from_residual.result (g.O.Sink.pending c.settle.new.out) (g.E.Sink.pending c.settle.new.err)
-    c.from_residual.ensures.1 (c.in_err-settle.ensures.settles (g.I.Source.left c.args.input.now) (g.I.Source.faults c.args.input.now))
+    c.from_residual.ensures.1 (c.in_err-settle.ensures.settles (g.I.Source.left c.args.input.now) (g.I.Source.counts c.args.input.now))

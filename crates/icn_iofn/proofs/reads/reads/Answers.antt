@@ -23,7 +23,7 @@ returns-in_err-file-clause-row g c =
     (λ count. check (is_input from) 212 (Some (arg (map (value_in (extent_of c.args.w.now.heap)) c.args.vals.now) 0))
     (next_bytes count (λ bytes. gives_value (Text bytes)))))
     (call_state c.args.w.now (g.L.Locals.items c.args.l.now)
-    (call_streams (g.I.Source.left c.args.input.now) (g.I.Source.faults c.args.input.now) (g.O.Sink.state c.args.out.now) (g.E.Sink.state c.args.err.now)))
+    (call_streams (g.I.Source.left c.args.input.now) (g.I.Source.counts c.args.input.now) (g.O.Sink.state c.args.out.now) (g.E.Sink.state c.args.err.now)))
     c.in_err-file.field-0.0 c.from_residual.result c.from_residual.ensures.1
     (λ was. c.in_err-file.ensures.found (extent_of c.args.w.now.heap) (setting_of was c.args.w.now (g.L.Locals.items c.args.l.now)))
     (c.in_err-file.ensures.stops (extent_of c.args.w.now.heap) c.requires.live) c.requires.locals
@@ -35,9 +35,9 @@ returns-in_err-count-clause-row g c =
     (λ count. check (is_input (file_of c.in_ok-file.file)) 212 (Some (arg (map (value_in (extent_of c.args.w.now.heap)) c.args.vals.now) 0))
     (next_bytes count (λ bytes. gives_value (Text bytes)))))
     (call_state c.args.w.now (g.L.Locals.items c.args.l.now)
-    (call_streams (g.I.Source.left c.args.input.now) (g.I.Source.faults c.args.input.now) (g.O.Sink.state c.args.out.now) (g.E.Sink.state c.args.err.now)))
+    (call_streams (g.I.Source.left c.args.input.now) (g.I.Source.counts c.args.input.now) (g.O.Sink.state c.args.out.now) (g.E.Sink.state c.args.err.now)))
     (call_state c.args.w.now (g.L.Locals.items c.args.l.now)
-    (call_streams (g.I.Source.left c.args.input.now) (g.I.Source.faults c.args.input.now) (g.O.Sink.state c.args.out.now) (g.E.Sink.state c.args.err.now)))
+    (call_streams (g.I.Source.left c.args.input.now) (g.I.Source.counts c.args.input.now) (g.O.Sink.state c.args.out.now) (g.E.Sink.state c.args.err.now)))
     c.from_residual-in_err-count.result
     (λ was. c.in_ok-file.ensures.found (extent_of c.args.w.now.heap) (setting_of was c.args.w.now (g.L.Locals.items c.args.l.now))
     (λ from. count_read (map (value_in (extent_of c.args.w.now.heap)) c.args.vals.now)
@@ -47,7 +47,7 @@ returns-in_err-count-clause-row g c =
     (λ count. check (is_input (file_of c.in_ok-file.file)) 212 (Some (arg (map (value_in (extent_of c.args.w.now.heap)) c.args.vals.now) 0))
     (next_bytes count (λ bytes. gives_value (Text bytes))))
     (call_state c.args.w.now (g.L.Locals.items c.args.l.now)
-    (call_streams (g.I.Source.left c.args.input.now) (g.I.Source.faults c.args.input.now) (g.O.Sink.state c.args.out.now) (g.E.Sink.state c.args.err.now)))
+    (call_streams (g.I.Source.left c.args.input.now) (g.I.Source.counts c.args.input.now) (g.O.Sink.state c.args.out.now) (g.E.Sink.state c.args.err.now)))
     c.in_err-count.field-0.0 c.from_residual-in_err-count.result c.from_residual-in_err-count.ensures.1
     (λ was. c.in_err-count.ensures.found (setting_of was c.args.w.now (g.L.Locals.items c.args.l.now))) c.in_err-count.ensures.stops c.requires.locals)
 
@@ -56,9 +56,9 @@ returns-clause-row g c =
     applies_same (reads_row (map (value_in (extent_of c.args.w.now.heap)) c.args.vals.now))
     (read_from (SomeBytes c.in_ok-count.count) (file_of c.in_ok-file.file) (value_in (extent_of c.args.w.now.heap) c.arg.result))
     (call_state c.args.w.now (g.L.Locals.items c.args.l.now)
-    (call_streams (g.I.Source.left c.args.input.now) (g.I.Source.faults c.args.input.now) (g.O.Sink.state c.args.out.now) (g.E.Sink.state c.args.err.now)))
+    (call_streams (g.I.Source.left c.args.input.now) (g.I.Source.counts c.args.input.now) (g.O.Sink.state c.args.out.now) (g.E.Sink.state c.args.err.now)))
     (call_state c.read_from.new.w (g.L.Locals.items c.args.l.now)
-    (call_streams (g.I.Source.left c.read_from.new.input) (g.I.Source.faults c.read_from.new.input)
+    (call_streams (g.I.Source.left c.read_from.new.input) (g.I.Source.counts c.read_from.new.input)
     (g.O.Sink.state c.read_from.new.out) (g.E.Sink.state c.read_from.new.err))) c.read_from.result
     (λ was. c.in_ok-file.ensures.found (extent_of c.args.w.now.heap) (setting_of was c.args.w.now (g.L.Locals.items c.args.l.now))
     (λ from. count_read (map (value_in (extent_of c.args.w.now.heap)) c.args.vals.now)

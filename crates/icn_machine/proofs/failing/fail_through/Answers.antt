@@ -1,5 +1,6 @@
 use Rattle.std.proofs.Common.{◌≡◌, ◌<◌, ◌-◌, refl, sym, ◌∙◌, subst, true, rules}
-use Rattle.icn_machine.specs.Stepping.{is_failing, stays}
+use Rattle.icn_machine.specs.Stepping.{IsFailing, is_failing, stays}
+use Rattle.icn_machine.proofs.AdvanceSteps.{at_failing}
 use Rattle.icn_machine.proofs.LoopSteps.{if_err_known, failing_goes, failing_left, loop_halts, loop_goes_on, if_ok_of_error, turns_fall}
 use Rattle.icn_machine.proofs.failing.fail_through.Goals as goal
 
@@ -16,9 +17,10 @@ fail_turn-requires g c =
 
 pub returns-in_err-stage-clause-steps : goal.returns-in_err-stage-clause-steps
 returns-in_err-stage-clause-steps g c tables named ready =
-    loop_halts tables c.args.m.now c.args.from _ c.loop-m.m c.loop-m.stage c.loop-m.stage _ c.fail_turn.new.m _ c.in_err-stage.field-0.0
+    loop_halts IsFailing tables c.args.m.now c.args.from _ c.loop-m.m c.loop-m.stage c.loop-m.stage _ c.fail_turn.new.m _ c.in_err-stage.field-0.0
     c.from_residual.result refl
-    (failing_goes c.loop-m.stage (sym c.is_failing.ensures ∙ c.loop-m-test.true)) (c.loop-m.invariant.steps tables named ready)
+    (failing_goes c.loop-m.stage (sym c.is_failing.ensures ∙ c.loop-m-test.true))
+    (at_failing tables c.loop-m.m c.loop-m.stage (sym c.is_failing.ensures ∙ c.loop-m-test.true)) (c.loop-m.invariant.steps tables named ready)
     (c.in_err-stage.ensures.steps tables named (c.loop-m.invariant.ready tables named ready)) c.from_residual.ensures.1
 
 pub returns-in_err-stage-clause-ready : goal.returns-in_err-stage-clause-ready
@@ -43,8 +45,9 @@ loop-m-smaller g c =
 
 pub loop-m-preserved : goal.loop-m-preserved
 loop-m-preserved g c = record {
-  steps = λ tables named ready. loop_goes_on tables c.args.m.now c.args.from _ c.loop-m.m c.loop-m.stage c.loop-m.stage _ c.fail_turn.new.m _ _ refl
-      (failing_goes c.loop-m.stage (sym c.is_failing.ensures ∙ c.loop-m-test.true)) (c.loop-m.invariant.steps tables named ready)
+  steps = λ tables named ready. loop_goes_on IsFailing tables c.args.m.now c.args.from _ c.loop-m.m c.loop-m.stage c.loop-m.stage _ c.fail_turn.new.m _ _ refl
+      (failing_goes c.loop-m.stage (sym c.is_failing.ensures ∙ c.loop-m-test.true))
+      (at_failing tables c.loop-m.m c.loop-m.stage (sym c.is_failing.ensures ∙ c.loop-m-test.true)) (c.loop-m.invariant.steps tables named ready)
       (c.in_ok-stage.ensures.steps tables named (c.loop-m.invariant.ready tables named ready));
   ready = λ tables named ready. c.in_ok-stage.ensures.ready tables named (c.loop-m.invariant.ready tables named ready);
   limits = c.in_ok-stage.ensures.within.limits ∙ c.loop-m.invariant.limits;

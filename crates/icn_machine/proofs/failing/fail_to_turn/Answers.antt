@@ -2,7 +2,8 @@ use Rattle.std.proofs.Common.{◌≡◌, ◌<◌, inl, refl, sym, ◌∙◌, sub
 use Rattle.icn_control.specs.Machines.{stack_seen}
 use Rattle.icn_control.specs.declared.machine.RunState.{RunState}
 use Rattle.icn_control.specs.declared.machine.RunState.TheVariants as RunStates
-use Rattle.icn_machine.specs.Stepping.{IsReady, advances, fails_within, stays}
+use Rattle.icn_machine.specs.Stepping.{IsFailing, IsReady, advances, fails_within, stays}
+use Rattle.icn_machine.proofs.AdvanceSteps.{at_failing}
 use Rattle.icn_machine.proofs.LoopSteps.{if_err_known, fails_is, failing_left, loop_halts, loop_goes_on, if_ok_of_error, within_ended, within_falls, within_more}
 use Rattle.icn_machine.proofs.failing.fail_to_turn.Goals as goal
 
@@ -33,8 +34,9 @@ fail_next-requires g c =
 pub returns-in_err-stage-clause-steps : goal.returns-in_err-stage-clause-steps
 returns-in_err-stage-clause-steps g c tables named ready =
     let fails = fails_is c.loop-stage.stage c.loop-stage.m.turns c.args.m.now.turns (sym c.fails_within.ensures ∙ c.loop-stage-test.true) in
-    loop_halts tables c.args.m.now RunStates.Failing _ c.loop-stage.m c.loop-stage.stage RunStates.Failing _ c.fail_next.new.m _ c.in_err-stage.field-0.0
-    c.from_residual.result fails.0 refl (c.loop-stage.invariant.steps tables named ready)
+    loop_halts IsFailing tables c.args.m.now RunStates.Failing _ c.loop-stage.m c.loop-stage.stage RunStates.Failing _ c.fail_next.new.m _
+    c.in_err-stage.field-0.0
+    c.from_residual.result fails.0 refl (at_failing tables c.loop-stage.m RunStates.Failing refl) (c.loop-stage.invariant.steps tables named ready)
     (advances (c.in_err-stage.ensures.steps tables named
     (subst (λ (s : RunState). IsReady tables c.loop-stage.m s) fails.0 (c.loop-stage.invariant.ready tables named ready))))
     c.from_residual.ensures.1
@@ -65,8 +67,9 @@ loop-stage-preserved g c =
     let fails = fails_is c.loop-stage.stage c.loop-stage.m.turns c.args.m.now.turns (sym c.fails_within.ensures ∙ c.loop-stage-test.true) in
     record {
       steps =
-          λ tables named ready. loop_goes_on tables c.args.m.now RunStates.Failing _ c.loop-stage.m c.loop-stage.stage RunStates.Failing _ c.fail_next.new.m _ _
-          fails.0 refl (c.loop-stage.invariant.steps tables named ready)
+          λ tables named ready. loop_goes_on IsFailing tables c.args.m.now RunStates.Failing _ c.loop-stage.m c.loop-stage.stage RunStates.Failing _
+          c.fail_next.new.m _ _
+          fails.0 refl (at_failing tables c.loop-stage.m RunStates.Failing refl) (c.loop-stage.invariant.steps tables named ready)
           (advances
           (c.in_ok-stage.ensures.steps tables named
           (subst (λ (s : RunState). IsReady tables c.loop-stage.m s) fails.0 (c.loop-stage.invariant.ready tables named ready))));

@@ -3,6 +3,7 @@ use Rattle.std.specs.Prelude.{map}
 use Rattle.icn_value.specs.Limited.{Bounds}
 use Rattle.icn_defs.specs.Arities.{arity}
 use Rattle.icn_defs.specs.StepRows as rows
+use Rattle.law_rows.proofs.EachOfList.{all_of}
 use Rattle.icn_heap.specs.Heaps.{extent_of, heap_of}
 use Rattle.law_names.specs.NamedSettings.{ItemNamed}
 use Rattle.icn_vars.specs.Worlds.{item_in, reach_of}
@@ -82,7 +83,7 @@ perform-requires-clause-given g c = record {
       let taken = taken_as c.arity.result c.arity.result f k k c.take_operands.new.items.items xs c.in-Ok.ensures.taken refl refl c.deref.ensures.value in
       let there = named_taken names all c.arity.result f k xs taken
       (named_running names all m.stacks.table f c.frames.ensures.running c.requires.named.stack_named) in
-      named.all_of (ItemNamed names) (map (item_in all) xs) there.items_named);
+      all_of (ItemNamed names) (map (item_in all) xs) there.items_named);
 }
 
 pub returns-clause-step : goal.returns-clause-step

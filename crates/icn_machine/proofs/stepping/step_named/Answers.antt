@@ -1,6 +1,7 @@
 use Rattle.std.proofs.Common.{◌≡◌, ◌∙◌, sym, true, false, rules}
 use Rattle.icn_code.specs.CodeTables.{tables_of}
 use Rattle.icn_control.specs.declared.machine.RunState.TheVariants as RunStates
+use Rattle.icn_machine.proofs.AdvanceSteps.{at_failing}
 use Rattle.icn_machine.proofs.DoingSteps.{advanced_err, err_memory, then_fails}
 use Rattle.icn_machine.proofs.LoopSteps.{if_err_known, failing_goes, if_ok_of_error}
 use Rattle.icn_machine.proofs.stepping.step_named.Goals as goal
@@ -41,7 +42,9 @@ fail_to_next-requires-clause-ready g c = c.in_ok-stage.ensures.ready
 pub returns-then-is_failing-clause-steps : goal.returns-then-is_failing-clause-steps
 returns-then-is_failing-clause-steps g c =
     then_fails (tables_of c.args.code.now) c.args.m.now RunStates.Running _ c.do_next.new.m c.in_ok-stage.stage _ c.fail_to_next.new.m _ _
-    (failing_goes c.in_ok-stage.stage (sym c.is_failing.ensures ∙ c.if-is_failing.true)) c.in_ok-stage.ensures.steps c.fail_to_next.ensures.steps
+    (failing_goes c.in_ok-stage.stage (sym c.is_failing.ensures ∙ c.if-is_failing.true))
+    (at_failing (tables_of c.args.code.now) c.do_next.new.m c.in_ok-stage.stage (sym c.is_failing.ensures ∙ c.if-is_failing.true))
+    c.in_ok-stage.ensures.steps c.fail_to_next.ensures.steps
 
 pub returns-then-is_failing-clause-ready : goal.returns-then-is_failing-clause-ready
 returns-then-is_failing-clause-ready g c = c.fail_to_next.ensures.ready

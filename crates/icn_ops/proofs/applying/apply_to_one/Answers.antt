@@ -15,12 +15,12 @@ returns-in-Elements g c = rw c.in-Elements.is c.elements_row.ensures
 pub returns-in-Random : goal.returns-in-Random
 returns-in-Random g c = rw c.in-Random.is
     (faultless_applies (random_row (item_in (extent_of c.args.w.now.heap) c.args.x)) c.args.w.now c.random_row.new.w (g.L.Locals.items c.args.l.now)
-    (g.L.Locals.items c.args.l.now) (call_streams (g.I.Source.left c.args.input.now) (g.I.Source.faults c.args.input.now)
+    (g.L.Locals.items c.args.l.now) (call_streams (g.I.Source.left c.args.input.now) (g.I.Source.counts c.args.input.now)
     (g.O.Sink.state c.args.out.now) (g.E.Sink.state c.args.err.now)) c.random_row.result
     (λ was. c.random_row.ensures.row was) c.random_row.ensures.live c.random_row.ensures.locals c.random_row.ensures.kept)
 
 pub returns-in-Refresh : goal.returns-in-Refresh
 returns-in-Refresh g c = rw c.in-Refresh.is (faultless_applies fails c.args.w.now c.args.w.now (g.L.Locals.items c.args.l.now)
-    (g.L.Locals.items c.args.l.now) (call_streams (g.I.Source.left c.args.input.now) (g.I.Source.faults c.args.input.now)
+    (g.L.Locals.items c.args.l.now) (call_streams (g.I.Source.left c.args.input.now) (g.I.Source.counts c.args.input.now)
     (g.O.Sink.state c.args.out.now) (g.E.Sink.state c.args.err.now)) (Ok FailsOutcome)
     (λ was. refl) (record { live = tt }) c.requires.locals (keeps_items_refl (reach_of c.args.w.now (g.L.Locals.items c.args.l.now))))

@@ -17,16 +17,16 @@ pub returns-then-wants_values : goal.returns-then-wants_values
 returns-then-wants_values g c =
     faultless_applies (operation_row c.args.op (map (item_in (extent_of c.args.w.now.heap)) c.args.args.now)) c.args.w.now c.apply_to_values.new.w
     (g.L.Locals.items c.args.l.now) (g.L.Locals.items c.args.l.now)
-    (call_streams (g.I.Source.left c.args.input.now) (g.I.Source.faults c.args.input.now) (g.O.Sink.state c.args.out.now) (g.E.Sink.state c.args.err.now))
+    (call_streams (g.I.Source.left c.args.input.now) (g.I.Source.counts c.args.input.now) (g.O.Sink.state c.args.out.now) (g.E.Sink.state c.args.err.now))
     c.apply_to_values.result
     (λ was. c.apply_to_values.ensures.row was) c.apply_to_values.ensures.live c.apply_to_values.ensures.locals c.apply_to_values.ensures.kept
 
 pub returns-in-len1 : goal.returns-in-len1
 returns-in-len1 g c =
     subst (λ (row : Row). Applies row (call_state c.args.w.now (g.L.Locals.items c.args.l.now) (call_streams (g.I.Source.left c.args.input.now)
-    (g.I.Source.faults c.args.input.now) (g.O.Sink.state c.args.out.now) (g.E.Sink.state c.args.err.now)))
+    (g.I.Source.counts c.args.input.now) (g.O.Sink.state c.args.out.now) (g.E.Sink.state c.args.err.now)))
     (call_state c.apply_to_one.new.w (g.L.Locals.items c.apply_to_one.new.l)
-    (call_streams (g.I.Source.left c.apply_to_one.new.input) (g.I.Source.faults c.apply_to_one.new.input)
+    (call_streams (g.I.Source.left c.apply_to_one.new.input) (g.I.Source.counts c.apply_to_one.new.input)
     (g.O.Sink.state c.apply_to_one.new.out) (g.E.Sink.state c.apply_to_one.new.err))) c.apply_to_one.result)
     (sym (of_one (extent_of c.args.w.now.heap) c.args.op c.args.args.now (ValItem NullVal) c.in-len1.len_at_least c.in-len1.len_below))
     c.apply_to_one.ensures
@@ -35,7 +35,7 @@ pub returns-in-len2 : goal.returns-in-len2
 returns-in-len2 g c =
     faultless_applies (operation_row c.args.op (map (item_in (extent_of c.args.w.now.heap)) c.args.args.now)) c.args.w.now c.apply_to_two.new.w
     (g.L.Locals.items c.args.l.now) (g.L.Locals.items c.apply_to_two.new.l)
-    (call_streams (g.I.Source.left c.args.input.now) (g.I.Source.faults c.args.input.now) (g.O.Sink.state c.args.out.now) (g.E.Sink.state c.args.err.now))
+    (call_streams (g.I.Source.left c.args.input.now) (g.I.Source.counts c.args.input.now) (g.O.Sink.state c.args.out.now) (g.E.Sink.state c.args.err.now))
     c.apply_to_two.result
     (λ was. subst (λ (row : Row). ComesToAnswer (extent_of c.apply_to_two.new.w.heap) row (setting_of was c.args.w.now (g.L.Locals.items c.args.l.now))
     (setting_of was c.apply_to_two.new.w (g.L.Locals.items c.apply_to_two.new.l)) c.apply_to_two.result)
@@ -46,7 +46,7 @@ pub returns-in-len3 : goal.returns-in-len3
 returns-in-len3 g c =
     faultless_applies (operation_row c.args.op (map (item_in (extent_of c.args.w.now.heap)) c.args.args.now)) c.args.w.now c.apply_to_three.new.w
     (g.L.Locals.items c.args.l.now)
-    (g.L.Locals.items c.args.l.now) (call_streams (g.I.Source.left c.args.input.now) (g.I.Source.faults c.args.input.now)
+    (g.L.Locals.items c.args.l.now) (call_streams (g.I.Source.left c.args.input.now) (g.I.Source.counts c.args.input.now)
     (g.O.Sink.state c.args.out.now) (g.E.Sink.state c.args.err.now)) c.apply_to_three.result
     (λ was. subst (λ (row : Row). ComesToAnswer (extent_of c.apply_to_three.new.w.heap) row (setting_of was c.args.w.now (g.L.Locals.items c.args.l.now))
     (setting_of was c.apply_to_three.new.w (g.L.Locals.items c.args.l.now)) c.apply_to_three.result)

@@ -1,7 +1,7 @@
 use Rattle.std.proofs.Common.{◌∙◌, sym, ap}
 use Rattle.icn_value.specs.Values.{Value}
 use Rattle.icn_defs.specs.Conversions.{same}
-use Rattle.icn_defs.specs.Rows.{gives_value, passing}
+use Rattle.icn_defs.specs.Rows.{gives_value, fails_unless}
 use Rattle.icn_heap.specs.Extents.{value_in}
 use Rattle.icn_heap.specs.Heaps.{extent_of}
 use Rattle.icn_vars.specs.Worlds.{item_in, reach_of, setting_of}
@@ -12,7 +12,7 @@ use Rattle.icn_ops.proofs.comparisons.equivalent_row.Goals as goal
 pub returns-in_err-a-clause-row : goal.returns-in_err-a-clause-row
 returns-in_err-a-clause-row g c = λ outside.
     row_stops (extent_of c.args.w.now.heap) (two_values (item_in (extent_of c.args.w.now.heap) c.args.x) (item_in (extent_of c.args.w.now.heap) c.args.y))
-    (λ (two : Value × Value). passing (same two.0 two.1) (gives_value two.1)) (setting_of outside c.args.w.now (g.L.Locals.items c.args.l.now))
+    (λ (two : Value × Value). fails_unless (same two.0 two.1) (gives_value two.1)) (setting_of outside c.args.w.now (g.L.Locals.items c.args.l.now))
     (setting_of outside c.args.w.now (g.L.Locals.items c.args.l.now)) c.in_err-a.field-0.0 c.from_residual.result c.from_residual.ensures.1
     (c.in_err-a.ensures.found outside)
 
@@ -23,7 +23,7 @@ returns-in_err-a-clause-live g c =
 
 pub returns-clause-row : goal.returns-clause-row
 returns-clause-row g c = λ outside.
-    c.in_ok-a.ensures.found outside (λ (two : Value × Value). passing (same two.0 two.1) (gives_value two.1)) ∙ (ap (λ met. passing (met)
+    c.in_ok-a.ensures.found outside (λ (two : Value × Value). fails_unless (same two.0 two.1) (gives_value two.1)) ∙ (ap (λ met. fails_unless (met)
     (gives_value (value_in (extent_of c.args.w.now.heap) c.in_ok-a.b)) (setting_of outside c.args.w.now (g.L.Locals.items c.args.l.now))) (sym c.same.ensures)
     ∙ c.value_if.ensures.row (extent_of c.args.w.now.heap) (setting_of outside c.args.w.now (g.L.Locals.items c.args.l.now)))
 

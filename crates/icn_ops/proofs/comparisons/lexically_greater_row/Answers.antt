@@ -2,7 +2,7 @@ use Rattle.std.proofs.Common.{◌∙◌, sym, ap, ℕ, List}
 use Rattle.std.specs.Ordering.{is_gt}
 use Rattle.std.specs.declared.cmp.Ordering.{Ordering}
 use Rattle.icn_value.specs.Values.{Text}
-use Rattle.icn_defs.specs.Rows.{gives_value, passing}
+use Rattle.icn_defs.specs.Rows.{gives_value, fails_unless}
 use Rattle.icn_heap.specs.Extents.{text_in}
 use Rattle.icn_heap.specs.Heaps.{extent_of}
 use Rattle.icn_vars.specs.Worlds.{item_in, reach_of, setting_of}
@@ -14,7 +14,7 @@ pub returns-in_err-order-clause-row : goal.returns-in_err-order-clause-row
 returns-in_err-order-clause-row g c = λ outside.
     row_stops
     (extent_of c.compared_texts.new.w.heap) (compared_texts (item_in (extent_of c.args.w.now.heap) c.args.x) (item_in (extent_of c.args.w.now.heap) c.args.y))
-    (λ (two : Ordering × List ℕ). passing (is_gt two.0) (gives_value (Text two.1))) (setting_of outside c.args.w.now (g.L.Locals.items c.args.l.now))
+    (λ (two : Ordering × List ℕ). fails_unless (is_gt two.0) (gives_value (Text two.1))) (setting_of outside c.args.w.now (g.L.Locals.items c.args.l.now))
     (setting_of outside c.compared_texts.new.w (g.L.Locals.items c.args.l.now)) c.in_err-order.field-0.0 c.from_residual.result c.from_residual.ensures.1
     (c.in_err-order.ensures.found outside)
 
@@ -25,8 +25,8 @@ returns-in_err-order-clause-live g c =
 
 pub returns-clause-row : goal.returns-clause-row
 returns-clause-row g c = λ outside.
-    c.in_ok-order.ensures.found outside (λ (two : Ordering × List ℕ). passing (is_gt two.0) (gives_value (Text two.1)))
-    ∙ (ap (λ met. passing met (gives_value (Text (text_in (extent_of c.compared_texts.new.w.heap) c.in_ok-order.text)))
+    c.in_ok-order.ensures.found outside (λ (two : Ordering × List ℕ). fails_unless (is_gt two.0) (gives_value (Text two.1)))
+    ∙ (ap (λ met. fails_unless met (gives_value (Text (text_in (extent_of c.compared_texts.new.w.heap) c.in_ok-order.text)))
     (setting_of outside c.compared_texts.new.w (g.L.Locals.items c.args.l.now))) (sym c.is_gt.ensures)
     ∙ c.value_if.ensures.row (extent_of c.compared_texts.new.w.heap) (setting_of outside c.compared_texts.new.w (g.L.Locals.items c.args.l.now)))
 

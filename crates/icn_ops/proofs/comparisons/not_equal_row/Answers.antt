@@ -3,7 +3,7 @@ use Rattle.std.specs.Ordering.{is_ne}
 use Rattle.std.specs.declared.cmp.Ordering.{Ordering}
 use Rattle.std.specs.Int.{w64}
 use Rattle.icn_value.specs.Values.{Integer}
-use Rattle.icn_defs.specs.Rows.{gives_value, passing}
+use Rattle.icn_defs.specs.Rows.{gives_value, fails_unless}
 use Rattle.icn_heap.specs.Heaps.{extent_of}
 use Rattle.icn_vars.specs.Worlds.{item_in, reach_of, setting_of}
 use Rattle.icn_args.proofs.RowAnswers.{row_stops, stop_lives}
@@ -14,7 +14,7 @@ use Rattle.icn_ops.proofs.comparisons.not_equal_row.Goals as goal
 pub returns-in_err-order-clause-row : goal.returns-in_err-order-clause-row
 returns-in_err-order-clause-row g c = λ outside.
     row_stops (extent_of c.args.w.now.heap) (compared_numbers (item_in (extent_of c.args.w.now.heap) c.args.x) (item_in (extent_of c.args.w.now.heap) c.args.y))
-    (λ (two : Ordering × ℤ). passing (is_ne two.0) (gives_value (Integer two.1))) (setting_of outside c.args.w.now (g.L.Locals.items c.args.l.now))
+    (λ (two : Ordering × ℤ). fails_unless (is_ne two.0) (gives_value (Integer two.1))) (setting_of outside c.args.w.now (g.L.Locals.items c.args.l.now))
     (setting_of outside c.args.w.now (g.L.Locals.items c.args.l.now)) c.in_err-order.field-0.0 c.from_residual.result c.from_residual.ensures.1
     (c.in_err-order.ensures.found outside)
 
@@ -25,9 +25,9 @@ returns-in_err-order-clause-live g c =
 
 pub returns-clause-row : goal.returns-clause-row
 returns-clause-row g c = λ outside.
-    c.in_ok-order.ensures.found outside (λ (two : Ordering × ℤ). passing (is_ne two.0) (gives_value (Integer two.1)))
-    ∙ (ap (λ met. passing met (gives_value (Integer c.in_ok-order.n)) (setting_of outside c.args.w.now (g.L.Locals.items c.args.l.now))) (sym c.is_ne.ensures)
-    ∙ (sym (held_one (λ n. passing c.is_ne.result (gives_value (Integer n)) (setting_of outside c.args.w.now (g.L.Locals.items c.args.l.now))) c.in_ok-order.n
+    c.in_ok-order.ensures.found outside (λ (two : Ordering × ℤ). fails_unless (is_ne two.0) (gives_value (Integer two.1)))
+    ∙ (ap (λ met. fails_unless met (gives_value (Integer c.in_ok-order.n)) (setting_of outside c.args.w.now (g.L.Locals.items c.args.l.now))) (sym c.is_ne.ensures)
+    ∙ (sym (held_one (λ n. fails_unless c.is_ne.result (gives_value (Integer n)) (setting_of outside c.args.w.now (g.L.Locals.items c.args.l.now))) c.in_ok-order.n
     (let fits : FitsSigned w64 c.in_ok-order.n = search rules in fits))
     ∙ c.value_if.ensures.row (extent_of c.args.w.now.heap) (setting_of outside c.args.w.now (g.L.Locals.items c.args.l.now))))
 

@@ -3,7 +3,7 @@ use Rattle.icn_value.specs.Values.{Var}
 use Rattle.icn_defs.specs.Conversions.{held_text}
 use Rattle.icn_defs.specs.Elements.{part_of}
 use Rattle.icn_defs.specs.ReadAndAssign.{reads}
-use Rattle.icn_defs.specs.Rows.{Suspends, VariableBytes, passing, present, suspends}
+use Rattle.icn_defs.specs.Rows.{Suspends, VariableBytes, fails_unless, present, suspends}
 use Rattle.icn_heap.specs.Extents.{text_in, value_in}
 use Rattle.icn_heap.specs.Heaps.{extent_of}
 use Rattle.icn_vars.specs.Worlds.{reach_of, setting_of, variable_in}
@@ -14,7 +14,7 @@ use Rattle.icn_ops.proofs.elements.variable_bytes_from.Goals as goal
 pub returns-in_err-held-clause-row : goal.returns-in_err-held-clause-row
 returns-in_err-held-clause-row g c = λ outside.
     row_stops (extent_of c.args.w.now.heap) (reads (variable_in (extent_of c.args.w.now.heap) c.args.variable)) (λ value. present (held_text value) 103
-    (Some value) (λ text. passing (nat_lt c.args.place (length text)) (suspends (Var (part_of (variable_in (extent_of c.args.w.now.heap) c.args.variable)
+    (Some value) (λ text. fails_unless (nat_lt c.args.place (length text)) (suspends (Var (part_of (variable_in (extent_of c.args.w.now.heap) c.args.variable)
     (c.args.place + 1) 1)) (VariableBytes (variable_in (extent_of c.args.w.now.heap) c.args.variable) (c.args.place + 1)))))
     (setting_of outside c.args.w.now (g.L.Locals.items c.args.l.now)) (setting_of outside c.args.w.now (g.L.Locals.items c.args.l.now)) c.in_err-held.field-0.0
     c.from_residual.result c.from_residual.ensures.1 (c.in_err-held.ensures.value outside)

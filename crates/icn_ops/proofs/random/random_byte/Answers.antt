@@ -1,7 +1,7 @@
 use Rattle.std.proofs.Common.{ap, arith, length, nat_lt, ◌+◌, ◌∙◌}
 use Rattle.std.specs.Option.{option_map}
 use Rattle.icn_defs.specs.Elements.{part_item, picks, text_variable}
-use Rattle.icn_defs.specs.Rows.{costs_text, gives, passing}
+use Rattle.icn_defs.specs.Rows.{costs_text, gives, fails_unless}
 use Rattle.icn_heap.specs.Extents.{text_in, value_in}
 use Rattle.icn_heap.specs.Heaps.{extent_of}
 use Rattle.icn_vars.specs.Worlds.{item_in, reach_of, setting_of, variable_in}
@@ -13,7 +13,7 @@ use Rattle.icn_ops.proofs.random.random_byte.Goals as goal
 
 pub returns-in_err-text-clause-row : goal.returns-in_err-text-clause-row
 returns-in_err-text-clause-row g c = λ outside.
-    row_stops_at (extent_of c.text_of.new.w.heap) (costs_text (value_in (extent_of c.args.w.now.heap) c.args.val)) (passing (nat_lt 0
+    row_stops_at (extent_of c.text_of.new.w.heap) (costs_text (value_in (extent_of c.args.w.now.heap) c.args.val)) (fails_unless (nat_lt 0
     (length (the_text (value_in (extent_of c.args.w.now.heap) c.args.val)))) (picks (length (the_text (value_in (extent_of c.args.w.now.heap) c.args.val)))
     (λ place. gives (part_item (text_variable (item_in (extent_of c.args.w.now.heap) c.args.x) (value_in (extent_of c.args.w.now.heap) c.args.val))
     (the_text (value_in (extent_of c.args.w.now.heap) c.args.val)) (place + 1) 1))))
@@ -27,7 +27,7 @@ returns-in_err-text-clause-live g c =
 
 pub returns-then-size-gt0-clause-row : goal.returns-then-size-gt0-clause-row
 returns-then-size-gt0-clause-row g c = λ outside.
-    c.in_ok-text.ensures.step outside (passing (nat_lt 0 (length (the_text (value_in (extent_of c.args.w.now.heap) c.args.val))))
+    c.in_ok-text.ensures.step outside (fails_unless (nat_lt 0 (length (the_text (value_in (extent_of c.args.w.now.heap) c.args.val))))
     (picks (length (the_text (value_in (extent_of c.args.w.now.heap) c.args.val)))
     (λ place. gives (part_item (text_variable (item_in (extent_of c.args.w.now.heap) c.args.x) (value_in (extent_of c.args.w.now.heap) c.args.val))
     (the_text (value_in (extent_of c.args.w.now.heap) c.args.val)) (place + 1) 1))))
@@ -42,7 +42,7 @@ returns-then-size-gt0-clause-row g c = λ outside.
 
 pub returns-else-size-gt0-clause-row : goal.returns-else-size-gt0-clause-row
 returns-else-size-gt0-clause-row g c = λ outside.
-    c.in_ok-text.ensures.step outside (passing (nat_lt 0 (length (the_text (value_in (extent_of c.args.w.now.heap) c.args.val))))
+    c.in_ok-text.ensures.step outside (fails_unless (nat_lt 0 (length (the_text (value_in (extent_of c.args.w.now.heap) c.args.val))))
     (picks (length (the_text (value_in (extent_of c.args.w.now.heap) c.args.val)))
     (λ place. gives (part_item (text_variable (item_in (extent_of c.args.w.now.heap) c.args.x) (value_in (extent_of c.args.w.now.heap) c.args.val))
     (the_text (value_in (extent_of c.args.w.now.heap) c.args.val)) (place + 1) 1))))

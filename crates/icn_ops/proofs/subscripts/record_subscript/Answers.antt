@@ -5,7 +5,7 @@ use Rattle.std.proofs.lemmas.Int.{to_z-of_z}
 use Rattle.icn_value.specs.Store.{record_at}
 use Rattle.icn_defs.specs.Arguments.{integer}
 use Rattle.icn_defs.specs.Elements.{field_item}
-use Rattle.icn_defs.specs.Variables.{element_place}
+use Rattle.icn_defs.specs.Variables.{element_position}
 use Rattle.icn_defs.specs.Rows.{Gives, gives}
 use Rattle.icn_heap.specs.Extents.{value_in}
 use Rattle.icn_heap.specs.Heaps.{extent_of, heap_of}
@@ -17,7 +17,7 @@ use Rattle.icn_ops.proofs.subscripts.record_subscript.Goals as goal
 pub returns-in_err-n-clause-row : goal.returns-in_err-n-clause-row
 returns-in_err-n-clause-row g c = λ outside.
     row_stops (extent_of c.args.w.now.heap) (integer (value_in (extent_of c.args.w.now.heap) c.args.at))
-    (λ n setting. element_place n (length (record_at setting.world.heap c.args.rec).fields) (λ place. gives (field_item c.args.rec (place - 1))) setting)
+    (λ n setting. element_position n (length (record_at setting.world.heap c.args.rec).fields) (λ place. gives (field_item c.args.rec (place - 1))) setting)
     (setting_of outside c.args.w.now (g.L.Locals.items c.args.l.now)) (setting_of outside c.args.w.now (g.L.Locals.items c.args.l.now)) c.in_err-n.field-0.0
     c.from_residual.result c.from_residual.ensures.1 (c.in_err-n.ensures.found (setting_of outside c.args.w.now (g.L.Locals.items c.args.l.now)))
 
@@ -29,7 +29,7 @@ returns-in_err-n-clause-live g c =
 pub returns-in-Some-clause-row : goal.returns-in-Some-clause-row
 returns-in-Some-clause-row g c = λ outside.
     c.in_ok-n.ensures.found (setting_of outside c.args.w.now (g.L.Locals.items c.args.l.now))
-    (λ n setting. element_place n (length (record_at setting.world.heap c.args.rec).fields) (λ place. gives (field_item c.args.rec (place - 1))) setting)
+    (λ n setting. element_position n (length (record_at setting.world.heap c.args.rec).fields) (λ place. gives (field_item c.args.rec (place - 1))) setting)
     ∙ (element_held c.in_ok-n.n (to_z w64 (of_z w64 c.in_ok-n.n)) (length (record_at (heap_of c.args.w.now.heap) c.args.rec).fields) c.field_count.result
     (λ place. gives (field_item c.args.rec (place - 1))) (setting_of outside c.args.w.now (g.L.Locals.items c.args.l.now))
     _ (to_z-of_z w64 c.in_ok-n.n (let fits : FitsSigned w64 c.in_ok-n.n = search rules in fits)) c.field_count.ensures.count
@@ -39,7 +39,7 @@ returns-in-Some-clause-row g c = λ outside.
 pub returns-in-None-clause-row : goal.returns-in-None-clause-row
 returns-in-None-clause-row g c = λ outside.
     c.in_ok-n.ensures.found (setting_of outside c.args.w.now (g.L.Locals.items c.args.l.now))
-    (λ n setting. element_place n (length (record_at setting.world.heap c.args.rec).fields) (λ place. gives (field_item c.args.rec (place - 1))) setting)
+    (λ n setting. element_position n (length (record_at setting.world.heap c.args.rec).fields) (λ place. gives (field_item c.args.rec (place - 1))) setting)
     ∙ element_held c.in_ok-n.n (to_z w64 (of_z w64 c.in_ok-n.n)) (length (record_at (heap_of c.args.w.now.heap) c.args.rec).fields) c.field_count.result
     (λ place. gives (field_item c.args.rec (place - 1))) (setting_of outside c.args.w.now (g.L.Locals.items c.args.l.now))
     _ (to_z-of_z w64 c.in_ok-n.n (let fits : FitsSigned w64 c.in_ok-n.n = search rules in fits)) c.field_count.ensures.count

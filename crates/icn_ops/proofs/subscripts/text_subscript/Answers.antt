@@ -6,7 +6,7 @@ use Rattle.std.proofs.lemmas.Int.{to_z-of_z}
 use Rattle.icn_defs.specs.Arguments.{integer}
 use Rattle.icn_defs.specs.Conversions.{Textual}
 use Rattle.icn_defs.specs.Elements.{part_item, text_variable}
-use Rattle.icn_defs.specs.Variables.{element_place, subscript_of}
+use Rattle.icn_defs.specs.Variables.{element_position, subscript_of}
 use Rattle.icn_defs.specs.Rows.{costs_text, gives}
 use Rattle.icn_heap.specs.Extents.{text_in, value_in}
 use Rattle.icn_heap.specs.Heaps.{extent_of}
@@ -20,7 +20,7 @@ use Rattle.icn_ops.proofs.subscripts.text_subscript.Goals as goal
 pub returns-in_err-n-clause-row : goal.returns-in_err-n-clause-row
 returns-in_err-n-clause-row g c = λ outside.
     row_stops (extent_of c.args.w.now.heap) (integer (value_in (extent_of c.args.w.now.heap) c.args.at)) (λ n.
-    costs_text (value_in (extent_of c.args.w.now.heap) c.args.val) (element_place n (length (the_text (value_in (extent_of c.args.w.now.heap) c.args.val)))
+    costs_text (value_in (extent_of c.args.w.now.heap) c.args.val) (element_position n (length (the_text (value_in (extent_of c.args.w.now.heap) c.args.val)))
     (λ place. gives (part_item (text_variable (item_in (extent_of c.args.w.now.heap) c.args.x) (value_in (extent_of c.args.w.now.heap) c.args.val))
     (the_text (value_in (extent_of c.args.w.now.heap) c.args.val)) place 1))))
     (setting_of outside c.args.w.now (g.L.Locals.items c.args.l.now)) (setting_of outside c.args.w.now (g.L.Locals.items c.args.l.now)) c.in_err-n.field-0.0
@@ -35,15 +35,15 @@ pub returns-in_err-text-clause-row : goal.returns-in_err-text-clause-row
 returns-in_err-text-clause-row g c = λ outside.
     answer_then (extent_of c.text_of.new.w.heap) (subscript_of (item_in (extent_of c.args.w.now.heap) c.args.x) (value_in (extent_of c.args.w.now.heap)
     c.args.val) (value_in (extent_of c.args.w.now.heap) c.args.at) (Textual (the_text (value_in (extent_of c.args.w.now.heap) c.args.val)))) (costs_text
-    (value_in (extent_of c.args.w.now.heap) c.args.val) (element_place c.in_ok-n.n (length (the_text (value_in (extent_of c.args.w.now.heap) c.args.val)))
+    (value_in (extent_of c.args.w.now.heap) c.args.val) (element_position c.in_ok-n.n (length (the_text (value_in (extent_of c.args.w.now.heap) c.args.val)))
     (λ place. gives (part_item (text_variable (item_in (extent_of c.args.w.now.heap) c.args.x) (value_in (extent_of c.args.w.now.heap) c.args.val))
     (the_text (value_in (extent_of c.args.w.now.heap) c.args.val)) place 1)))) (setting_of outside c.args.w.now (g.L.Locals.items c.args.l.now))
     (setting_of outside c.args.w.now (g.L.Locals.items c.args.l.now)) (setting_of outside c.text_of.new.w (g.L.Locals.items c.args.l.now))
     c.from_residual-in_err-text.result (c.in_ok-n.ensures.found (setting_of outside c.args.w.now (g.L.Locals.items c.args.l.now)) (λ n.
-    costs_text (value_in (extent_of c.args.w.now.heap) c.args.val) (element_place n (length (the_text (value_in (extent_of c.args.w.now.heap) c.args.val)))
+    costs_text (value_in (extent_of c.args.w.now.heap) c.args.val) (element_position n (length (the_text (value_in (extent_of c.args.w.now.heap) c.args.val)))
     (λ place. gives (part_item (text_variable (item_in (extent_of c.args.w.now.heap) c.args.x) (value_in (extent_of c.args.w.now.heap) c.args.val))
     (the_text (value_in (extent_of c.args.w.now.heap) c.args.val)) place 1)))))
-    (row_stops_at (extent_of c.text_of.new.w.heap) (costs_text (value_in (extent_of c.args.w.now.heap) c.args.val)) (element_place c.in_ok-n.n
+    (row_stops_at (extent_of c.text_of.new.w.heap) (costs_text (value_in (extent_of c.args.w.now.heap) c.args.val)) (element_position c.in_ok-n.n
     (length (the_text (value_in (extent_of c.args.w.now.heap) c.args.val))) (λ place. gives (part_item (text_variable (item_in (extent_of c.args.w.now.heap)
     c.args.x) (value_in (extent_of c.args.w.now.heap) c.args.val)) (the_text (value_in (extent_of c.args.w.now.heap) c.args.val)) place 1)))
     (setting_of outside c.args.w.now (g.L.Locals.items c.args.l.now)) (setting_of outside c.text_of.new.w (g.L.Locals.items c.args.l.now))
@@ -57,10 +57,10 @@ returns-in_err-text-clause-live g c =
 pub returns-in-Some-clause-row : goal.returns-in-Some-clause-row
 returns-in-Some-clause-row g c = λ outside.
     c.in_ok-n.ensures.found (setting_of outside c.args.w.now (g.L.Locals.items c.args.l.now)) (λ n.
-    costs_text (value_in (extent_of c.args.w.now.heap) c.args.val) (element_place n (length (the_text (value_in (extent_of c.args.w.now.heap) c.args.val)))
+    costs_text (value_in (extent_of c.args.w.now.heap) c.args.val) (element_position n (length (the_text (value_in (extent_of c.args.w.now.heap) c.args.val)))
     (λ place. gives (part_item (text_variable (item_in (extent_of c.args.w.now.heap) c.args.x) (value_in (extent_of c.args.w.now.heap) c.args.val))
     (the_text (value_in (extent_of c.args.w.now.heap) c.args.val)) place 1))))
-    ∙ (c.in_ok-text.ensures.step outside (element_place c.in_ok-n.n (length (the_text (value_in (extent_of c.args.w.now.heap) c.args.val)))
+    ∙ (c.in_ok-text.ensures.step outside (element_position c.in_ok-n.n (length (the_text (value_in (extent_of c.args.w.now.heap) c.args.val)))
     (λ place. gives (part_item (text_variable (item_in (extent_of c.args.w.now.heap) c.args.x) (value_in (extent_of c.args.w.now.heap) c.args.val))
     (the_text (value_in (extent_of c.args.w.now.heap) c.args.val)) place 1)))
     ∙ (element_held c.in_ok-n.n (to_z w64 (of_z w64 c.in_ok-n.n)) (length (the_text (value_in (extent_of c.args.w.now.heap) c.args.val))) c.text_length.result
@@ -80,10 +80,10 @@ returns-in-Some-clause-row g c = λ outside.
 pub returns-in-None-clause-row : goal.returns-in-None-clause-row
 returns-in-None-clause-row g c = λ outside.
     c.in_ok-n.ensures.found (setting_of outside c.args.w.now (g.L.Locals.items c.args.l.now)) (λ n.
-    costs_text (value_in (extent_of c.args.w.now.heap) c.args.val) (element_place n (length (the_text (value_in (extent_of c.args.w.now.heap) c.args.val)))
+    costs_text (value_in (extent_of c.args.w.now.heap) c.args.val) (element_position n (length (the_text (value_in (extent_of c.args.w.now.heap) c.args.val)))
     (λ place. gives (part_item (text_variable (item_in (extent_of c.args.w.now.heap) c.args.x) (value_in (extent_of c.args.w.now.heap) c.args.val))
     (the_text (value_in (extent_of c.args.w.now.heap) c.args.val)) place 1))))
-    ∙ (c.in_ok-text.ensures.step outside (element_place c.in_ok-n.n (length (the_text (value_in (extent_of c.args.w.now.heap) c.args.val)))
+    ∙ (c.in_ok-text.ensures.step outside (element_position c.in_ok-n.n (length (the_text (value_in (extent_of c.args.w.now.heap) c.args.val)))
     (λ place. gives (part_item (text_variable (item_in (extent_of c.args.w.now.heap) c.args.x) (value_in (extent_of c.args.w.now.heap) c.args.val))
     (the_text (value_in (extent_of c.args.w.now.heap) c.args.val)) place 1)))
     ∙ element_held c.in_ok-n.n (to_z w64 (of_z w64 c.in_ok-n.n)) (length (the_text (value_in (extent_of c.args.w.now.heap) c.args.val))) c.text_length.result

@@ -5,6 +5,7 @@ use Rattle.icn_heap.specs.Heaps.{extent_of}
 use Rattle.icn_vars.specs.Outcomes.{mover_of}
 use Rattle.icn_vars.specs.Worlds.{reach_of, setting_of, variable_in}
 use Rattle.icn_args.proofs.RowAnswers.{row_stops_at, stop_lives}
+use Rattle.icn_ops.proofs.UndoMemory.{no_want}
 use Rattle.icn_ops.proofs.variables.undo_exchange_again.Goals as goal
 
 pub returns-in_err-undo_exchange-clause-row : goal.returns-in_err-undo_exchange-clause-row
@@ -21,3 +22,7 @@ returns-in_err-undo_exchange-clause-live g c = stop_lives (reach_of c.undo_excha
 
 pub returns-clause-row : goal.returns-clause-row
 returns-clause-row g c = λ outside. c.in_ok-undo_exchange.ensures.undone outside fails
+
+pub returns-in_err-undo_exchange-clause-memory : goal.returns-in_err-undo_exchange-clause-memory
+returns-in_err-undo_exchange-clause-memory g c = λ neither one two.
+    no_want c.in_err-undo_exchange.field-0.0 c.from_residual.result (c.in_err-undo_exchange.ensures.memory neither one two) c.from_residual.ensures.1

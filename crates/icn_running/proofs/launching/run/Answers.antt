@@ -9,7 +9,8 @@ use Rattle.icn_run.specs.Step.{all_names, first_store}
 use Rattle.icn_streams.specs.Handed.{call_streams}
 use Rattle.icn_machine.specs.Starting.{StartsAs, launch_with}
 use Rattle.icn_running.proofs.RisenCounts.{unbegun_counts}
-use Rattle.icn_running.proofs.RunAnswers.{run_breaks, run_ends, run_reports, unbegun_answers}
+use Rattle.icn_running.proofs.ReportedRuns.{unbegun_reports}
+use Rattle.icn_running.proofs.RunAnswers.{run_breaks, run_ends, unbegun_answers}
 use Rattle.icn_running.proofs.Starts.{start_lasts, start_ready}
 use Rattle.icn_running.proofs.EndsAtStart.{start_halts}
 use Rattle.icn_running.proofs.SettledEnds.{both_settled}
@@ -38,8 +39,8 @@ pub returns-in-Ok-clause-ends : goal.returns-in-Ok-clause-ends
 returns-in-Ok-clause-ends g c =
     let launch : List ℕ → Launch = λ left. launch_with c.args.words.now c.args.limits (outside_of left) in
     run_ends (tables_of c.args.code.now.code) launch
-    (call_streams (g.I.Source.left c.args.input.now) (g.I.Source.faults c.args.input.now) (g.O.Sink.state c.args.out.now) (g.E.Sink.state c.args.err.now))
-    (call_streams (g.I.Source.left c.run_started.new.input) (g.I.Source.faults c.run_started.new.input)
+    (call_streams (g.I.Source.left c.args.input.now) (g.I.Source.counts c.args.input.now) (g.O.Sink.state c.args.out.now) (g.E.Sink.state c.args.err.now))
+    (call_streams (g.I.Source.left c.run_started.new.input) (g.I.Source.counts c.run_started.new.input)
     (g.O.Sink.state c.run_started.new.out) (g.E.Sink.state c.run_started.new.err))
     c.run_started.result
     (λ left told. c.run_started.ensures.answers (launch left).words (launch left).bounds left told
@@ -49,8 +50,8 @@ pub returns-in-Ok-clause-breaks : goal.returns-in-Ok-clause-breaks
 returns-in-Ok-clause-breaks g c =
     let launch : List ℕ → Launch = λ left. launch_with c.args.words.now c.args.limits (outside_of left) in
     run_breaks (tables_of c.args.code.now.code) launch
-    (call_streams (g.I.Source.left c.args.input.now) (g.I.Source.faults c.args.input.now) (g.O.Sink.state c.args.out.now) (g.E.Sink.state c.args.err.now))
-    (call_streams (g.I.Source.left c.run_started.new.input) (g.I.Source.faults c.run_started.new.input)
+    (call_streams (g.I.Source.left c.args.input.now) (g.I.Source.counts c.args.input.now) (g.O.Sink.state c.args.out.now) (g.E.Sink.state c.args.err.now))
+    (call_streams (g.I.Source.left c.run_started.new.input) (g.I.Source.counts c.run_started.new.input)
     (g.O.Sink.state c.run_started.new.out) (g.E.Sink.state c.run_started.new.err))
     c.run_started.result
     (λ left told. c.run_started.ensures.answers (launch left).words (launch left).bounds left told
@@ -58,27 +59,21 @@ returns-in-Ok-clause-breaks g c =
 
 pub returns-in-Ok-clause-reported : goal.returns-in-Ok-clause-reported
 returns-in-Ok-clause-reported g c =
-    let launch : List ℕ → Launch = λ left. launch_with c.args.words.now c.args.limits (outside_of left) in
-    run_reports (tables_of c.args.code.now.code) launch
-    (call_streams (g.I.Source.left c.args.input.now) (g.I.Source.faults c.args.input.now) (g.O.Sink.state c.args.out.now) (g.E.Sink.state c.args.err.now))
-    (call_streams (g.I.Source.left c.run_started.new.input) (g.I.Source.faults c.run_started.new.input)
-    (g.O.Sink.state c.run_started.new.out) (g.E.Sink.state c.run_started.new.err))
-    c.run_started.result
-    (λ left told. c.run_started.ensures.answers (launch left).words (launch left).bounds left told
-    (rw c.code.ensures.code at (c.in-Ok.ensures.step (outside_of left))))
+    let launch : Launch = launch_with c.args.words.now c.args.limits (outside_of []) in
+    c.run_started.ensures.reported launch.words launch.bounds [] (rw c.code.ensures.code at (c.in-Ok.ensures.step (outside_of [])))
 
 pub returns-in-Err-clause-ends : goal.returns-in-Err-clause-ends
 returns-in-Err-clause-ends g c =
     let tables : Tables = tables_of c.args.code.now.code in
     let launch : List ℕ → Launch = λ left. launch_with c.args.words.now c.args.limits (outside_of left) in
     run_ends tables launch
-    (call_streams (g.I.Source.left c.args.input.now) (g.I.Source.faults c.args.input.now) (g.O.Sink.state c.args.out.now) (g.E.Sink.state c.args.err.now))
-    (call_streams (g.I.Source.left c.args.input.now) (g.I.Source.faults c.args.input.now) (g.O.Sink.state c.args.out.now)
+    (call_streams (g.I.Source.left c.args.input.now) (g.I.Source.counts c.args.input.now) (g.O.Sink.state c.args.out.now) (g.E.Sink.state c.args.err.now))
+    (call_streams (g.I.Source.left c.args.input.now) (g.I.Source.counts c.args.input.now) (g.O.Sink.state c.args.out.now)
     (g.E.Sink.state c.end_unbegun.new.err))
     c.end_unbegun.result
     (λ left told. let run = (c.runs_hold.ensures tables c.args.code.now.code.rules c.args.code.now.verified (launch left)).ends in
     unbegun_answers g.row.K.Denot tables (launch left).words (launch left).bounds left run.0 c.in-Err.halt c.end_unbegun.result
-    (call_streams (g.I.Source.left c.args.input.now) (g.I.Source.faults c.args.input.now) (g.O.Sink.state c.args.out.now) (g.E.Sink.state c.args.err.now))
+    (call_streams (g.I.Source.left c.args.input.now) (g.I.Source.counts c.args.input.now) (g.O.Sink.state c.args.out.now) (g.E.Sink.state c.args.err.now))
     (g.E.Sink.state c.end_unbegun.new.err) run.1 told
     (subst (λ (code : Code). StartsAs {K = g.row.K.Denot} (tables_of code) (launch left) (Err c.in-Err.halt)) c.code.ensures.code
     (c.in-Err.ensures.step (outside_of left)))
@@ -89,13 +84,13 @@ returns-in-Err-clause-breaks g c =
     let tables : Tables = tables_of c.args.code.now.code in
     let launch : List ℕ → Launch = λ left. launch_with c.args.words.now c.args.limits (outside_of left) in
     run_breaks tables launch
-    (call_streams (g.I.Source.left c.args.input.now) (g.I.Source.faults c.args.input.now) (g.O.Sink.state c.args.out.now) (g.E.Sink.state c.args.err.now))
-    (call_streams (g.I.Source.left c.args.input.now) (g.I.Source.faults c.args.input.now) (g.O.Sink.state c.args.out.now)
+    (call_streams (g.I.Source.left c.args.input.now) (g.I.Source.counts c.args.input.now) (g.O.Sink.state c.args.out.now) (g.E.Sink.state c.args.err.now))
+    (call_streams (g.I.Source.left c.args.input.now) (g.I.Source.counts c.args.input.now) (g.O.Sink.state c.args.out.now)
     (g.E.Sink.state c.end_unbegun.new.err))
     c.end_unbegun.result
     (λ left told. let run = (c.runs_hold.ensures tables c.args.code.now.code.rules c.args.code.now.verified (launch left)).ends in
     unbegun_answers g.row.K.Denot tables (launch left).words (launch left).bounds left run.0 c.in-Err.halt c.end_unbegun.result
-    (call_streams (g.I.Source.left c.args.input.now) (g.I.Source.faults c.args.input.now) (g.O.Sink.state c.args.out.now) (g.E.Sink.state c.args.err.now))
+    (call_streams (g.I.Source.left c.args.input.now) (g.I.Source.counts c.args.input.now) (g.O.Sink.state c.args.out.now) (g.E.Sink.state c.args.err.now))
     (g.E.Sink.state c.end_unbegun.new.err) run.1 told
     (subst (λ (code : Code). StartsAs {K = g.row.K.Denot} (tables_of code) (launch left) (Err c.in-Err.halt)) c.code.ensures.code
     (c.in-Err.ensures.step (outside_of left)))
@@ -104,27 +99,22 @@ returns-in-Err-clause-breaks g c =
 pub returns-in-Err-clause-reported : goal.returns-in-Err-clause-reported
 returns-in-Err-clause-reported g c =
     let tables : Tables = tables_of c.args.code.now.code in
-    let launch : List ℕ → Launch = λ left. launch_with c.args.words.now c.args.limits (outside_of left) in
-    run_reports tables launch
-    (call_streams (g.I.Source.left c.args.input.now) (g.I.Source.faults c.args.input.now) (g.O.Sink.state c.args.out.now) (g.E.Sink.state c.args.err.now))
-    (call_streams (g.I.Source.left c.args.input.now) (g.I.Source.faults c.args.input.now) (g.O.Sink.state c.args.out.now)
-    (g.E.Sink.state c.end_unbegun.new.err))
-    c.end_unbegun.result
-    (λ left told. let run = (c.runs_hold.ensures tables c.args.code.now.code.rules c.args.code.now.verified (launch left)).ends in
-    unbegun_answers g.row.K.Denot tables (launch left).words (launch left).bounds left run.0 c.in-Err.halt c.end_unbegun.result
-    (call_streams (g.I.Source.left c.args.input.now) (g.I.Source.faults c.args.input.now) (g.O.Sink.state c.args.out.now) (g.E.Sink.state c.args.err.now))
-    (g.E.Sink.state c.end_unbegun.new.err) run.1 told
-    (subst (λ (code : Code). StartsAs {K = g.row.K.Denot} (tables_of code) (launch left) (Err c.in-Err.halt)) c.code.ensures.code
-    (c.in-Err.ensures.step (outside_of left)))
-    (rw c.code-in-Err.ensures.code at (c.end_unbegun.ensures.answers (first_store {K = Frames} tables (launch left)).world.heap)))
+    let launch : Launch = launch_with c.args.words.now c.args.limits (outside_of []) in
+    unbegun_reports g.row.K.Denot tables launch.words launch.bounds [] c.in-Err.halt c.end_unbegun.result
+    (call_streams (g.I.Source.left c.args.input.now) (g.I.Source.counts c.args.input.now) (g.O.Sink.state c.args.out.now) (g.E.Sink.state c.args.err.now))
+    (g.E.Sink.state c.end_unbegun.new.err)
+    (subst (λ (code : Code). StartsAs {K = g.row.K.Denot} (tables_of code) launch (Err c.in-Err.halt)) c.code.ensures.code
+    (c.in-Err.ensures.step (outside_of [])))
+    (rw c.code-in-Err.ensures.code at (c.end_unbegun.ensures.answers (first_store {K = Frames} tables launch).world.heap))
 
 pub returns-in-Err-clause-first_fault : goal.returns-in-Err-clause-first_fault
 returns-in-Err-clause-first_fault g c =
     let tables : Tables = tables_of c.args.code.now.code in
     let launch : Launch = launch_with c.args.words.now c.args.limits (outside_of []) in
     unbegun_counts (all_names tables) (first_store {K = Frames} tables launch).world.heap c.in-Err.halt c.end_unbegun.result
-    (call_streams (g.I.Source.left c.args.input.now) (g.I.Source.faults c.args.input.now) (g.O.Sink.state c.args.out.now) (g.E.Sink.state c.args.err.now))
-    (g.E.Sink.state c.end_unbegun.new.err) (rw c.code-in-Err.ensures.code at (c.end_unbegun.ensures.answers (first_store {K = Frames} tables launch).world.heap))
+    (call_streams (g.I.Source.left c.args.input.now) (g.I.Source.counts c.args.input.now) (g.O.Sink.state c.args.out.now) (g.E.Sink.state c.args.err.now))
+    (g.E.Sink.state c.end_unbegun.new.err) (rw c.code-in-Err.ensures.code at (c.end_unbegun.ensures.answers (first_store {K = Frames} tables
+    launch).world.heap))
 
 pub returns-in-Err-clause-settled : goal.returns-in-Err-clause-settled
 returns-in-Err-clause-settled g c = λ output errors. both_settled _ _ c.end_unbegun.result output (c.end_unbegun.ensures.settled errors)

@@ -3,6 +3,7 @@ use Rattle.icn_code.specs.CodeTables.{tables_of}
 use Rattle.icn_machine.specs.declared.stepping.AfterStep.{AfterStep}
 use Rattle.icn_machine.specs.Stepping.{IsReady, advances, stays}
 use Rattle.icn_machine.specs.AfterInstruction.{stage_of}
+use Rattle.icn_machine.proofs.AdvanceSteps.{advances_any}
 use Rattle.icn_machine.proofs.LoopSteps.{if_err_known, failing_left, if_ok_of_error}
 use Rattle.icn_running.specs.WorkLeft.{left_now}
 use Rattle.icn_running.specs.DueInstructions.{is_within}
@@ -29,7 +30,7 @@ returns-in_err-stepped-clause-steps g c =
     let on = within_is c.loop-stepped.stepped c.loop-stepped.m.turns c.args.m.now.turns (sym c.is_within.ensures ∙ c.loop-stepped-test.true) in
     run_err (tables_of c.args.code.now.code) c.args.m.now _ c.loop-stepped.m c.loop-stepped.stepped _ c.step.new.m _ c.in_err-stepped.field-0.0
     c.from_residual.result on.0 c.loop-stepped.invariant.steps
-    (advances c.in_err-stepped.ensures.steps) c.from_residual.ensures.1
+    (advances (advances_any c.in_err-stepped.ensures.steps)) c.from_residual.ensures.1
 
 pub returns-in_err-stepped-clause-ready : goal.returns-in_err-stepped-clause-ready
 returns-in_err-stepped-clause-ready g c = if_ok_of_error c.from_residual.result _ _ c.from_residual.ensures.1
@@ -56,7 +57,7 @@ loop-stepped-smaller g c =
     < failing_left b (left_now tables c.loop-stepped.m))
     (sym test)
     (left_falls tables c.loop-stepped.m _ c.step.new.m _ (c.loop-stepped.invariant.lasts (on_true c.loop-stepped.stepped on.0))
-    c.in_ok-stepped.stepped c.args.m.now.turns on.1 c.in_ok-stepped.ensures.steps)
+    c.in_ok-stepped.stepped c.args.m.now.turns on.1 (advances_any c.in_ok-stepped.ensures.steps))
 
 pub loop-stepped-preserved : goal.loop-stepped-preserved
 loop-stepped-preserved g c =
@@ -65,14 +66,14 @@ loop-stepped-preserved g c =
     record {
       steps =
           run_ok tables c.args.m.now _ c.loop-stepped.m c.loop-stepped.stepped c.in_ok-stepped.stepped _ c.step.new.m _ on.0 c.loop-stepped.invariant.steps
-          (advances c.in_ok-stepped.ensures.steps);
+          (advances (advances_any c.in_ok-stepped.ensures.steps));
       ready = c.in_ok-stepped.ensures.ready;
       lasts =
           lasts_next tables c.loop-stepped.m _ c.step.new.m _ (c.loop-stepped.invariant.lasts (on_true c.loop-stepped.stepped on.0)) c.in_ok-stepped.stepped
-          c.in_ok-stepped.ensures.within.limits c.in_ok-stepped.ensures.steps;
+          c.in_ok-stepped.ensures.within.limits (advances_any c.in_ok-stepped.ensures.steps);
       turn =
           turn_next tables c.loop-stepped.m _ c.step.new.m _ (c.loop-stepped.invariant.lasts (on_true c.loop-stepped.stepped on.0)) c.args.m.now
-          c.in_ok-stepped.stepped on.1 c.loop-stepped.invariant.limits c.in_ok-stepped.ensures.steps;
+          c.in_ok-stepped.stepped on.1 c.loop-stepped.invariant.limits (advances_any c.in_ok-stepped.ensures.steps);
       limits = c.in_ok-stepped.ensures.within.limits ∙ c.loop-stepped.invariant.limits;
       turns = refl;
     }

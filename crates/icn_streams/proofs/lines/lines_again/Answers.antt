@@ -8,20 +8,20 @@ use Rattle.icn_streams.proofs.lines.lines_again.Goals as goal
 pub returns-in_err-settle-clause-row : goal.returns-in_err-settle-clause-row
 returns-in_err-settle-clause-row g c =
     settling_stops lines_again lines_quiet c.args.w.now (g.L.Locals.items c.args.l.now)
-    (call_streams (g.I.Source.left c.args.input.now) (g.I.Source.faults c.args.input.now) (g.O.Sink.state c.args.out.now) (g.E.Sink.state c.args.err.now))
-    (call_streams (g.I.Source.left c.args.input.now) (g.I.Source.faults c.args.input.now) (g.O.Sink.state c.settle.new.out) (g.E.Sink.state c.settle.new.err))
+    (call_streams (g.I.Source.left c.args.input.now) (g.I.Source.counts c.args.input.now) (g.O.Sink.state c.args.out.now) (g.E.Sink.state c.args.err.now))
+    (call_streams (g.I.Source.left c.args.input.now) (g.I.Source.counts c.args.input.now) (g.O.Sink.state c.settle.new.out) (g.E.Sink.state c.settle.new.err))
     c.in_err-settle.field-0.0 c.from_residual.result c.from_residual.ensures.1 (c.in_err-settle.ensures.settles _ _) c.requires
 
 pub returns-clause-row : goal.returns-clause-row
 returns-clause-row g c =
     behind_settling lines_again c.args.w.now (g.L.Locals.items c.args.l.now)
-    (call_streams (g.I.Source.left c.args.input.now) (g.I.Source.faults c.args.input.now) (g.O.Sink.state c.args.out.now) (g.E.Sink.state c.args.err.now))
-    (call_streams (g.I.Source.left c.args.input.now) (g.I.Source.faults c.args.input.now) (g.O.Sink.state c.settle.new.out) (g.E.Sink.state c.settle.new.err))
+    (call_streams (g.I.Source.left c.args.input.now) (g.I.Source.counts c.args.input.now) (g.O.Sink.state c.args.out.now) (g.E.Sink.state c.args.err.now))
+    (call_streams (g.I.Source.left c.args.input.now) (g.I.Source.counts c.args.input.now) (g.O.Sink.state c.settle.new.out) (g.E.Sink.state c.settle.new.err))
     (call_state c.next_line.new.w (g.L.Locals.items c.args.l.now) (call_streams (g.I.Source.left c.next_line.new.input)
-    (g.I.Source.faults c.next_line.new.input) (g.O.Sink.state c.settle.new.out) (g.E.Sink.state c.settle.new.err)))
+    (g.I.Source.counts c.next_line.new.input) (g.O.Sink.state c.settle.new.out) (g.E.Sink.state c.settle.new.err)))
     c.next_line.result (c.in_ok-settle.ensures.settles _ _) (c.next_line.ensures _ _)
 
 pub returns-in_err-settle-clause-settled : goal.returns-in_err-settle-clause-settled
 returns-in_err-settle-clause-settled g c =
     unsettled_stops _ _ c.in_err-settle.field-0.0 c.from_residual.result (g.O.Sink.pending c.settle.new.out) (g.E.Sink.pending c.settle.new.err)
-    c.from_residual.ensures.1 (c.in_err-settle.ensures.settles (g.I.Source.left c.args.input.now) (g.I.Source.faults c.args.input.now))
+    c.from_residual.ensures.1 (c.in_err-settle.ensures.settles (g.I.Source.left c.args.input.now) (g.I.Source.counts c.args.input.now))

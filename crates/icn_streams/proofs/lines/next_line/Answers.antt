@@ -17,8 +17,8 @@ pub returns-in_err-line : goal.returns-in_err-line
 returns-in_err-line g c = λ output errors.
     read_halts ALine (λ line. suspends (Val (Text line)) InputLines) (record { outside = λ text s. refl }) c.args.w.now c.read_text.new.w
     (g.L.Locals.items c.args.l.now)
-    (g.I.Source.left c.args.input.now) (g.I.Source.left c.read_text.new.input) (g.I.Source.faults c.args.input.now)
-    (g.I.Source.faults c.read_text.new.input) output errors
+    (g.I.Source.left c.args.input.now) (g.I.Source.left c.read_text.new.input) (g.I.Source.counts c.args.input.now)
+    (g.I.Source.counts c.read_text.new.input) c.read_text.ensures.called output errors
     c.in_err-line.field-0.0 c.from_residual.result c.from_residual.ensures.1 (λ was told. c.in_err-line.ensures.reads was output errors told)
     (c.in_err-line.ensures.some output errors) c.in_err-line.ensures.cause
     c.in_err-line.ensures.halts c.read_text.ensures.locals c.read_text.ensures.kept
@@ -29,8 +29,8 @@ returns-in-Some g c = λ output errors.
     (IsText (extent_of c.read_text.new.w.heap)) c.in-Some.is c.in_ok-line.ensures.live in
     read_gives ALine (λ line. suspends (Val (Text line)) InputLines) (record { outside = λ text s. refl }) c.args.w.now c.read_text.new.w
     (g.L.Locals.items c.args.l.now)
-    (g.I.Source.left c.args.input.now) (g.I.Source.left c.read_text.new.input) (g.I.Source.faults c.args.input.now)
-    (g.I.Source.faults c.read_text.new.input) output errors
+    (g.I.Source.left c.args.input.now) (g.I.Source.left c.read_text.new.input) (g.I.Source.counts c.args.input.now)
+    (g.I.Source.counts c.read_text.new.input) c.read_text.ensures.called output errors
     c.in_ok-line.field-0 c.in-Some.line (Suspends (HeldVal (HeldText c.in-Some.line)) HeldInputLines) c.in-Some.is (λ s. refl)
     (λ was told. c.in_ok-line.ensures.reads was output errors told) (c.in_ok-line.ensures.some output errors)
     c.in_ok-line.ensures.cause
@@ -40,7 +40,7 @@ pub returns-in-None : goal.returns-in-None
 returns-in-None g c = λ output errors.
     read_fails ALine (λ line. suspends (Val (Text line)) InputLines) (record { outside = λ text s. refl }) c.args.w.now c.read_text.new.w
     (g.L.Locals.items c.args.l.now)
-    (g.I.Source.left c.args.input.now) (g.I.Source.left c.read_text.new.input) (g.I.Source.faults c.args.input.now)
-    (g.I.Source.faults c.read_text.new.input) output errors
+    (g.I.Source.left c.args.input.now) (g.I.Source.left c.read_text.new.input) (g.I.Source.counts c.args.input.now)
+    (g.I.Source.counts c.read_text.new.input) c.read_text.ensures.called output errors
     c.in_ok-line.field-0 c.in-None.is (λ was told. c.in_ok-line.ensures.reads was output errors told)
     (c.in_ok-line.ensures.some output errors) c.in_ok-line.ensures.cause c.read_text.ensures.locals c.read_text.ensures.kept

@@ -1,16 +1,15 @@
-use Rattle.std.proofs.Common.{List, ℕ, arith}
-use Rattle.icn_strfn.proofs.TooLong.{length-laid_out, too_long}
+use Rattle.std.proofs.Common.{List, ℕ}
 use Rattle.std.proofs.Common.{◌∙◌, sym, ap, subst, [], ◌∷◌, map}
 use Rattle.icn_value.specs.Values.{Value}
 use Rattle.icn_defs.specs.Rows.{builds, costs_texts}
 use Rattle.icn_defs.specs.Strings.{field_row}
-use Rattle.icn_heap.specs.Extents.{value_in}
+use Rattle.icn_heap.specs.Extents.{text_in, value_in}
 use Rattle.icn_heap.specs.Heaps.{extent_of}
 use Rattle.icn_vars.proofs.KeptItems.{keeps_items_trans}
 use Rattle.icn_vars.specs.Worlds.{setting_of}
 use Rattle.icn_args.specs.RowWords.{HasText, the_text}
 use Rattle.icn_strfn.specs.Layouts.{laid_out}
-use Rattle.icn_strfn.specs.TextArguments.{or_default}
+use Rattle.icn_strfn.specs.TextArguments.{argument_bytes, or_default}
 use Rattle.icn_strfn.specs.declared.text_arguments.DefaultText.TheVariants.{Blank}
 use Rattle.icn_strfn.proofs.RowAnswers.{row_goes_on, row_stops_at, stops_so}
 use Rattle.icn_strfn.proofs.CheckedRows as steps
@@ -45,37 +44,22 @@ returns-in_err-span-clause-row g c = λ outside.
 
 pub returns-clause-row : goal.returns-clause-row
 returns-clause-row g c = λ outside.
-    row_goes_on (extent_of c.build_text.new.w.heap) (field_row (laid_out c.args.layout) (map (value_in (extent_of c.args.w.now.heap)) c.args.args.now))
-    (builds c.deref.result.now) (setting_of outside c.args.w.now (g.L.Locals.items c.args.l.now))
-    (setting_of outside c.two_texts.new.w (g.L.Locals.items c.args.l.now))
-    (setting_of outside c.build_text.new.w (g.L.Locals.items c.args.l.now)) c.build_text.result
+    row_goes_on (extent_of c.build_laid_out.new.w.heap) (field_row (laid_out c.args.layout) (map (value_in (extent_of c.args.w.now.heap)) c.args.args.now))
+    (builds (laid_out c.args.layout (text_in (extent_of c.two_texts.new.w.heap) c.in_ok-span.span) c.in_ok-width.width
+    (argument_bytes (extent_of c.two_texts.new.w.heap) c.in_ok-span.fill)))
+    (setting_of outside c.args.w.now (g.L.Locals.items c.args.l.now)) (setting_of outside c.two_texts.new.w (g.L.Locals.items c.args.l.now))
+    (setting_of outside c.build_laid_out.new.w (g.L.Locals.items c.args.l.now)) c.build_laid_out.result
     (steps.field_left (map (value_in (extent_of c.args.w.now.heap)) c.args.args.now) (value_in (extent_of c.args.w.now.heap) c.arg-val.result)
     (value_in (extent_of c.args.w.now.heap) c.arg-other.result) (laid_out c.args.layout) c.in_ok-width.width
     (setting_of outside c.args.w.now (g.L.Locals.items c.args.l.now))
     (c.arg-val.ensures.value (extent_of c.args.w.now.heap)) (c.arg-other.ensures.value (extent_of c.args.w.now.heap)) c.in_ok-width.ensures.field
     ∙ (c.in_ok-span.ensures.step outside (builds (laid_out c.args.layout (the_text (value_in (extent_of c.args.w.now.heap) c.arg-val.result))
     c.in_ok-width.width (the_text (or_default Blank (value_in (extent_of c.args.w.now.heap) c.arg-other.result)))))
-    ∙ ap (λ bytes. builds bytes (setting_of outside c.two_texts.new.w (g.L.Locals.items c.args.l.now)))
-    (ap (λ bytes. laid_out c.args.layout bytes c.in_ok-width.width (the_text (or_default Blank (value_in (extent_of c.args.w.now.heap) c.arg-other.result))))
-    (sym c.in_ok-span.ensures.first_text ∙ sym c.bytes.ensures)
-    ∙ (ap (laid_out c.args.layout c.bytes.result.now c.in_ok-width.width) (sym c.in_ok-span.ensures.second_text ∙ sym c.bytes-2.ensures)
-    ∙ (sym c.in_ok-made.ensures ∙ sym c.deref.ensures.value)))))
-    (c.build_text.ensures.row outside)
+    ∙ ap (λ (bytes : List ℕ). builds bytes (setting_of outside c.two_texts.new.w (g.L.Locals.items c.args.l.now)))
+    (ap (λ (bytes : List ℕ). laid_out c.args.layout bytes c.in_ok-width.width (the_text (or_default Blank
+    (value_in (extent_of c.args.w.now.heap) c.arg-other.result)))) (sym c.in_ok-span.ensures.first_text)
+    ∙ ap (laid_out c.args.layout (text_in (extent_of c.two_texts.new.w.heap) c.in_ok-span.span) c.in_ok-width.width) (sym c.in_ok-span.ensures.second_text))))
+    (c.build_laid_out.ensures.row outside)
 
 pub returns-clause-kept : goal.returns-clause-kept
-returns-clause-kept g c = keeps_items_trans _ _ _ c.two_texts.ensures.kept c.build_text.ensures.kept
-
-pub returns-then-lacks_room-clause-row : goal.returns-then-lacks_room-clause-row
-returns-then-lacks_room-clause-row g c = λ outside.
-    let made : List ℕ = laid_out c.args.layout (the_text (value_in (extent_of c.args.w.now.heap) c.arg-val.result)) c.in_ok-width.width
-    (the_text (or_default Blank (value_in (extent_of c.args.w.now.heap) c.arg-other.result))) in
-    steps.field_left (map (value_in (extent_of c.args.w.now.heap)) c.args.args.now) (value_in (extent_of c.args.w.now.heap) c.arg-val.result)
-    (value_in (extent_of c.args.w.now.heap) c.arg-other.result) (laid_out c.args.layout) c.in_ok-width.width
-    (setting_of outside c.args.w.now (g.L.Locals.items c.args.l.now)) (c.arg-val.ensures.value (extent_of c.args.w.now.heap))
-    (c.arg-other.ensures.value (extent_of c.args.w.now.heap)) c.in_ok-width.ensures.field ∙ (c.in_ok-span.ensures.step outside (builds made)
-    ∙ too_long made (setting_of outside c.two_texts.new.w (g.L.Locals.items c.args.l.now)) (omega (
-      arith,
-      c.if-lacks_room.ensures,
-      length-laid_out c.args.layout (the_text (value_in (extent_of c.args.w.now.heap) c.arg-val.result))
-          (the_text (or_default Blank (value_in (extent_of c.args.w.now.heap) c.arg-other.result))) c.in_ok-width.width,
-    )))
+returns-clause-kept g c = keeps_items_trans _ _ _ c.two_texts.ensures.kept c.build_laid_out.ensures.kept

@@ -1,18 +1,16 @@
-use Rattle.std.proofs.lemmas.List.{length-map}
-use Rattle.std.proofs.Common.{◌≡◌, arith, length, ◌∙◌, sym, ap, subst, List, ℕ, [], ◌∷◌, map}
+use Rattle.std.proofs.Common.{◌∙◌, sym, ap, subst, List, ℕ, [], ◌∷◌, map}
 use Rattle.icn_value.specs.Values.{Value}
 use Rattle.icn_defs.specs.Rows.{builds, costs_text, costs_texts}
 use Rattle.icn_defs.specs.Strings.{map_row, map_byte}
-use Rattle.icn_heap.specs.Extents.{value_in}
+use Rattle.icn_heap.specs.Extents.{text_in, value_in}
 use Rattle.icn_heap.specs.Heaps.{extent_of}
 use Rattle.icn_vars.proofs.KeptItems.{keeps_items_trans}
 use Rattle.icn_vars.specs.Worlds.{setting_of}
 use Rattle.icn_args.specs.RowWords.{HasText, the_text}
-use Rattle.icn_strfn.specs.TextArguments.{or_default}
+use Rattle.icn_strfn.specs.TextArguments.{argument_bytes, or_default}
 use Rattle.icn_strfn.specs.declared.text_arguments.DefaultText.TheVariants.{Upper, Lower}
 use Rattle.icn_strfn.proofs.RowAnswers.{row_goes_on, row_stops_at, stops_so}
 use Rattle.icn_strfn.proofs.KeptArguments.{argument_stays, same_argument}
-use Rattle.icn_strfn.proofs.TooLong.{too_long}
 use Rattle.icn_strfn.proofs.CheckedRows as steps
 use Rattle.icn_strfn.proofs.laid_rows.map_row.Goals as goal
 
@@ -75,75 +73,46 @@ returns-in_err-second-clause-row g c = λ outside.
     (sym (c.two_texts.ensures.kept.extent.value c.arg-to.result (c.arg-to.ensures.live (extent_of c.args.w.now.heap) c.requires.args))))
     c.from_residual-in_err-second.ensures.1 (c.in_err-second.ensures.step outside)
 
-pub bytes-requires : goal.bytes-requires
-bytes-requires g c = c.text_argument.ensures.kept.extent.text c.in_ok-span.span c.in_ok-span.ensures.first_live
+pub build_mapped-requires-clause-text : goal.build_mapped-requires-clause-text
+build_mapped-requires-clause-text g c = c.text_argument.ensures.kept.extent.text c.in_ok-span.span c.in_ok-span.ensures.first_live
 
-pub bytes-requires-2 : goal.bytes-requires-2
-bytes-requires-2 g c = c.text_argument.ensures.kept.extent.text c.in_ok-span.span c.in_ok-span.ensures.first_live
-
-pub bytes-requires-3 : goal.bytes-requires-3
-bytes-requires-3 g c = argument_stays _ _ c.text_argument.ensures.kept.extent c.in_ok-span.first c.in_ok-span.ensures.second_live
-
-pub returns-then-lacks_room-clause-row : goal.returns-then-lacks_room-clause-row
-returns-then-lacks_room-clause-row g c = λ outside.
-    let text : List ℕ = the_text (value_in (extent_of c.args.w.now.heap) c.arg-val.result) in
-    let same : length c.bytes.result.now ≡ length text = ap length (c.bytes.ensures
-    ∙ (c.text_argument.ensures.kept.extent.bytes c.in_ok-span.span c.in_ok-span.ensures.first_live ∙ c.in_ok-span.ensures.first_text)) in
-    (((steps.map_left (map (value_in (extent_of c.args.w.now.heap)) c.args.args.now) (value_in (extent_of c.args.w.now.heap) c.arg-val.result)
-    (value_in (extent_of c.args.w.now.heap) c.arg-from.result) (value_in (extent_of c.args.w.now.heap) c.arg-to.result)
-    (setting_of outside c.args.w.now (g.L.Locals.items c.args.l.now)) (c.arg-val.ensures.value (extent_of c.args.w.now.heap))
-    (c.arg-from.ensures.value (extent_of c.args.w.now.heap)) (c.arg-to.ensures.value (extent_of c.args.w.now.heap)) c.in_ok-checked_mapping.ensures.mapping)
-    ∙ c.in_ok-span.ensures.step outside (costs_text (value_in (extent_of c.args.w.now.heap) c.arg-to.result)
-    (builds (map (map_byte (the_text (or_default Upper (value_in (extent_of c.args.w.now.heap) c.arg-from.result))) (the_text (or_default Lower
-    (value_in (extent_of c.args.w.now.heap) c.arg-to.result)))) (the_text (value_in (extent_of c.args.w.now.heap) c.arg-val.result))))))
-    ∙ ap (λ (v : Value). costs_text v (builds (map (map_byte (the_text (or_default Upper (value_in (extent_of c.args.w.now.heap) c.arg-from.result)))
-    (the_text (or_default Lower (value_in (extent_of c.args.w.now.heap) c.arg-to.result))))
-    (the_text (value_in (extent_of c.args.w.now.heap) c.arg-val.result)))) (setting_of outside c.two_texts.new.w (g.L.Locals.items c.args.l.now)))
-    (sym (c.two_texts.ensures.kept.extent.value c.arg-to.result (c.arg-to.ensures.live (extent_of c.args.w.now.heap) c.requires.args))))
-    ∙ (c.in_ok-second.ensures.step outside (builds (map (map_byte (the_text (or_default Upper (value_in (extent_of c.args.w.now.heap) c.arg-from.result)))
-    (the_text (or_default Lower (value_in (extent_of c.args.w.now.heap) c.arg-to.result))))
-    (the_text (value_in (extent_of c.args.w.now.heap) c.arg-val.result))))
-    ∙ too_long (map (map_byte (the_text (or_default Upper (value_in (extent_of c.args.w.now.heap) c.arg-from.result)))
-    (the_text (or_default Lower (value_in (extent_of c.args.w.now.heap) c.arg-to.result))))
-    (the_text (value_in (extent_of c.args.w.now.heap) c.arg-val.result))) (setting_of outside c.text_argument.new.w (g.L.Locals.items c.args.l.now)) (omega (
-      arith,
-      c.if-lacks_room.ensures,
-      same,
-      length-map text (map_byte (the_text (or_default Upper (value_in (extent_of c.args.w.now.heap) c.arg-from.result)))
-          (the_text (or_default Lower (value_in (extent_of c.args.w.now.heap) c.arg-to.result)))),
-    )))
+pub build_mapped-requires-clause-from : goal.build_mapped-requires-clause-from
+build_mapped-requires-clause-from g c = argument_stays _ _ c.text_argument.ensures.kept.extent c.in_ok-span.first c.in_ok-span.ensures.second_live
 
 pub returns-clause-row : goal.returns-clause-row
 returns-clause-row g c = λ outside.
-    row_goes_on (extent_of c.build_text.new.w.heap) (map_row (map (value_in (extent_of c.args.w.now.heap)) c.args.args.now)) (builds c.deref.result.now)
+    row_goes_on (extent_of c.build_mapped.new.w.heap) (map_row (map (value_in (extent_of c.args.w.now.heap)) c.args.args.now))
+    (builds (map (map_byte (argument_bytes (extent_of c.text_argument.new.w.heap) c.in_ok-span.first) (argument_bytes (extent_of c.text_argument.new.w.heap)
+    c.in_ok-second.second)) (text_in (extent_of c.text_argument.new.w.heap) c.in_ok-span.span)))
     (setting_of outside c.args.w.now (g.L.Locals.items c.args.l.now)) (setting_of outside c.text_argument.new.w (g.L.Locals.items c.args.l.now))
-    (setting_of outside c.build_text.new.w (g.L.Locals.items c.args.l.now)) c.build_text.result
+    (setting_of outside c.build_mapped.new.w (g.L.Locals.items c.args.l.now)) c.build_mapped.result
     ((((steps.map_left (map (value_in (extent_of c.args.w.now.heap)) c.args.args.now) (value_in (extent_of c.args.w.now.heap) c.arg-val.result)
     (value_in (extent_of c.args.w.now.heap) c.arg-from.result) (value_in (extent_of c.args.w.now.heap) c.arg-to.result)
     (setting_of outside c.args.w.now (g.L.Locals.items c.args.l.now)) (c.arg-val.ensures.value (extent_of c.args.w.now.heap))
     (c.arg-from.ensures.value (extent_of c.args.w.now.heap)) (c.arg-to.ensures.value (extent_of c.args.w.now.heap)) c.in_ok-checked_mapping.ensures.mapping)
     ∙ c.in_ok-span.ensures.step outside (costs_text (value_in (extent_of c.args.w.now.heap) c.arg-to.result)
-    (builds (map (map_byte (the_text (or_default Upper (value_in (extent_of c.args.w.now.heap) c.arg-from.result))) (the_text (or_default Lower
-    (value_in (extent_of c.args.w.now.heap) c.arg-to.result)))) (the_text (value_in (extent_of c.args.w.now.heap) c.arg-val.result))))))
+    (builds (map (map_byte (the_text (or_default Upper (value_in (extent_of c.args.w.now.heap) c.arg-from.result))) (the_text (or_default Lower (value_in
+    (extent_of c.args.w.now.heap) c.arg-to.result)))) (the_text (value_in (extent_of c.args.w.now.heap) c.arg-val.result))))))
     ∙ ap (λ (v : Value). costs_text v (builds (map (map_byte (the_text (or_default Upper (value_in (extent_of c.args.w.now.heap) c.arg-from.result)))
-    (the_text (or_default Lower (value_in (extent_of c.args.w.now.heap) c.arg-to.result))))
-    (the_text (value_in (extent_of c.args.w.now.heap) c.arg-val.result)))) (setting_of outside c.two_texts.new.w (g.L.Locals.items c.args.l.now)))
+    (the_text (or_default Lower (value_in (extent_of c.args.w.now.heap) c.arg-to.result)))) (the_text (value_in (extent_of c.args.w.now.heap)
+    c.arg-val.result)))) (setting_of outside c.two_texts.new.w (g.L.Locals.items c.args.l.now)))
     (sym (c.two_texts.ensures.kept.extent.value c.arg-to.result (c.arg-to.ensures.live (extent_of c.args.w.now.heap) c.requires.args))))
     ∙ (c.in_ok-second.ensures.step outside (builds (map (map_byte (the_text (or_default Upper (value_in (extent_of c.args.w.now.heap) c.arg-from.result)))
-    (the_text (or_default Lower (value_in (extent_of c.args.w.now.heap) c.arg-to.result))))
-    (the_text (value_in (extent_of c.args.w.now.heap) c.arg-val.result))))
-    ∙ ap (λ bytes. builds bytes (setting_of outside c.text_argument.new.w (g.L.Locals.items c.args.l.now)))
-    (ap (λ (bytes : List ℕ). map (map_byte (the_text (or_default Upper (value_in (extent_of c.args.w.now.heap) c.arg-from.result)))
-    (the_text (or_default Lower (value_in (extent_of c.args.w.now.heap) c.arg-to.result)))) bytes) (sym (c.bytes-2.ensures
-    ∙ ((c.text_argument.ensures.kept.extent.bytes c.in_ok-span.span c.in_ok-span.ensures.first_live) ∙ c.in_ok-span.ensures.first_text)))
-    ∙ (ap (λ (bytes : List ℕ). map (map_byte bytes (the_text (or_default Lower (value_in (extent_of c.args.w.now.heap) c.arg-to.result)))) c.bytes-2.result.now)
-    (sym (c.bytes-3.ensures ∙ (same_argument _ _ c.text_argument.ensures.kept.extent c.in_ok-span.first c.in_ok-span.ensures.second_live
-    ∙ c.in_ok-span.ensures.second_text)))
-    ∙ (ap (λ (bytes : List ℕ). map (map_byte c.bytes-3.result.now bytes) c.bytes-2.result.now)
-    (sym (c.bytes-4.ensures ∙ (c.in_ok-second.ensures.text ∙ ap (λ (v : Value). the_text (or_default Lower v))
-    (c.two_texts.ensures.kept.extent.value c.arg-to.result (c.arg-to.ensures.live (extent_of c.args.w.now.heap) c.requires.args)))))
-    ∙ (sym c.in_ok-made.ensures ∙ sym c.deref.ensures.value))))))
-    (c.build_text.ensures.row outside)
+    (the_text (or_default Lower (value_in (extent_of c.args.w.now.heap) c.arg-to.result)))) (the_text (value_in (extent_of c.args.w.now.heap)
+    c.arg-val.result))))
+    ∙ ap (λ (bytes : List ℕ). builds bytes (setting_of outside c.text_argument.new.w (g.L.Locals.items c.args.l.now)))
+    (ap (λ (bytes : List ℕ). map (map_byte (the_text (or_default Upper (value_in (extent_of c.args.w.now.heap) c.arg-from.result))) (the_text (or_default
+    Lower (value_in (extent_of c.args.w.now.heap) c.arg-to.result)))) bytes)
+    (sym (c.text_argument.ensures.kept.extent.bytes c.in_ok-span.span c.in_ok-span.ensures.first_live ∙ c.in_ok-span.ensures.first_text))
+    ∙ (ap (λ (bytes : List ℕ). map (map_byte bytes (the_text (or_default Lower (value_in (extent_of c.args.w.now.heap) c.arg-to.result)))) (text_in
+    (extent_of c.text_argument.new.w.heap) c.in_ok-span.span))
+    (sym (same_argument _ _ c.text_argument.ensures.kept.extent c.in_ok-span.first c.in_ok-span.ensures.second_live ∙ c.in_ok-span.ensures.second_text))
+    ∙ ap (λ (bytes : List ℕ). map (map_byte (argument_bytes (extent_of c.text_argument.new.w.heap) c.in_ok-span.first) bytes) (text_in (extent_of
+    c.text_argument.new.w.heap) c.in_ok-span.span))
+    (sym (c.in_ok-second.ensures.text ∙ ap (λ (v : Value). the_text (or_default Lower v))
+    (c.two_texts.ensures.kept.extent.value c.arg-to.result (c.arg-to.ensures.live (extent_of c.args.w.now.heap) c.requires.args))))))))
+    (c.build_mapped.ensures.row outside)
 
 pub returns-clause-kept : goal.returns-clause-kept
-returns-clause-kept g c = keeps_items_trans _ _ _ c.two_texts.ensures.kept (keeps_items_trans _ _ _ c.text_argument.ensures.kept c.build_text.ensures.kept)
+returns-clause-kept g c =
+    keeps_items_trans _ _ _ c.two_texts.ensures.kept (keeps_items_trans _ _ _ c.text_argument.ensures.kept c.build_mapped.ensures.kept)

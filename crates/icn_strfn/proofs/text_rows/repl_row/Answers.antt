@@ -1,12 +1,11 @@
-use Rattle.icn_strfn.proofs.TooLong.{repeated_long, too_long}
-use Rattle.std.proofs.Common.{◌≡◌, List, ℕ, length, arith}
+use Rattle.std.proofs.Common.{List, ℕ}
 use Rattle.std.proofs.Common.{FitsSigned, w64, rules}
 use Rattle.std.proofs.lemmas.Int.{to_z-of_z}
 use Rattle.std.proofs.Common.{◌∙◌, sym, ap, map, replicate}
 use Rattle.std.specs.List.{concat}
 use Rattle.icn_defs.specs.Rows.{builds, costs_text}
 use Rattle.icn_defs.specs.Strings.{repl_row}
-use Rattle.icn_heap.specs.Extents.{value_in}
+use Rattle.icn_heap.specs.Extents.{text_in, value_in}
 use Rattle.icn_heap.specs.Heaps.{extent_of}
 use Rattle.icn_vars.proofs.KeptItems.{keeps_items_trans}
 use Rattle.icn_vars.specs.Worlds.{setting_of}
@@ -49,9 +48,10 @@ returns-in_err-span-clause-row g c = λ outside.
 
 pub returns-clause-row : goal.returns-clause-row
 returns-clause-row g c = λ outside.
-    row_goes_on (extent_of c.build_text.new.w.heap) (repl_row (map (value_in (extent_of c.args.w.now.heap)) c.args.args.now)) (builds c.deref.result.now)
+    row_goes_on (extent_of c.build_repeated.new.w.heap) (repl_row (map (value_in (extent_of c.args.w.now.heap)) c.args.args.now))
+    (builds (concat (replicate c.in-Some-natural_number.count (text_in (extent_of c.text_of.new.w.heap) c.in_ok-span.span))))
     (setting_of outside c.args.w.now (g.L.Locals.items c.args.l.now)) (setting_of outside c.text_of.new.w (g.L.Locals.items c.args.l.now))
-    (setting_of outside c.build_text.new.w (g.L.Locals.items c.args.l.now)) c.build_text.result
+    (setting_of outside c.build_repeated.new.w (g.L.Locals.items c.args.l.now)) c.build_repeated.result
     (steps.repl_left (map (value_in (extent_of c.args.w.now.heap)) c.args.args.now)
     (value_in (extent_of c.args.w.now.heap) c.arg-val.result)
     (value_in (extent_of c.args.w.now.heap) c.arg-times.result) c.in-Some.n c.in-Some-natural_number.count
@@ -61,29 +61,9 @@ returns-clause-row g c = λ outside.
     (steps.natural_some c.in-Some.n c.in-Some-natural_number.count (let fits : FitsSigned w64 c.in-Some.n = search rules in
     rw (to_z-of_z w64 c.in-Some.n fits) at (sym c.natural_number.ensures ∙ c.in-Some-natural_number.is))) ∙ (c.in_ok-span.ensures.step outside
     (builds (concat (replicate c.in-Some-natural_number.count (the_text (value_in (extent_of c.args.w.now.heap) c.arg-val.result)))))
-    ∙ ap (λ bytes. builds bytes (setting_of outside c.text_of.new.w (g.L.Locals.items c.args.l.now)))
-    (ap (λ bytes. concat (replicate c.in-Some-natural_number.count bytes)) (sym c.in_ok-span.ensures.text ∙ sym c.bytes-2.ensures)
-    ∙ (sym c.in_ok-made.ensures ∙ sym c.deref.ensures.value))))
-    (c.build_text.ensures.row outside)
+    ∙ ap (λ (bytes : List ℕ). builds (concat (replicate c.in-Some-natural_number.count bytes))
+    (setting_of outside c.text_of.new.w (g.L.Locals.items c.args.l.now))) (sym c.in_ok-span.ensures.text)))
+    (c.build_repeated.ensures.row outside)
 
 pub returns-clause-kept : goal.returns-clause-kept
-returns-clause-kept g c = keeps_items_trans _ _ _ c.text_of.ensures.kept c.build_text.ensures.kept
-
-pub returns-then-lacks_room-clause-row : goal.returns-then-lacks_room-clause-row
-returns-then-lacks_room-clause-row g c = λ outside.
-    let made : List ℕ = concat (replicate c.in-Some-natural_number.count (the_text (value_in (extent_of c.args.w.now.heap) c.arg-val.result))) in
-    let same : length c.bytes.result.now
-    ≡ length (the_text (value_in (extent_of c.args.w.now.heap) c.arg-val.result)) = ap length (c.bytes.ensures ∙ c.in_ok-span.ensures.text) in
-    steps.repl_left (map (value_in (extent_of c.args.w.now.heap)) c.args.args.now) (value_in (extent_of c.args.w.now.heap) c.arg-val.result)
-    (value_in (extent_of c.args.w.now.heap) c.arg-times.result) c.in-Some.n c.in-Some-natural_number.count
-    (setting_of outside c.args.w.now (g.L.Locals.items c.args.l.now)) (c.arg-val.ensures.value (extent_of c.args.w.now.heap))
-    (c.arg-times.ensures.value (extent_of c.args.w.now.heap)) (c.if-lacks_text.ensures (extent_of c.args.w.now.heap))
-    (sym c.to_integer.ensures ∙ c.in-Some.is)
-    (steps.natural_some c.in-Some.n c.in-Some-natural_number.count (let fits : FitsSigned w64 c.in-Some.n = search rules in
-    rw (to_z-of_z w64 c.in-Some.n fits) at (sym c.natural_number.ensures ∙ c.in-Some-natural_number.is))) ∙ (c.in_ok-span.ensures.step outside (builds made)
-    ∙ too_long made (setting_of outside c.text_of.new.w (g.L.Locals.items c.args.l.now)) (omega (
-      arith,
-      c.if-lacks_room.ensures,
-      repeated_long c.in-Some-natural_number.count (the_text (value_in (extent_of c.args.w.now.heap) c.arg-val.result))
-          (length c.bytes.result.now) _ same c.saturating_mul.ensures,
-    )))
+returns-clause-kept g c = keeps_items_trans _ _ _ c.text_of.ensures.kept c.build_repeated.ensures.kept

@@ -1,14 +1,12 @@
-use Rattle.std.proofs.Common.{◌≡◌, ◌∙◌, sym, ap, List, ℕ, length, map, reverse, arith}
-use Rattle.std.proofs.lemmas.List.{length-reverse}
+use Rattle.std.proofs.Common.{◌∙◌, sym, ap, List, ℕ, map, reverse}
 use Rattle.icn_defs.specs.Rows.{builds, costs_text}
 use Rattle.icn_defs.specs.Strings.{reverse_row}
-use Rattle.icn_heap.specs.Extents.{value_in}
+use Rattle.icn_heap.specs.Extents.{text_in, value_in}
 use Rattle.icn_heap.specs.Heaps.{extent_of}
 use Rattle.icn_vars.proofs.KeptItems.{keeps_items_trans}
 use Rattle.icn_vars.specs.Worlds.{setting_of}
 use Rattle.icn_args.specs.RowWords.{the_text}
 use Rattle.icn_strfn.proofs.RowAnswers.{row_goes_on, row_stops_at}
-use Rattle.icn_strfn.proofs.TooLong.{too_long}
 use Rattle.icn_strfn.proofs.CheckedRows as steps
 use Rattle.icn_strfn.proofs.text_rows.reverse_row.Goals as goal
 
@@ -25,26 +23,17 @@ returns-in_err-span-clause-row g c = λ outside.
 
 pub returns-clause-row : goal.returns-clause-row
 returns-clause-row g c = λ outside.
-    row_goes_on (extent_of c.build_text.new.w.heap) (reverse_row (map (value_in (extent_of c.args.w.now.heap)) c.args.args.now)) (builds c.deref.result.now)
+    row_goes_on (extent_of c.build_reversed.new.w.heap) (reverse_row (map (value_in (extent_of c.args.w.now.heap)) c.args.args.now))
+    (builds (reverse (text_in (extent_of c.text_of.new.w.heap) c.in_ok-span.span)))
     (setting_of outside c.args.w.now (g.L.Locals.items c.args.l.now)) (setting_of outside c.text_of.new.w (g.L.Locals.items c.args.l.now))
-    (setting_of outside c.build_text.new.w (g.L.Locals.items c.args.l.now)) c.build_text.result
+    (setting_of outside c.build_reversed.new.w (g.L.Locals.items c.args.l.now)) c.build_reversed.result
     (steps.reverse_left (map (value_in (extent_of c.args.w.now.heap)) c.args.args.now) (value_in (extent_of c.args.w.now.heap) c.arg-val.result)
     (setting_of outside c.args.w.now (g.L.Locals.items c.args.l.now)) (c.arg-val.ensures.value (extent_of c.args.w.now.heap))
     (c.if-lacks_text.ensures (extent_of c.args.w.now.heap))
     ∙ (c.in_ok-span.ensures.step outside (builds (reverse (the_text (value_in (extent_of c.args.w.now.heap) c.arg-val.result))))
-    ∙ ap (λ bytes. builds bytes (setting_of outside c.text_of.new.w (g.L.Locals.items c.args.l.now)))
-    (ap (λ bytes. reverse bytes) (sym c.in_ok-span.ensures.text ∙ sym c.bytes-2.ensures) ∙ (sym c.in_ok-made.ensures ∙ sym c.deref.ensures.value))))
-    (c.build_text.ensures.row outside)
-
-pub returns-then-lacks_room-clause-row : goal.returns-then-lacks_room-clause-row
-returns-then-lacks_room-clause-row g c = λ outside.
-    let text : List ℕ = the_text (value_in (extent_of c.args.w.now.heap) c.arg-val.result) in
-    let same : length c.bytes.result.now ≡ length text = ap length (c.bytes.ensures ∙ c.in_ok-span.ensures.text) in
-    steps.reverse_left (map (value_in (extent_of c.args.w.now.heap)) c.args.args.now) (value_in (extent_of c.args.w.now.heap) c.arg-val.result)
-    (setting_of outside c.args.w.now (g.L.Locals.items c.args.l.now)) (c.arg-val.ensures.value (extent_of c.args.w.now.heap))
-    (c.if-lacks_text.ensures (extent_of c.args.w.now.heap)) ∙ (c.in_ok-span.ensures.step outside (builds (reverse text))
-    ∙ too_long (reverse text) (setting_of outside c.text_of.new.w (g.L.Locals.items c.args.l.now))
-    (omega (arith, c.if-lacks_room.ensures, same, length-reverse text)))
+    ∙ ap (λ (bytes : List ℕ). builds (reverse bytes) (setting_of outside c.text_of.new.w (g.L.Locals.items c.args.l.now)))
+    (sym c.in_ok-span.ensures.text)))
+    (c.build_reversed.ensures.row outside)
 
 pub returns-clause-kept : goal.returns-clause-kept
-returns-clause-kept g c = keeps_items_trans _ _ _ c.text_of.ensures.kept c.build_text.ensures.kept
+returns-clause-kept g c = keeps_items_trans _ _ _ c.text_of.ensures.kept c.build_reversed.ensures.kept

@@ -1,13 +1,16 @@
-use Rattle.std.proofs.Common.{ap}
+use Rattle.std.proofs.Common.{◌≡◌, ◌∙◌, ap, sym}
 use Rattle.icn_defs.specs.RowFacts.{can_hold}
 use Rattle.icn_defs.specs.ReadAndAssign.{assigns_both}
 use Rattle.icn_defs.specs.Rows.{Neither, Right}
 use Rattle.icn_heap.specs.Extents.{value_in}
 use Rattle.icn_heap.specs.Heaps.{extent_of}
+use Rattle.icn_value.specs.declared.residual.Mover.TheVariants as Movers
+use Rattle.icn_vars.specs.Assignments.{takes_no_memory}
 use Rattle.icn_vars.specs.Outcomes.{mover_of}
 use Rattle.icn_vars.specs.Worlds.{setting_of, variable_in}
 use Rattle.icn_vars.proofs.KeptItems.{variable_kept, variable_stays}
 use Rattle.icn_vars.proofs.Exchanges.{exchange_err, hold_as, left_moves, left_refused, left_stays, left_stops}
+use Rattle.icn_vars.proofs.UndoMemory.{error_alone}
 use Rattle.icn_vars.proofs.exchanging.assign_both.Goals as goal
 
 pub returns-in_err-now-clause-exchanged : goal.returns-in_err-now-clause-exchanged
@@ -96,3 +99,25 @@ returns-in-Right-clause-holds g c =
     (variable_in (extent_of c.assign.new.w.heap) c.in-Done.now) (variable_in (extent_of c.args.w.now.heap) c.args.right)
     (variable_in (extent_of c.assign.new.w.heap) c.args.right) c.assign_right-in-Right.result holds (λ value.
     ap (λ variable. can_hold variable value) (variable_kept c.assign.ensures.kept c.args.right c.requires.right)) c.assign_right-in-Right.ensures.holds
+
+-- memory
+
+pub returns-in_err-now-clause-memory : goal.returns-in_err-now-clause-memory
+returns-in_err-now-clause-memory g c = λ neither one two held_left held_right.
+    error_alone c.in_err-now.field-0.0 c.from_residual.result (c.in_err-now.ensures.memory one held_left) c.from_residual.ensures.1
+
+pub returns-in-Neither-clause-memory : goal.returns-in-Neither-clause-memory
+returns-in-Neither-clause-memory g c = λ neither one two held_left held_right.
+    let stays = variable_kept c.assign.ensures.kept c.args.right c.requires.right in
+    c.assign_right.ensures.memory (ap takes_no_memory stays ∙ two)
+    (ap (λ variable. can_hold variable (value_in (extent_of c.assign.new.w.heap) c.args.to_right)) stays
+    ∙ ap (can_hold (variable_in (extent_of c.args.w.now.heap) c.args.right)) (c.assign.ensures.kept.extent.value c.args.to_right c.requires.to_right)
+    ∙ held_right)
+
+pub returns-in-Left-clause-memory : goal.returns-in-Left-clause-memory
+returns-in-Left-clause-memory g c = λ neither one two held_left held_right.
+    let both : Movers.Left ≡ Movers.Neither = sym c.in-Left.is ∙ neither in absurd (cc)
+
+pub returns-in-Right-clause-memory : goal.returns-in-Right-clause-memory
+returns-in-Right-clause-memory g c = λ neither one two held_left held_right.
+    let both : Movers.Right ≡ Movers.Neither = sym c.in-Right.is ∙ neither in absurd (cc)

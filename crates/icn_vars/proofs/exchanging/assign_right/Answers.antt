@@ -8,6 +8,7 @@ use Rattle.icn_vars.specs.Outcomes.{mover_of}
 use Rattle.icn_vars.specs.Worlds.{reach_of, setting_of, variable_in}
 use Rattle.icn_vars.proofs.KeptItems.{variable_kept, variable_stays}
 use Rattle.icn_vars.proofs.Exchanges.{exchange_err, not_behind, right_done, right_moves, right_moves_before, right_refused, right_stops}
+use Rattle.icn_vars.proofs.UndoMemory.{error_alone}
 use Rattle.icn_vars.proofs.exchanging.assign_right.Goals as goal
 
 pub returns-in_err-now-clause-exchanged : goal.returns-in_err-now-clause-exchanged
@@ -105,3 +106,9 @@ pub returns-in-Left-clause-holds : goal.returns-in-Left-clause-holds
 returns-in-Left-clause-holds g c =
     let holds = rw c.in-Done.is at c.in_ok-now.ensures.holds in
     (λ value. ap (λ variable. can_hold variable value) (variable_kept c.assign.ensures.kept c.args.left c.requires.left), holds)
+
+-- memory
+
+pub returns-in_err-now-clause-memory : goal.returns-in_err-now-clause-memory
+returns-in_err-now-clause-memory g c = λ one held.
+    error_alone c.in_err-now.field-0.0 c.from_residual.result (c.in_err-now.ensures.memory one held) c.from_residual.ensures.1

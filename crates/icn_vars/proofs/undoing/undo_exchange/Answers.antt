@@ -7,6 +7,7 @@ use Rattle.icn_vars.specs.Outcomes.{mover_of}
 use Rattle.icn_vars.specs.Worlds.{setting_of, variable_in}
 use Rattle.icn_vars.proofs.HeapChanges.{stopped_part}
 use Rattle.icn_vars.proofs.Exchanges.{undo_exchange_stops}
+use Rattle.icn_vars.proofs.UndoMemory.{error_alone}
 use Rattle.icn_vars.proofs.undoing.undo_exchange.Goals as goal
 
 pub returns-in_err-assign_both-clause-undone : goal.returns-in_err-assign_both-clause-undone
@@ -30,3 +31,8 @@ pub returns-in-OutOfRange-clause-undone : goal.returns-in-OutOfRange-clause-undo
 returns-in-OutOfRange-clause-undone g c = λ outside next.
     let refused = rw c.in-OutOfRange.is at (c.in_ok-assign_both.ensures.exchanged outside) in
     refused (wrong 205 None) (λ now. next)
+
+pub returns-in_err-assign_both-clause-memory : goal.returns-in_err-assign_both-clause-memory
+returns-in_err-assign_both-clause-memory g c = λ neither one two.
+    error_alone c.in_err-assign_both.field-0.0 c.from_residual.result
+    (c.in_err-assign_both.ensures.memory neither one two c.requires.left.holds c.requires.right.holds) c.from_residual.ensures.1

@@ -19,7 +19,9 @@ returns g c = record {
     untouched = c.icont_main-answer.ensures.untouched;
     refused = c.icont_main-answer.ensures.refused;
     unread = c.icont_main-answer.ensures.unread;
+    uncalled = c.icont_main-answer.ensures.uncalled;
     causes = c.icont_main-answer.ensures.causes;
+    ran = c.icont_main-answer.ensures.ran;
     settled = c.icont_main-answer.ensures.settled;
   };
   status = c.from.ensures ∙ c.code.ensures;

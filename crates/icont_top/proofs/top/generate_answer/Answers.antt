@@ -35,7 +35,7 @@ returns-in-Err-clause-command g c is = no_command c.in-Err.answer c.refuse.resul
 
 pub returns-in-Err-clause-leaves : goal.returns-in-Err-clause-leaves
 returns-in-Err-clause-leaves g c =
-    leaves_both refl refl (refused_ends c.in-Err.answer c.refuse.result (loading_no_write c.in-Err.answer c.in-Err.ensures.others)
+    leaves_both refl refl refl (refused_ends c.in-Err.answer c.refuse.result (loading_no_write c.in-Err.answer c.in-Err.ensures.others)
     (loading_no_read c.in-Err.answer c.in-Err.ensures.others) (unmoved (λ e. c.in-Err.ensures.no_file (ap (λ a. Err a) e)))
     (no_cause c.in-Err.ensures.no_absence)
     (absence_of c.in-Err.answer c.refuse.result c.refuse.ensures.line) c.refuse.ensures.line)

@@ -8,14 +8,14 @@ use Rattle.icont_words.specs.declared.words.Task.TheVariants as Held
 use Rattle.icont_words.specs.Asking.{run_seen}
 use Rattle.icont_words.specs.Words.{Generate, Link, Translate}
 use Rattle.icont_top.proofs.AnswersGiven.{task_commanded}
-use Rattle.icont_top.proofs.WholeCommand.{answered_of, complete_by, headline_of, link_misses, names_asked, number_misses, outcome_of, task_asked, units_miss, words_called, words_done, words_end, words_miss, words_reported, written_of}
+use Rattle.icont_top.proofs.WholeCommand.{answered_of, complete_by, headline_of, link_misses, names_asked, number_misses, outcome_of, ran_of, task_asked, units_miss, words_called, words_done, words_end, words_miss, words_reported, written_of}
 use Rattle.icn_text.specs.WordTexts.{texts}
 use Rattle.icont_top.proofs.top.icont_main.Goals as goal
 
 pub returns-in-Ok-Translate-clause-outcome : goal.returns-in-Ok-Translate-clause-outcome
 returns-in-Ok-Translate-clause-outcome g c =
     outcome_of (map string_bytes c.args.words.now) c.translate_answer.result _ _ (g.F.Files.held c.args.files.now)
-    (c.translate_answer.ensures.done (map string_bytes c.args.words.now) (g.I.Source.left c.args.input.now) (g.I.Source.faults c.args.input.now)
+    (c.translate_answer.ensures.done (map string_bytes c.args.words.now) (g.I.Source.left c.args.input.now) (g.I.Source.counts c.args.input.now)
     (g.O.Sink.state c.args.out.now)
     (names_asked (map string_bytes c.args.words.now) Translate c.deref.result.now c.in-Ok-Translate.names.items c.deref.ensures.value
     (task_asked (map string_bytes c.args.words.now) c.in-Ok-Translate.field-0 (Held.Translate c.in-Ok-Translate.names) c.in-Ok-Translate.field-0-is
@@ -24,7 +24,7 @@ returns-in-Ok-Translate-clause-outcome g c =
 pub returns-in-Ok-Translate-clause-headline : goal.returns-in-Ok-Translate-clause-headline
 returns-in-Ok-Translate-clause-headline g c written =
     headline_of (map string_bytes c.args.words.now) c.translate_answer.result _ _ (g.F.Files.held c.args.files.now)
-    (c.translate_answer.ensures.done (map string_bytes c.args.words.now) (g.I.Source.left c.args.input.now) (g.I.Source.faults c.args.input.now)
+    (c.translate_answer.ensures.done (map string_bytes c.args.words.now) (g.I.Source.left c.args.input.now) (g.I.Source.counts c.args.input.now)
     (g.O.Sink.state c.args.out.now)
     (names_asked (map string_bytes c.args.words.now) Translate c.deref.result.now c.in-Ok-Translate.names.items c.deref.ensures.value
     (task_asked (map string_bytes c.args.words.now) c.in-Ok-Translate.field-0 (Held.Translate c.in-Ok-Translate.names) c.in-Ok-Translate.field-0-is
@@ -33,7 +33,16 @@ returns-in-Ok-Translate-clause-headline g c written =
 pub returns-in-Ok-Translate-clause-answered : goal.returns-in-Ok-Translate-clause-answered
 returns-in-Ok-Translate-clause-answered g c =
     answered_of (map string_bytes c.args.words.now) c.translate_answer.result _ _ (g.F.Files.held c.args.files.now)
-    (c.translate_answer.ensures.done (map string_bytes c.args.words.now) (g.I.Source.left c.args.input.now) (g.I.Source.faults c.args.input.now)
+    (c.translate_answer.ensures.done (map string_bytes c.args.words.now) (g.I.Source.left c.args.input.now) (g.I.Source.counts c.args.input.now)
+    (g.O.Sink.state c.args.out.now)
+    (names_asked (map string_bytes c.args.words.now) Translate c.deref.result.now c.in-Ok-Translate.names.items c.deref.ensures.value
+    (task_asked (map string_bytes c.args.words.now) c.in-Ok-Translate.field-0 (Held.Translate c.in-Ok-Translate.names) c.in-Ok-Translate.field-0-is
+    c.in-Ok-Translate.ensures)))
+
+pub returns-in-Ok-Translate-clause-ran : goal.returns-in-Ok-Translate-clause-ran
+returns-in-Ok-Translate-clause-ran g c =
+    ran_of (map string_bytes c.args.words.now) c.translate_answer.result _ _ (g.F.Files.held c.args.files.now)
+    (c.translate_answer.ensures.done (map string_bytes c.args.words.now) (g.I.Source.left c.args.input.now) (g.I.Source.counts c.args.input.now)
     (g.O.Sink.state c.args.out.now)
     (names_asked (map string_bytes c.args.words.now) Translate c.deref.result.now c.in-Ok-Translate.names.items c.deref.ensures.value
     (task_asked (map string_bytes c.args.words.now) c.in-Ok-Translate.field-0 (Held.Translate c.in-Ok-Translate.names) c.in-Ok-Translate.field-0-is
@@ -43,7 +52,7 @@ pub returns-in-Ok-Translate-clause-complete : goal.returns-in-Ok-Translate-claus
 returns-in-Ok-Translate-clause-complete g c =
     complete_by (map string_bytes c.args.words.now) c.translate_answer.result _ _ c.one_reading.ensures.one c.one_fault.ensures.one_fault
     c.one_fault.ensures.no_fault (g.F.Files.held c.args.files.now)
-    (c.translate_answer.ensures.done (map string_bytes c.args.words.now) (g.I.Source.left c.args.input.now) (g.I.Source.faults c.args.input.now)
+    (c.translate_answer.ensures.done (map string_bytes c.args.words.now) (g.I.Source.left c.args.input.now) (g.I.Source.counts c.args.input.now)
     (g.O.Sink.state c.args.out.now)
     (names_asked (map string_bytes c.args.words.now) Translate c.deref.result.now c.in-Ok-Translate.names.items c.deref.ensures.value
     (task_asked (map string_bytes c.args.words.now) c.in-Ok-Translate.field-0 (Held.Translate c.in-Ok-Translate.names) c.in-Ok-Translate.field-0-is
@@ -51,15 +60,15 @@ returns-in-Ok-Translate-clause-complete g c =
 
 pub returns-in-Ok-Translate-clause-line : goal.returns-in-Ok-Translate-clause-line
 returns-in-Ok-Translate-clause-line g c =
-    line_of_reports (c.translate_answer.ensures.reported (g.I.Source.left c.args.input.now))
+    line_of_reports c.translate_answer.ensures.reported
 
 pub returns-in-Ok-Translate-clause-fault_line : goal.returns-in-Ok-Translate-clause-fault_line
 returns-in-Ok-Translate-clause-fault_line g c =
-    c.translate_answer.ensures.reported (g.I.Source.left c.args.input.now)
+    c.translate_answer.ensures.reported
 
 pub returns-in-Ok-Translate-clause-faultless : goal.returns-in-Ok-Translate-clause-faultless
 returns-in-Ok-Translate-clause-faultless g c =
-    faultless_of c.translate_answer.result (c.translate_answer.ensures.causes (g.I.Source.left c.args.input.now) (g.I.Source.faults
+    faultless_of c.translate_answer.result (c.translate_answer.ensures.causes (g.I.Source.left c.args.input.now) (g.I.Source.counts
     c.args.input.now) (g.O.Sink.state c.args.out.now))
 
 pub returns-in-Ok-Translate-clause-command : goal.returns-in-Ok-Translate-clause-command
@@ -79,7 +88,7 @@ returns-in-Ok-Translate-clause-links g c =
 
 pub returns-in-Ok-Translate-clause-causes : goal.returns-in-Ok-Translate-clause-causes
 returns-in-Ok-Translate-clause-causes g c =
-    c.translate_answer.ensures.causes (g.I.Source.left c.args.input.now) (g.I.Source.faults c.args.input.now) (g.O.Sink.state c.args.out.now)
+    c.translate_answer.ensures.causes (g.I.Source.left c.args.input.now) (g.I.Source.counts c.args.input.now) (g.O.Sink.state c.args.out.now)
 
 pub returns-in-Ok-Link-clause-outcome : goal.returns-in-Ok-Link-clause-outcome
 returns-in-Ok-Link-clause-outcome g c =
@@ -102,6 +111,15 @@ returns-in-Ok-Link-clause-headline g c written =
 pub returns-in-Ok-Link-clause-answered : goal.returns-in-Ok-Link-clause-answered
 returns-in-Ok-Link-clause-answered g c =
     answered_of (map string_bytes c.args.words.now) c.link_answer.result _ _ (g.F.Files.held c.args.files.now)
+    (c.link_answer.ensures.done (map string_bytes c.args.words.now) (names_asked (map string_bytes c.args.words.now) (λ names. Link names
+    (option_map (λ name. name.now) c.in-Ok-Link.image) (option_map run_seen c.in-Ok-Link.run'))
+    c.deref-in-Ok-Link.result.now c.in-Ok-Link.names.items c.deref-in-Ok-Link.ensures.value
+    (task_asked (map string_bytes c.args.words.now) c.in-Ok-Link.field-0 (Held.Link c.in-Ok-Link.names c.in-Ok-Link.image c.in-Ok-Link.run')
+    c.in-Ok-Link.field-0-is c.in-Ok-Link.ensures)))
+
+pub returns-in-Ok-Link-clause-ran : goal.returns-in-Ok-Link-clause-ran
+returns-in-Ok-Link-clause-ran g c =
+    ran_of (map string_bytes c.args.words.now) c.link_answer.result _ _ (g.F.Files.held c.args.files.now)
     (c.link_answer.ensures.done (map string_bytes c.args.words.now) (names_asked (map string_bytes c.args.words.now) (λ names. Link names
     (option_map (λ name. name.now) c.in-Ok-Link.image) (option_map run_seen c.in-Ok-Link.run'))
     c.deref-in-Ok-Link.result.now c.in-Ok-Link.names.items c.deref-in-Ok-Link.ensures.value
@@ -162,6 +180,12 @@ returns-in-Ok-Generate-clause-answered g c =
     (c.generate_answer.ensures.done (map string_bytes c.args.words.now) (task_asked (map string_bytes c.args.words.now) c.in-Ok-Generate.field-0
     (Held.Generate c.in-Ok-Generate.number c.in-Ok-Generate.turns) c.in-Ok-Generate.field-0-is c.in-Ok-Generate.ensures))
 
+pub returns-in-Ok-Generate-clause-ran : goal.returns-in-Ok-Generate-clause-ran
+returns-in-Ok-Generate-clause-ran g c =
+    ran_of (map string_bytes c.args.words.now) c.generate_answer.result _ _ (g.F.Files.held c.args.files.now)
+    (c.generate_answer.ensures.done (map string_bytes c.args.words.now) (task_asked (map string_bytes c.args.words.now) c.in-Ok-Generate.field-0
+    (Held.Generate c.in-Ok-Generate.number c.in-Ok-Generate.turns) c.in-Ok-Generate.field-0-is c.in-Ok-Generate.ensures))
+
 pub returns-in-Ok-Generate-clause-complete : goal.returns-in-Ok-Generate-clause-complete
 returns-in-Ok-Generate-clause-complete g c =
     complete_by (map string_bytes c.args.words.now) c.generate_answer.result _ _ c.one_reading.ensures.one c.one_fault.ensures.one_fault
@@ -194,7 +218,7 @@ pub returns-in-Err-clause-outcome : goal.returns-in-Err-clause-outcome
 returns-in-Err-clause-outcome g c =
     outcome_of (map string_bytes c.args.words.now) c.refuse.result _ _ (g.F.Files.held c.args.files.now)
     (words_done (map string_bytes c.args.words.now) c.in-Err.fault c.words_answer.result c.refuse.result c.words_answer.ensures
-    c.refuse.ensures.line (g.F.Files.held c.args.files.now) (g.I.Source.left c.args.input.now) (g.I.Source.faults c.args.input.now) (g.O.Sink.state
+    c.refuse.ensures.line (g.F.Files.held c.args.files.now) (g.I.Source.left c.args.input.now) (g.I.Source.counts c.args.input.now) (g.O.Sink.state
     c.args.out.now)
     c.in-Err.ensures)
 
@@ -202,7 +226,7 @@ pub returns-in-Err-clause-headline : goal.returns-in-Err-clause-headline
 returns-in-Err-clause-headline g c written =
     headline_of (map string_bytes c.args.words.now) c.refuse.result _ _ (g.F.Files.held c.args.files.now)
     (words_done (map string_bytes c.args.words.now) c.in-Err.fault c.words_answer.result c.refuse.result c.words_answer.ensures
-    c.refuse.ensures.line (g.F.Files.held c.args.files.now) (g.I.Source.left c.args.input.now) (g.I.Source.faults c.args.input.now) (g.O.Sink.state
+    c.refuse.ensures.line (g.F.Files.held c.args.files.now) (g.I.Source.left c.args.input.now) (g.I.Source.counts c.args.input.now) (g.O.Sink.state
     c.args.out.now)
     c.in-Err.ensures) written
 
@@ -210,7 +234,15 @@ pub returns-in-Err-clause-answered : goal.returns-in-Err-clause-answered
 returns-in-Err-clause-answered g c =
     answered_of (map string_bytes c.args.words.now) c.refuse.result _ _ (g.F.Files.held c.args.files.now)
     (words_done (map string_bytes c.args.words.now) c.in-Err.fault c.words_answer.result c.refuse.result c.words_answer.ensures
-    c.refuse.ensures.line (g.F.Files.held c.args.files.now) (g.I.Source.left c.args.input.now) (g.I.Source.faults c.args.input.now) (g.O.Sink.state
+    c.refuse.ensures.line (g.F.Files.held c.args.files.now) (g.I.Source.left c.args.input.now) (g.I.Source.counts c.args.input.now) (g.O.Sink.state
+    c.args.out.now)
+    c.in-Err.ensures)
+
+pub returns-in-Err-clause-ran : goal.returns-in-Err-clause-ran
+returns-in-Err-clause-ran g c =
+    ran_of (map string_bytes c.args.words.now) c.refuse.result _ _ (g.F.Files.held c.args.files.now)
+    (words_done (map string_bytes c.args.words.now) c.in-Err.fault c.words_answer.result c.refuse.result c.words_answer.ensures
+    c.refuse.ensures.line (g.F.Files.held c.args.files.now) (g.I.Source.left c.args.input.now) (g.I.Source.counts c.args.input.now) (g.O.Sink.state
     c.args.out.now)
     c.in-Err.ensures)
 
@@ -219,7 +251,7 @@ returns-in-Err-clause-complete g c =
     complete_by (map string_bytes c.args.words.now) c.refuse.result _ _ c.one_reading.ensures.one c.one_fault.ensures.one_fault
     c.one_fault.ensures.no_fault (g.F.Files.held c.args.files.now)
     (words_done (map string_bytes c.args.words.now) c.in-Err.fault c.words_answer.result c.refuse.result c.words_answer.ensures
-    c.refuse.ensures.line (g.F.Files.held c.args.files.now) (g.I.Source.left c.args.input.now) (g.I.Source.faults c.args.input.now) (g.O.Sink.state
+    c.refuse.ensures.line (g.F.Files.held c.args.files.now) (g.I.Source.left c.args.input.now) (g.I.Source.counts c.args.input.now) (g.O.Sink.state
     c.args.out.now)
     c.in-Err.ensures)
 
@@ -227,23 +259,23 @@ pub returns-in-Err-clause-causes : goal.returns-in-Err-clause-causes
 returns-in-Err-clause-causes g c =
     words_end (map string_bytes c.args.words.now) c.in-Err.fault c.words_answer.result c.refuse.result c.words_answer.ensures c.refuse.ensures.line
     (g.F.Files.faults c.args.files.now) (g.F.Files.absences c.args.files.now)
-    (g.I.Source.faults c.args.input.now) (g.I.Source.left c.args.input.now) (g.O.Sink.state c.args.out.now)
+    (g.I.Source.counts c.args.input.now) (g.I.Source.left c.args.input.now) (g.O.Sink.state c.args.out.now)
 
 pub returns-in-Err-clause-faultless : goal.returns-in-Err-clause-faultless
 returns-in-Err-clause-faultless g c =
     faultless_of c.refuse.result (words_end (map string_bytes c.args.words.now) c.in-Err.fault c.words_answer.result c.refuse.result
     c.words_answer.ensures c.refuse.ensures.line (g.F.Files.faults c.args.files.now) (g.F.Files.absences c.args.files.now)
-    (g.I.Source.faults c.args.input.now) (g.I.Source.left c.args.input.now) (g.O.Sink.state c.args.out.now))
+    (g.I.Source.counts c.args.input.now) (g.I.Source.left c.args.input.now) (g.O.Sink.state c.args.out.now))
 
 pub returns-in-Err-clause-line : goal.returns-in-Err-clause-line
 returns-in-Err-clause-line g c =
     line_of_reports (words_reported (map string_bytes c.args.words.now) c.in-Err.fault c.words_answer.result c.refuse.result c.words_answer.ensures
-    c.refuse.ensures.line (g.I.Source.left c.args.input.now))
+    c.refuse.ensures.line)
 
 pub returns-in-Err-clause-fault_line : goal.returns-in-Err-clause-fault_line
 returns-in-Err-clause-fault_line g c =
     words_reported (map string_bytes c.args.words.now) c.in-Err.fault c.words_answer.result c.refuse.result c.words_answer.ensures
-    c.refuse.ensures.line (g.I.Source.left c.args.input.now)
+    c.refuse.ensures.line
 
 pub returns-in-Err-clause-command : goal.returns-in-Err-clause-command
 returns-in-Err-clause-command g c =
@@ -259,7 +291,7 @@ returns-in-Err-clause-links g c =
 pub returns-in-Ok-Translate-clause-written : goal.returns-in-Ok-Translate-clause-written
 returns-in-Ok-Translate-clause-written g c =
     written_of (map string_bytes c.args.words.now) c.translate_answer.result _ _ (g.F.Files.held c.args.files.now)
-    (c.translate_answer.ensures.done (map string_bytes c.args.words.now) (g.I.Source.left c.args.input.now) (g.I.Source.faults c.args.input.now)
+    (c.translate_answer.ensures.done (map string_bytes c.args.words.now) (g.I.Source.left c.args.input.now) (g.I.Source.counts c.args.input.now)
     (g.O.Sink.state c.args.out.now)
     (names_asked (map string_bytes c.args.words.now) Translate c.deref.result.now c.in-Ok-Translate.names.items c.deref.ensures.value
     (task_asked (map string_bytes c.args.words.now) c.in-Ok-Translate.field-0 (Held.Translate c.in-Ok-Translate.names) c.in-Ok-Translate.field-0-is
@@ -284,7 +316,7 @@ pub returns-in-Err-clause-written : goal.returns-in-Err-clause-written
 returns-in-Err-clause-written g c =
     written_of (map string_bytes c.args.words.now) c.refuse.result _ _ (g.F.Files.held c.args.files.now)
     (words_done (map string_bytes c.args.words.now) c.in-Err.fault c.words_answer.result c.refuse.result c.words_answer.ensures
-    c.refuse.ensures.line (g.F.Files.held c.args.files.now) (g.I.Source.left c.args.input.now) (g.I.Source.faults c.args.input.now) (g.O.Sink.state
+    c.refuse.ensures.line (g.F.Files.held c.args.files.now) (g.I.Source.left c.args.input.now) (g.I.Source.counts c.args.input.now) (g.O.Sink.state
     c.args.out.now)
     c.in-Err.ensures)
 
@@ -306,6 +338,9 @@ returns-in-Ok-Link-clause-refused g c = c.link_answer.ensures.leaves.refused
 pub returns-in-Ok-Link-clause-unread : goal.returns-in-Ok-Link-clause-unread
 returns-in-Ok-Link-clause-unread g c = c.link_answer.ensures.leaves.unread
 
+pub returns-in-Ok-Link-clause-uncalled : goal.returns-in-Ok-Link-clause-uncalled
+returns-in-Ok-Link-clause-uncalled g c = c.link_answer.ensures.leaves.uncalled
+
 pub returns-in-Ok-Generate-clause-causes : goal.returns-in-Ok-Generate-clause-causes
 returns-in-Ok-Generate-clause-causes g c = c.generate_answer.ensures.leaves.causes
 
@@ -317,6 +352,9 @@ returns-in-Ok-Generate-clause-refused g c = c.generate_answer.ensures.leaves.ref
 
 pub returns-in-Ok-Generate-clause-unread : goal.returns-in-Ok-Generate-clause-unread
 returns-in-Ok-Generate-clause-unread g c = c.generate_answer.ensures.leaves.unread
+
+pub returns-in-Ok-Generate-clause-uncalled : goal.returns-in-Ok-Generate-clause-uncalled
+returns-in-Ok-Generate-clause-uncalled g c = c.generate_answer.ensures.leaves.uncalled
 
 -- What is pending
 

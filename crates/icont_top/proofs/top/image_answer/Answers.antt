@@ -20,7 +20,7 @@ returns-in-Some-clause-done g c words held members ready e =
     c.same_ends.ensures.on_stacks ready e
     (writes_image _ _ c.args.plan members (said_name c.args.plan.image c.args.program.now.base _ members c.unwrap_or.ensures ready.is.base)
     (c.deref.ensures.value ∙ ready.is.made.bytes) c.in-Ok.ensures.ok)
-    (ap (option_map run_seen) c.in-Some.is) c.ran_answer.ensures.others c.ran_answer.ensures.ran
+    (ap (option_map run_seen) c.in-Some.is) c.ran_answer.ensures.others c.ran_answer.ensures.ran c.ran_answer.ensures.over
 
 pub returns-in-None-clause-done : goal.returns-in-None-clause-done
 returns-in-None-clause-done g c words held members ready e =
@@ -53,21 +53,22 @@ returns-in-Some-clause-leaves g c = record {
     others = c.ran_answer.ensures.causes;
   };
   input = if_some_intro (g.I.Source.left c.args.input.now) _ (λ left d.
-      run_lost c.runs_leave.ensures.on_stacks c.broken_off.ensures.reading c.broken_off.ensures.begun (run_seen c.in-Some.asked) left
+      run_lost c.outsides_grow.ensures.on_stacks (run_seen c.in-Some.asked) left
       (if_some_elim _ (g.I.Source.left c.args.input.now) left d c.ran_answer.ensures.ran));
   refused = λ none. absurd (none c.ran_answer.ensures.others);
   unread = λ none. absurd (none c.ran_answer.ensures.others);
+  uncalled = λ none. absurd (none c.ran_answer.ensures.others);
 }
 
 pub returns-in-None-clause-leaves : goal.returns-in-None-clause-leaves
-returns-in-None-clause-leaves g c = leaves_both refl refl (record {
+returns-in-None-clause-leaves g c = leaves_both refl refl refl (record {
   file_fault = record { later = c.in-Ok.ensures.cause.later; rose = λ e. cc; stayed = λ _. c.in-Ok.ensures.cause.stayed (λ e. cc) };
   absence = record { later = omega (arith, c.in-Ok.ensures.absences); rose = λ a. absurd a };
   others = none_counts Wrote wrote_no_fault;
 })
 
 pub returns-in-Err-clause-leaves : goal.returns-in-Err-clause-leaves
-returns-in-Err-clause-leaves g c = leaves_both refl refl (record {
+returns-in-Err-clause-leaves g c = leaves_both refl refl refl (record {
   file_fault = record {
     later = c.in-Err.ensures.cause.later;
     rose = λ e. c.in-Err.ensures.cause.rose (ap (λ f. Err f) (c.torn_answer.ensures.failed.0 e));

@@ -1,5 +1,5 @@
 use Rattle.std.proofs.Common.{◌∙◌, sym}
-use Rattle.icont_top.proofs.SizesLine.{done_no_fault, ran_alone, ran_undone, sizes_end, sizes_reports, sizes_run, some_put}
+use Rattle.icont_top.proofs.SizesLine.{done_no_fault, over_undone, ran_alone, ran_undone, sizes_end, sizes_reports, sizes_over, sizes_run}
 use Rattle.icn_answer.proofs.ToldContent.{if_some_elim, if_some_intro}
 use Rattle.icont_top.proofs.top.ran_answer.Goals as goal
 
@@ -18,8 +18,7 @@ pub returns-then-is_done-clause-reported : goal.returns-then-is_done-clause-repo
 returns-then-is_done-clause-reported g c =
     sizes_reports c.in-Some.number c.run_answer-answer.result c.sizes_answer.result (sym c.is_done.ensures ∙ c.if-is_done.true)
     c.run_answer-answer.ensures.causes c.run_answer-answer.ensures.reported
-    (if_some_intro (g.I.Source.left c.args.input.now) _ (λ left d. some_put c.run_answer-answer.result (sym c.is_done.ensures ∙ c.if-is_done.true)
-    (if_some_elim _ (g.I.Source.left c.args.input.now) left d c.run_answer-answer.ensures.ran))) c.sizes_answer.ensures.puts
+    c.sizes_answer.ensures.puts
 
 pub returns-else-is_done-clause-ran : goal.returns-else-is_done-clause-ran
 returns-else-is_done-clause-ran g c =
@@ -40,3 +39,15 @@ returns-else-is_done-clause-settled g c = c.run_answer-answer.ensures.settled
 pub returns-then-is_done-clause-causes : goal.returns-then-is_done-clause-causes
 returns-then-is_done-clause-causes g c = sizes_end c.in-Some.number c.run_answer-answer.result c.sizes_answer.result
     (sym c.is_done.ensures ∙ c.if-is_done.true) c.run_answer-answer.ensures.causes c.sizes_answer.ensures.puts
+
+pub returns-in-None-clause-over : goal.returns-in-None-clause-over
+returns-in-None-clause-over g c = rw c.in-None.is c.run_answer-answer.ensures.over
+
+pub returns-then-is_done-clause-over : goal.returns-then-is_done-clause-over
+returns-then-is_done-clause-over g c =
+    rw c.in-Some.is (sizes_over _ _ _ _ _ c.in-Some.number c.run_answer-answer.result c.sizes_answer.result (sym c.is_done.ensures ∙ c.if-is_done.true)
+    c.run_answer-answer.ensures.over c.sizes_answer.ensures.puts)
+
+pub returns-else-is_done-clause-over : goal.returns-else-is_done-clause-over
+returns-else-is_done-clause-over g c =
+    rw c.in-Some.is (over_undone _ _ _ _ c.in-Some.number c.run_answer-answer.result (sym c.is_done.ensures ∙ c.if-is_done.false) c.run_answer-answer.ensures.over)

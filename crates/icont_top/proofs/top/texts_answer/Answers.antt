@@ -19,7 +19,7 @@ returns-in-Err-clause-done g c words held members left input out is e read h =
     c.torn_answer.ensures.puts
 
 pub returns-in-Err-clause-reported : goal.returns-in-Err-clause-reported
-returns-in-Err-clause-reported g c left =
+returns-in-Err-clause-reported g c =
     own_reports c.torn_answer.result (is_torn c.torn_answer.result c.torn_answer.ensures.others) c.torn_answer.ensures.puts
 
 pub returns-in-Ok-clause-causes : goal.returns-in-Ok-clause-causes

@@ -27,7 +27,7 @@ returns-in-Err-clause-done g c words left input out asks =
     c.in-Err.ensures.reads.files c.refuse.ensures.line)
 
 pub returns-in-Err-clause-reported : goal.returns-in-Err-clause-reported
-returns-in-Err-clause-reported g c left = reports_of (loading_no_run c.in-Err.answer c.in-Err.ensures.others) c.refuse.ensures.line
+returns-in-Err-clause-reported g c = reports_of (loading_no_run c.in-Err.answer c.in-Err.ensures.others) c.refuse.ensures.line
 
 pub returns-in-Ok-clause-command : goal.returns-in-Ok-clause-command
 returns-in-Ok-clause-command g c is = command_refuses c.texts_answer.result c.texts_answer.ensures.no_refusal is

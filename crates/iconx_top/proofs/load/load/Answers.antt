@@ -1,4 +1,6 @@
 use Rattle.iconx_top.proofs.JudgedImages.{loaded, no_absence, no_file_fault, of_loading}
+use Rattle.std.proofs.Common.{inl, refl}
+use Rattle.iconx_top.proofs.Absences.{judged_absences, missing_absences}
 use Rattle.iconx_top.proofs.load.load.Goals as goal
 
 pub returns-in-Ok-clause-loaded : goal.returns-in-Ok-clause-loaded
@@ -18,3 +20,18 @@ returns-in-Ok-clause-reads g c = record {
   };
   absence = record { later = c.read.ensures.absence.later; rose = λ is. absurd (no_absence c.judge.result c.judge.ensures.others is) };
 }
+
+-- how often a file was not there
+
+pub returns-in-Ok-clause-absences : goal.returns-in-Ok-clause-absences
+returns-in-Ok-clause-absences g c = judged_absences c.judge.result c.judge.ensures.others (c.in-Ok.ensures.absence.stayed (λ is. cc))
+
+pub returns-in-Err-NotThere-clause-absences : goal.returns-in-Err-NotThere-clause-absences
+returns-in-Err-NotThere-clause-absences g c =
+    let absence = rw c.in-Err-NotThere.field-0-is at c.in-Err-NotThere.ensures.absence in
+    missing_absences c.missing_image.result c.args.name.now c.missing_image.ensures (absence.rose refl)
+
+pub returns-in-Err-Failed-clause-absences : goal.returns-in-Err-Failed-clause-absences
+returns-in-Err-Failed-clause-absences g c =
+    let absence = rw c.in-Err-Failed.field-0-is at c.in-Err-Failed.ensures.absence in
+    inl (absence.stayed (λ is. cc), λ absent. absent)

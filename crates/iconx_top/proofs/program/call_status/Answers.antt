@@ -14,11 +14,14 @@ returns g c = record {
     input = c.iconx_main-answer.ensures.input;
     refused = c.iconx_main-answer.ensures.refused;
     unread = c.iconx_main-answer.ensures.unread;
+    uncalled = c.iconx_main-answer.ensures.uncalled;
     files = c.iconx_main-answer.ensures.files;
     unwritten = c.iconx_main-answer.ensures.unwritten;
     written = c.iconx_main-answer.ensures.written;
     leaves = c.iconx_main-answer.ensures.leaves;
     causes = c.iconx_main-answer.ensures.causes;
+    ran = c.iconx_main-answer.ensures.ran;
+    absences = c.iconx_main-answer.ensures.absences;
     settled = c.iconx_main-answer.ensures.settled;
   };
   status = c.from.ensures ∙ c.code.ensures;

@@ -1,4 +1,4 @@
-use Rattle.std.proofs.Common.{[], map, refl, subst, sym, inr}
+use Rattle.std.proofs.Common.{inl, [], map, refl, subst, sym, inr}
 use Rattle.std.specs.Prelude.{string_bytes}
 use Rattle.icn_answer.specs.declared.answer.Answer.TheVariants.{Command}
 use Rattle.icn_answer.proofs.ToldContent.{if_some_elim, if_some_intro}
@@ -13,6 +13,8 @@ use Rattle.iconx_top.proofs.AskedAnswers.{answer_put}
 use Rattle.iconx_top.proofs.CallOutcomes.{command_ends, command_no_read, command_no_write, command_unrun, command_unwritten, refused}
 use Rattle.iconx_top.proofs.Migrations.{asks_to_write, migration_read, migration_writes, refused_unwritten, run_read, run_writes_none, told_input, written_of}
 use Rattle.iconx_top.proofs.ReportLines.{asked_reports}
+use Rattle.iconx_top.proofs.Absences.{refused_absences}
+use Rattle.iconx_top.proofs.AskedRuns.{migration_unrun, runs_refused, runs_unless}
 use Rattle.iconx_top.proofs.top.iconx_main.Goals as goal
 
 -- A run
@@ -57,10 +59,14 @@ returns-in-Ok-Run-clause-refused g c = c.image_answer.ensures.leaves.refused
 pub returns-in-Ok-Run-clause-unread : goal.returns-in-Ok-Run-clause-unread
 returns-in-Ok-Run-clause-unread g c = c.image_answer.ensures.leaves.unread
 
+pub returns-in-Ok-Run-clause-uncalled : goal.returns-in-Ok-Run-clause-uncalled
+returns-in-Ok-Run-clause-uncalled g c = c.image_answer.ensures.leaves.uncalled
+
 pub returns-in-Ok-Run-clause-leaves : goal.returns-in-Ok-Run-clause-leaves
 returns-in-Ok-Run-clause-leaves g c =
     let asks = run_read c.in-Ok-Run.field-0 c.in-Ok-Run.asked _ c.in-Ok-Run.ensures c.in-Ok-Run.field-0-is in
-    if_some_intro (g.F.Files.held c.args.files.now) _ (λ held e. left_alone (λ wrote. run_writes_none (words_reading (map string_bytes c.args.words.now)) c.in-Ok-Run.asked asks
+    if_some_intro (g.F.Files.held c.args.files.now) _ (λ held e. left_alone (λ wrote. run_writes_none (words_reading (map string_bytes c.args.words.now))
+    c.in-Ok-Run.asked asks
     (asks_to_write c.image_answer.result
     (if_some_elim _ (g.F.Files.held c.args.files.now) held e (c.image_answer.ensures.answered (map string_bytes c.args.words.now) asks)) wrote))
     c.image_answer.ensures.files)
@@ -68,7 +74,8 @@ returns-in-Ok-Run-clause-leaves g c =
 pub returns-in-Ok-Run-clause-written : goal.returns-in-Ok-Run-clause-written
 returns-in-Ok-Run-clause-written g c =
     let asks = run_read c.in-Ok-Run.field-0 c.in-Ok-Run.asked _ c.in-Ok-Run.ensures c.in-Ok-Run.field-0-is in
-    if_some_intro (g.F.Files.held c.args.files.now) _ (λ held e wrote. absurd (run_writes_none (words_reading (map string_bytes c.args.words.now)) c.in-Ok-Run.asked asks
+    if_some_intro (g.F.Files.held c.args.files.now) _ (λ held e wrote. absurd (run_writes_none (words_reading (map string_bytes c.args.words.now))
+    c.in-Ok-Run.asked asks
     (asks_to_write c.image_answer.result
     (if_some_elim _ (g.F.Files.held c.args.files.now) held e (c.image_answer.ensures.answered (map string_bytes c.args.words.now) asks)) wrote)))
 
@@ -78,7 +85,7 @@ pub returns-in-Ok-Migration-clause-outcome : goal.returns-in-Ok-Migration-clause
 returns-in-Ok-Migration-clause-outcome g c =
     if_some_intro (g.F.Files.held c.args.files.now) _ (λ held e. if_some_intro (g.I.Source.left c.args.input.now) _ (λ left d.
     told_input (g.I.Source.left c.args.input.now) d (if_some_elim _ (g.F.Files.held c.args.files.now) held e
-    (c.migration_answer.ensures.outcome (map string_bytes c.args.words.now) left (g.I.Source.faults c.args.input.now) (g.O.Sink.state c.args.out.now)
+    (c.migration_answer.ensures.outcome (map string_bytes c.args.words.now) left (g.I.Source.counts c.args.input.now) (g.O.Sink.state c.args.out.now)
     (migration_read c.in-Ok-Migration.field-0 c.in-Ok-Migration.asked _ c.in-Ok-Migration.ensures c.in-Ok-Migration.field-0-is)))))
 
 pub returns-in-Ok-Migration-clause-answered : goal.returns-in-Ok-Migration-clause-answered
@@ -90,12 +97,12 @@ pub returns-in-Ok-Migration-clause-line : goal.returns-in-Ok-Migration-clause-li
 returns-in-Ok-Migration-clause-line g c =
     line_of_reports (asked_reports _ _
     (sym (migration_read c.in-Ok-Migration.field-0 c.in-Ok-Migration.asked _ c.in-Ok-Migration.ensures c.in-Ok-Migration.field-0-is))
-    (c.migration_answer.ensures.reported (g.I.Source.left c.args.input.now)))
+    c.migration_answer.ensures.reported)
 
 pub returns-in-Ok-Migration-clause-fault_line : goal.returns-in-Ok-Migration-clause-fault_line
 returns-in-Ok-Migration-clause-fault_line g c =
     asked_reports _ _ (sym (migration_read c.in-Ok-Migration.field-0 c.in-Ok-Migration.asked _ c.in-Ok-Migration.ensures c.in-Ok-Migration.field-0-is))
-    (c.migration_answer.ensures.reported (g.I.Source.left c.args.input.now))
+    c.migration_answer.ensures.reported
 
 pub returns-in-Ok-Migration-clause-command : goal.returns-in-Ok-Migration-clause-command
 returns-in-Ok-Migration-clause-command g c =
@@ -105,12 +112,12 @@ returns-in-Ok-Migration-clause-command g c =
 
 pub returns-in-Ok-Migration-clause-faultless : goal.returns-in-Ok-Migration-clause-faultless
 returns-in-Ok-Migration-clause-faultless g c =
-    faultless_of c.migration_answer.result (c.migration_answer.ensures.causes (g.I.Source.left c.args.input.now) (g.I.Source.faults c.args.input.now)
+    faultless_of c.migration_answer.result (c.migration_answer.ensures.causes (g.I.Source.left c.args.input.now) (g.I.Source.counts c.args.input.now)
     (g.O.Sink.state c.args.out.now))
 
 pub returns-in-Ok-Migration-clause-causes : goal.returns-in-Ok-Migration-clause-causes
 returns-in-Ok-Migration-clause-causes g c =
-    c.migration_answer.ensures.causes (g.I.Source.left c.args.input.now) (g.I.Source.faults c.args.input.now) (g.O.Sink.state c.args.out.now)
+    c.migration_answer.ensures.causes (g.I.Source.left c.args.input.now) (g.I.Source.counts c.args.input.now) (g.O.Sink.state c.args.out.now)
 
 pub returns-in-Ok-Migration-clause-input : goal.returns-in-Ok-Migration-clause-input
 returns-in-Ok-Migration-clause-input g c = if_some_intro (g.I.Source.left c.args.input.now) _ (λ left d. (0, d))
@@ -154,7 +161,8 @@ pub returns-in-Err-clause-causes : goal.returns-in-Err-clause-causes
 returns-in-Err-clause-causes g c = command_ends c.in-Err.kind c.refuse.result c.refuse.ensures.line
 
 pub returns-in-Err-clause-faultless : goal.returns-in-Err-clause-faultless
-returns-in-Err-clause-faultless g c = faultless_of c.refuse.result (command_ends {absences = 0} {left = g.I.Source.left c.args.input.now}
+returns-in-Err-clause-faultless g c = faultless_of c.refuse.result (command_ends {absences = 0} {input = g.I.Source.counts c.args.input.now}
+    {left = g.I.Source.left c.args.input.now}
     {out = g.O.Sink.state c.args.out.now} c.in-Err.kind c.refuse.result c.refuse.ensures.line)
 
 pub returns-in-Err-clause-input : goal.returns-in-Err-clause-input
@@ -178,3 +186,26 @@ returns-in-Ok-Migration-clause-settled g c = c.migration_answer.ensures.settled 
 
 pub returns-in-Err-clause-settled : goal.returns-in-Err-clause-settled
 returns-in-Err-clause-settled g c o e n = (o, c.refuse.ensures.settled n)
+
+pub returns-in-Err-clause-absences : goal.returns-in-Err-clause-absences
+returns-in-Err-clause-absences g c =
+    refused_absences (Command c.in-Err.kind) c.refuse.result c.refuse.ensures.line (inl (refl, λ absent. absent))
+
+-- the run that words and files ask for
+
+pub returns-in-Ok-Run-clause-ran : goal.returns-in-Ok-Run-clause-ran
+returns-in-Ok-Run-clause-ran g c =
+    c.image_answer.ensures.ran (map string_bytes c.args.words.now)
+    (run_read c.in-Ok-Run.field-0 c.in-Ok-Run.asked _ c.in-Ok-Run.ensures c.in-Ok-Run.field-0-is)
+
+pub returns-in-Ok-Migration-clause-ran : goal.returns-in-Ok-Migration-clause-ran
+returns-in-Ok-Migration-clause-ran g c =
+    let asks = migration_read c.in-Ok-Migration.field-0 c.in-Ok-Migration.asked _ c.in-Ok-Migration.ensures c.in-Ok-Migration.field-0-is in
+    if_some_intro (g.F.Files.held c.args.files.now) _ (λ held e. runs_unless _ held _ _ c.migration_answer.result
+    (migration_unrun c.in-Ok-Migration.asked.new_name.now c.in-Ok-Migration.asked.image.now asks
+    (if_some_elim _ (g.F.Files.held c.args.files.now) held e (c.migration_answer.ensures.answered (map string_bytes c.args.words.now) asks))))
+
+pub returns-in-Err-clause-ran : goal.returns-in-Err-clause-ran
+returns-in-Err-clause-ran g c =
+    if_some_intro (g.F.Files.held c.args.files.now) _ (λ held e.
+    runs_refused _ held _ _ (Command c.in-Err.kind) c.refuse.result (command_unrun c.in-Err.kind) c.refuse.ensures.line)

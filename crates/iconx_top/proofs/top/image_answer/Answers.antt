@@ -1,4 +1,4 @@
-use Rattle.std.proofs.Common.{ap, map, refl}
+use Rattle.std.proofs.Common.{inl, ap, map, refl}
 use Rattle.std.specs.Prelude.{string_bytes}
 use Rattle.icn_value.specs.Limited.{limits_of}
 use Rattle.iconx_top.proofs.AskedAnswers.{answer_put, load_answered, run_answered}
@@ -9,8 +9,10 @@ use Rattle.icn_run_answer.proofs.CountCauses.{refused_ends, absence_of, run_no_a
 use Rattle.icn_run_answer.proofs.OutsideLeft.{leaves_both}
 use Rattle.icn_run_answer.proofs.Reports.{reports_of}
 use Rattle.icn_answer.proofs.ToldContent.{if_some_elim, if_some_intro}
-use Rattle.iconx_top.proofs.ReportLines.{load_unrun}
+use Rattle.iconx_top.proofs.ReportLines.{load_unrun, refused_no_command}
 use Rattle.iconx_top.specs.Words.{image_named}
+use Rattle.iconx_top.proofs.Absences.{refused_absences}
+use Rattle.iconx_top.proofs.AskedRuns.{runs_refused}
 use Rattle.iconx_top.proofs.top.image_answer.Goals as goal
 
 pub returns-in-Err-clause-outcome : goal.returns-in-Err-clause-outcome
@@ -65,11 +67,12 @@ returns-in-Ok-clause-leaves g c = record {
   input = c.run_answer.ensures.input;
   refused = λ none. absurd (none c.run_answer.ensures.others);
   unread = λ none. absurd (none c.run_answer.ensures.others);
+  uncalled = λ none. absurd (none c.run_answer.ensures.others);
 }
 
 pub returns-in-Err-clause-leaves : goal.returns-in-Err-clause-leaves
 returns-in-Err-clause-leaves g c =
-    leaves_both refl refl (refused_ends c.in-Err.answer c.refuse.result (load_no_write c.in-Err.answer c.in-Err.ensures.others)
+    leaves_both refl refl refl (refused_ends c.in-Err.answer c.refuse.result (load_no_write c.in-Err.answer c.in-Err.ensures.others)
     (load_no_read c.in-Err.answer c.in-Err.ensures.others) (err_counts c.in-Err.answer FileFault c.in-Err.ensures.reads.file_fault)
     c.in-Err.ensures.reads.absence (absence_of c.in-Err.answer c.refuse.result c.refuse.ensures.line) c.refuse.ensures.line)
 
@@ -84,3 +87,23 @@ returns-in-Ok-clause-settled g c = c.run_answer.ensures.settled
 
 pub returns-in-Err-clause-settled : goal.returns-in-Err-clause-settled
 returns-in-Err-clause-settled g c o e n = (o, c.refuse.ensures.settled n)
+
+pub returns-in-Ok-clause-absences : goal.returns-in-Ok-clause-absences
+returns-in-Ok-clause-absences g c = inl (c.in-Ok.ensures.absences, run_no_absence c.run_answer.result c.run_answer.ensures.others)
+
+pub returns-in-Err-clause-absences : goal.returns-in-Err-clause-absences
+returns-in-Err-clause-absences g c = refused_absences c.in-Err.answer c.refuse.result c.refuse.ensures.line c.in-Err.ensures.absences
+
+pub returns-in-Ok-clause-ran : goal.returns-in-Ok-clause-ran
+returns-in-Ok-clause-ran g c words asks =
+    if_some_intro (g.F.Files.held c.args.files.now) _ (λ held e. c.run_answer.ensures.ran words held asks
+    (if_some_elim _ (g.F.Files.held c.args.files.now) held e c.in-Ok.ensures.loaded))
+
+pub returns-in-Err-clause-ran : goal.returns-in-Err-clause-ran
+returns-in-Err-clause-ran g c words asks =
+    if_some_intro (g.F.Files.held c.args.files.now) _ (λ held e.
+    runs_refused words held _ _ c.in-Err.answer c.refuse.result (load_unrun c.in-Err.answer c.in-Err.ensures.others) c.refuse.ensures.line)
+
+pub returns-in-Err-clause-command : goal.returns-in-Err-clause-command
+returns-in-Err-clause-command g c is =
+    refused_no_command c.in-Err.answer c.refuse.result c.in-Err.ensures.others c.refuse.ensures.line is

@@ -1,4 +1,4 @@
-use Rattle.std.proofs.Common.{◌∙◌, ap, refl}
+use Rattle.std.proofs.Common.{inl, ◌∙◌, ap, refl}
 use Rattle.icn_answer.specs.declared.answer.Answer.TheVariants.{FileFault}
 use Rattle.icn_answer.proofs.FaultCounts.{err_counts}
 use Rattle.icn_answer.proofs.ToldContent.{if_some_elim, if_some_intro}
@@ -10,6 +10,7 @@ use Rattle.iconx_top.proofs.AskedAnswers.{answer_put, load_answered}
 use Rattle.iconx_top.proofs.CallOutcomes.{asked_load, load_no_read, load_no_write, refused}
 use Rattle.iconx_top.proofs.Migrations.{asked_migration, held_before, leaves_before, load_unwritten, refused_unwritten}
 use Rattle.iconx_top.proofs.ReportLines.{load_unrun}
+use Rattle.iconx_top.proofs.Absences.{refused_absences}
 use Rattle.iconx_top.proofs.top.migration_answer.Goals as goal
 
 -- The image was loaded
@@ -30,7 +31,7 @@ returns-in-Ok-clause-leaves g c words asks =
     (c.in-Ok.ensures.reads.files ∙ e)))
 
 pub returns-in-Ok-clause-reported : goal.returns-in-Ok-clause-reported
-returns-in-Ok-clause-reported g c left = c.new_image_answer.ensures.reported left
+returns-in-Ok-clause-reported g c = c.new_image_answer.ensures.reported
 
 pub returns-in-Ok-clause-answered : goal.returns-in-Ok-clause-answered
 returns-in-Ok-clause-answered g c words asks =
@@ -65,7 +66,7 @@ returns-in-Err-clause-leaves g c words asks =
     c.in-Err.ensures.reads.files)
 
 pub returns-in-Err-clause-reported : goal.returns-in-Err-clause-reported
-returns-in-Err-clause-reported g c left = reports_of (load_unrun c.in-Err.answer c.in-Err.ensures.others) c.refuse.ensures.line
+returns-in-Err-clause-reported g c = reports_of (load_unrun c.in-Err.answer c.in-Err.ensures.others) c.refuse.ensures.line
 
 pub returns-in-Err-clause-answered : goal.returns-in-Err-clause-answered
 returns-in-Err-clause-answered g c words asks =
@@ -87,3 +88,10 @@ returns-in-Ok-clause-settled g c out = c.new_image_answer.ensures.settled out
 
 pub returns-in-Err-clause-settled : goal.returns-in-Err-clause-settled
 returns-in-Err-clause-settled g c out o e n = (o, c.refuse.ensures.settled n)
+
+pub returns-in-Ok-clause-absences : goal.returns-in-Ok-clause-absences
+returns-in-Ok-clause-absences g c =
+    inl (c.new_image_answer.ensures.absences ∙ c.in-Ok.ensures.absences, c.new_image_answer.ensures.present)
+
+pub returns-in-Err-clause-absences : goal.returns-in-Err-clause-absences
+returns-in-Err-clause-absences g c = refused_absences c.in-Err.answer c.refuse.result c.refuse.ensures.line c.in-Err.ensures.absences

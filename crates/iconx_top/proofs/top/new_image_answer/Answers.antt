@@ -60,7 +60,7 @@ returns-in-Ok-clause-leaves g c words held asked e =
     (sets_part _ _ c.args.asked.new_name.now c.deref.result.now _ (c.deref.ensures.value ∙ c.in-Ok.ensures.image.0) c.in-Err-write.ensures.err)
 
 pub returns-in-Ok-clause-reported : goal.returns-in-Ok-clause-reported
-returns-in-Ok-clause-reported g c left =
+returns-in-Ok-clause-reported g c =
     own_reports c.torn_answer.result (is_torn c.torn_answer.result c.torn_answer.ensures.others) c.torn_answer.ensures.puts
 
 pub returns-in-Ok-clause-answered : goal.returns-in-Ok-clause-answered
@@ -93,7 +93,7 @@ returns-clause-outcome g c words held left input out asked named e =
     (load_no_read c.in-Err.answer (of_image_loading c.in-Err.answer c.in-Err.ensures.others)) refl e refl c.refuse.ensures.line
 
 pub returns-clause-reported : goal.returns-clause-reported
-returns-clause-reported g c left =
+returns-clause-reported g c =
     reports_of (load_unrun c.in-Err.answer (of_image_loading c.in-Err.answer c.in-Err.ensures.others)) c.refuse.ensures.line
 
 pub returns-clause-answered : goal.returns-clause-answered
@@ -121,3 +121,12 @@ returns-in-Ok-clause-settled g c out o e n = absurd (n (is_torn c.torn_answer.re
 
 pub returns-clause-settled : goal.returns-clause-settled
 returns-clause-settled g c out o e n = (o, c.refuse.ensures.settled n)
+
+-- that the image is there
+
+pub returns-in-Ok-clause-present : goal.returns-in-Ok-clause-present
+returns-in-Ok-clause-present g c absent = torn_no_absence c.torn_answer.result c.torn_answer.ensures.others absent
+
+pub returns-clause-present : goal.returns-clause-present
+returns-clause-present g c absent =
+    of_image_no_absence c.in-Err.answer c.in-Err.ensures.others (absence_of c.in-Err.answer c.refuse.result c.refuse.ensures.line absent)

@@ -232,19 +232,19 @@ pub put_if_else-put_alternative-requires : goal.put_if_else-put_alternative-requ
 put_if_else-put_alternative-requires n c =
     omega (arith, c.in_ok-label.ensures.given, c.in_ok-put_expr.ensures.given, c.in_ok-put.ensures.given, c.in_ok-put_expr-2.ensures.given, c.requires)
 
-pub put_infix-put_expr-requires-in-Both : goal.put_infix-put_expr-requires-in-Both
-put_infix-put_expr-requires-in-Both n c = omega (arith, c.in_ok-put_expr-in-Both.ensures.given, c.in_ok-put-in-Both.ensures.given, c.requires)
+pub put_infix-put_expr-requires-in-Some-Both : goal.put_infix-put_expr-requires-in-Some-Both
+put_infix-put_expr-requires-in-Some-Both n c = omega (arith, c.in_ok-put_expr-in-Some-Both.ensures.given, c.in_ok-put-in-Some-Both.ensures.given, c.requires)
 
-pub put_infix-put_expr-requires-in-Scanning-2 : goal.put_infix-put_expr-requires-in-Scanning-2
-put_infix-put_expr-requires-in-Scanning-2 n c = omega (arith, c.in_ok-put_expr-in-Scanning.ensures.given, c.in_ok-put-in-Scanning.ensures.given, c.requires)
+pub put_infix-put_expr-requires-in-Some-Scanning-2 : goal.put_infix-put_expr-requires-in-Some-Scanning-2
+put_infix-put_expr-requires-in-Some-Scanning-2 n c = omega (arith, c.in_ok-put_expr-in-Some-Scanning.ensures.given, c.in_ok-put-in-Some-Scanning.ensures.given, c.requires)
 
 pub put_infix-put_alternative-requires : goal.put_infix-put_alternative-requires
 put_infix-put_alternative-requires n c =
-    omega (arith, c.in_ok-label-in-Either.ensures.given, c.in_ok-put_expr-in-Either.ensures.given, c.in_ok-put-in-Either.ensures.given, c.requires)
+    omega (arith, c.in_ok-label-in-Some-Either.ensures.given, c.in_ok-put_expr-in-Some-Either.ensures.given, c.in_ok-put-in-Some-Either.ensures.given, c.requires)
 
-pub put_infix-put_expr-requires-in-Limiting : goal.put_infix-put_expr-requires-in-Limiting
-put_infix-put_expr-requires-in-Limiting n c = omega (arith, c.requires)
+pub put_infix-put_expr-requires-in-Some-Limiting : goal.put_infix-put_expr-requires-in-Some-Limiting
+put_infix-put_expr-requires-in-Some-Limiting n c = omega (arith, c.requires)
 
-pub put_augmented-put_expr-requires-in-Scanning : goal.put_augmented-put_expr-requires-in-Scanning
-put_augmented-put_expr-requires-in-Scanning n c =
-    omega (arith, c.in_ok-put_expr-in-Scanning.ensures.given, c.in_ok-put_two-in-Scanning.ensures.given, c.requires)
+pub put_augmented-put_expr-requires-in-Some-Scanning : goal.put_augmented-put_expr-requires-in-Some-Scanning
+put_augmented-put_expr-requires-in-Some-Scanning n c =
+    omega (arith, c.in_ok-put_expr-in-Some-Scanning.ensures.given, c.in_ok-put_two-in-Some-Scanning.ensures.given, c.requires)

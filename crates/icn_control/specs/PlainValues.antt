@@ -1,0 +1,25 @@
+-- Values of operands that slots tell.
+use Rattle.std.specs.Prelude.{◌≡◌, List, Some}
+use Rattle.icn_value.specs.declared.val.Val.{Val}
+use Rattle.icn_value.specs.declared.item.Item.{Item}
+use Rattle.icn_value.specs.declared.item.Item.TheVariants as Items
+use Rattle.icn_frames.specs.declared.slots.StackSlot.{StackSlot}
+use Rattle.icn_frames.specs.CalledWith.{HoldsValue}
+use Rattle.icn_frames.specs.Slots.{plain_operand}
+use Rattle.icn_frames.specs.Stacks.{FlatStack, locals, pop}
+
+-- The value of an operand that a slot tells is told by another slot.
+pub record TellsValue (held : List Val) (slot value : StackSlot) : Type 0 where
+  pub item : Item
+  pub is : Val
+  pub tells : plain_operand slot ≡ Some item
+  pub gives : plain_operand value ≡ Some (Items.Val is)
+  pub holds : HoldsValue held item is
+
+-- The top operand is taken, and a slot tells its value.
+pub record TakesValue (m k : FlatStack) (value : StackSlot) : Type 0 where
+  pub item : Item
+  pub is : Val
+  pub pops : pop m ≡ Some (item, k)
+  pub gives : plain_operand value ≡ Some (Items.Val is)
+  pub holds : HoldsValue (locals k) item is

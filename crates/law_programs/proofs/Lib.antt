@@ -1,0 +1,2 @@
+pub mod WrittenImages
+pub mod ImageRuns
