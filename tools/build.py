@@ -93,6 +93,8 @@ def build(name, out, words):
     begun = time.monotonic()
     long = " (from nothing, half an hour on four processors)" if len(due) > 20 else ""
     print(f"{name}: {len(due)} libraries to prove, and the program{long}", flush=True)
+    if long:
+        print("  first all sources are read, for some minutes in which no library is told", flush=True)
     with open(f"{out}.log", "w", encoding="utf-8") as log:
         run = subprocess.Popen(["rt", "run", "--", *words], cwd=f"crates/{name}", stdout=log, stderr=subprocess.STDOUT)
         while run.poll() is None:

@@ -1,0 +1,2 @@
+pub mod BoundedTurns
+pub mod PartRuns

@@ -1,0 +1,6 @@
+//! Laws of the bound of turns.
+#![tactic(auto)]
+
+mod laws;
+
+pub use laws::bounds_cut_runs;
