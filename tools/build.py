@@ -7,7 +7,8 @@ disk or the memory may not do, that is told and no more: the proofs are tried.
 import os, shutil, subprocess, sys, time
 
 MEGABYTE = 1_000_000
-DISK, MEMORY = 3000 * MEGABYTE, 4000 * MEGABYTE
+# From nothing all sources are read at once: 10.6 GB were seen.
+DISK, MEMORY = 3000 * MEGABYTE, 11000 * MEGABYTE
 
 
 def crates_below(name):
@@ -47,7 +48,7 @@ def look_round():
     if disk < DISK:
         print(f"note: the disk has {disk // MEGABYTE} MB left, and the proofs want about {DISK // MEGABYTE}")
     if memory is not None and memory < MEMORY:
-        print(f"note: {memory // MEGABYTE} MB of memory are free, and the largest proofs may want {MEMORY // MEGABYTE}")
+        print(f"note: {memory // MEGABYTE} MB of memory are free, and from nothing the reading of all sources may want {MEMORY // MEGABYTE}")
 
 
 def stamp(crate):

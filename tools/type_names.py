@@ -40,6 +40,7 @@ ALLOWED = {
     "Standing": "what there is: for a keyword as it is read, and under a name of a file system",
     "Status": MODEL,
     "Store": MODEL,
+    "Streams": "the input and both outputs: the object that a run is handed, and what it tells",
     "UpdateForm": "what an operator with `:=` behind it is, in the code that translates and in the translation of the proof",
     "Why": VIEW,
     "WordsReading": BOTH,

@@ -4,6 +4,6 @@
 mod table;
 
 pub use table::{
-    bounded, coexpressions, errors, failures, generators, joinings, library, loops, plain,
+    bounded_programs, coexpressions, errors, failures, generators, joinings, library, loops, plain,
     readings, scans,
 };

@@ -54,7 +54,7 @@ pub fn library()
 {}
 
 /// Small programs under each bound of turns.
-pub fn bounded()
+pub fn bounded_programs()
     ensures { AllByRecursion Holds bounded_cases }
 {}
 

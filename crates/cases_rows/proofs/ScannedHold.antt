@@ -3,11 +3,11 @@ use Rattle.std.proofs.Common.{refl}
 use Rattle.std.specs.Fmt.{digits}
 use Rattle.std.specs.List.{AllByRecursion}
 use Rattle.cases_rows.specs.Cases.{CaseHolds}
-use Rattle.cases_rows.specs.Scanned.{scanning}
+use Rattle.cases_rows.specs.Scanned.{scans}
 
-pub scanning_hold : AllByRecursion CaseHolds scanning
+pub scans_hold : AllByRecursion CaseHolds scans
 unfolding digits
-scanning_hold = (
+scans_hold = (
   record { saw = refl; facts = refl },
   (
     record { saw = refl; facts = refl },

@@ -27,8 +27,8 @@ abbrev error_count : Item
 error_count = whole (Keyword ErrorCount)
 
 -- the plain setting where error 101 over the text "x" is kept
-abbrev keeping : Setting
-keeping = having_kept (Some (record { number = 101; value = Some (Text (codes "x")) })) plain
+abbrev error_kept : Setting
+error_kept = having_kept (Some (record { number = 101; value = Some (Text (codes "x")) })) plain
 
 -- local 0 holds this text, and the others what they held
 abbrev text_local : List ℕ → Setting → Setting
@@ -88,7 +88,7 @@ variables =
     case (op O.Dereference (error_count ∷ [])) (gives (int 0)) ∷
     -- `errorclear()` forgets an error that is kept, and is null where none is
     case (fn F.ErrorClear []) (gives (Val Null)) ∷
-    case_from keeping (fn F.ErrorClear []) (gives (Val Null)) ∷
+    case_from error_kept (fn F.ErrorClear []) (gives (Val Null)) ∷
     -- parts: the whole text is built, and the part covers what it got
     case (op O.Assign (local_part 0 2 3 ∷ str [] ∷ []))
     (Gave (local_part 0 2 0) (costs 2 0 (text_local (codes "ho") plain)) ∷ []) ∷

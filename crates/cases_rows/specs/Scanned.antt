@@ -12,8 +12,8 @@ abbrev moves : Row → ℕ → List ℕ → RowCase
 moves row place text = case row (Suspended (str text) (having_position place plain) ∷ fails)
 
 -- functions that look for something in a text, and those that move in the subject
-abbrev pub scanning : List RowCase
-scanning =
+abbrev pub scans : List RowCase
+scans =
     -- find
     case (fn F.Find (str (codes "l") ∷ str (codes "hello") ∷ [])) (gives_all (int 3 ∷ int 4 ∷ [])) ∷
     case (fn F.Find (str (codes "l") ∷ [])) (gives_all (int 3 ∷ int 4 ∷ [])) ∷

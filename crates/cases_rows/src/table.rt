@@ -7,7 +7,7 @@ ghost use Rattle.cases_rows.specs.Limited.{limits};
 ghost use Rattle.cases_rows.specs.Numbers.{arithmetic};
 ghost use Rattle.cases_rows.specs.Outside.{input_and_output};
 ghost use Rattle.cases_rows.specs.Reported.{IsGiven, IsReported, reports, words};
-ghost use Rattle.cases_rows.specs.Scanned.{scanning};
+ghost use Rattle.cases_rows.specs.Scanned.{scans};
 ghost use Rattle.cases_rows.specs.Structured.{structures};
 ghost use Rattle.cases_rows.specs.Texts.{texts};
 
@@ -27,8 +27,8 @@ pub fn texts()
 {}
 
 /// Each case of scanning does.
-pub fn scanning()
-    ensures { AllByRecursion CaseHolds scanning }
+pub fn scans()
+    ensures { AllByRecursion CaseHolds scans }
 {}
 
 /// Each case of structures does.

@@ -1,16 +1,28 @@
 -- Answers where a file was not written whole.
-use Rattle.std.proofs.Common.{◌≡◌, ◌⊎◌, inl, inr, sym, refl, ◌∙◌}
+use Rattle.std.proofs.Common.{◌≡◌, ◌⊎◌, ◌↔◌, inl, inr, ℕ, Ok, Err, IsErrOf, sym, ap, refl, subst, ◌∙◌}
+use Rattle.icn_host.specs.Counts.{CountsIf, CountsOnce, Rose}
+use Rattle.icn_host.specs.declared.fault.Fault.{Fault}
+use Rattle.icn_host.specs.declared.fault.Fault.TheVariants as Faults
 use Rattle.icn_answer.specs.declared.answer.Answer.{Answer}
 use Rattle.icn_answer.specs.declared.answer.Answer.TheVariants.{FileFault, ReadFault, WriteFault, NoMemory}
-use Rattle.icn_answer.specs.Answers.{IsAbsence, IsCommand, IsFault, IsRefusal, IsTornFault}
+use Rattle.icn_answer.specs.Answers.{IsAbsence, IsCommand, IsFault, IsRefusal}
+use Rattle.icn_answer.specs.FilesRead.{FilesState, ReadsFiles}
+use Rattle.icn_answer.specs.TornFiles.{IsTornFault}
+use Rattle.icn_answer.proofs.FaultCounts.{counts_if, once_rose}
 
 pub is_torn : (answer : Answer) → (answer ≡ FileFault) ⊎ (answer ≡ NoMemory) → IsFault answer
 is_torn answer (inl e) = rw e refl
 is_torn answer (inr e) = rw e refl
 
-pub torn_fault : (answer : Answer) → (answer ≡ FileFault) ⊎ (answer ≡ NoMemory) → IsTornFault answer
-torn_fault answer (inl e) = rw e tt
-torn_fault answer (inr e) = rw e tt
+-- which count of the files rose
+pub torn_fault : {A : Type 0} (before after : FilesState) (fault : Fault) (answer : Answer) → (answer ≡ FileFault) ↔ (fault ≡ Faults.Failed)
+    → (answer ≡ NoMemory) ↔ (fault ≡ Faults.NoMemory) → (answer ≡ FileFault) ⊎ (answer ≡ NoMemory)
+    → CountsOnce before.faults after.faults (IsErrOf {T = A} (Err fault) Faults.Failed)
+    → CountsOnce before.wants after.wants (IsErrOf {T = A} (Err fault) Faults.NoMemory) → IsTornFault answer before after
+torn_fault before after fault answer failed wanted (inl e) cause want =
+    subst (λ (a : Answer). IsTornFault a before after) (sym e) (once_rose before.faults after.faults (cause.rose (ap (λ f. Err f) (failed.0 e))))
+torn_fault before after fault answer failed wanted (inr e) cause want =
+    subst (λ (a : Answer). IsTornFault a before after) (sym e) (once_rose before.wants after.wants (want.rose (ap (λ f. Err f) (wanted.0 e))))
 
 pub torn_no_absence : (answer : Answer) → (answer ≡ FileFault) ⊎ (answer ≡ NoMemory) → IsAbsence answer → ⊥
 torn_no_absence answer (inl e) a = rw e at a
@@ -31,3 +43,25 @@ torn_no_read answer (inr e) r = let both : NoMemory ≡ ReadFault = sym e ∙ r 
 pub torn_no_write : (answer : Answer) → (answer ≡ FileFault) ⊎ (answer ≡ NoMemory) → answer ≡ WriteFault → ⊥
 torn_no_write answer (inl e) w = let both : FileFault ≡ WriteFault = sym e ∙ w in cc
 torn_no_write answer (inr e) w = let both : NoMemory ≡ WriteFault = sym e ∙ w in cc
+
+-- From the one to the other files were read alone: they hold what they held, and have neither failed nor wanted memory.
+pub record OnlyRead (was now : FilesState) : Type 0 where
+  pub held : now.held ≡ was.held
+  pub faults : now.faults ≡ was.faults
+  pub wants : now.wants ≡ was.wants
+
+pub only_read : {A : Type 0} {a : A} {absent : Type 0} {was now : FilesState} → ReadsFiles {A = A} (Ok a) absent was now → OnlyRead was now
+only_read reads =
+    record { held = reads.files; faults = reads.file_fault.stayed (λ e. cc); wants = reads.file_want.stayed (λ e. cc) }
+
+-- files that were read before
+pub torn_since : (was before after : FilesState) (answer : Answer) → OnlyRead was before → IsTornFault answer before after → IsTornFault answer was after
+torn_since was before after FileFault read rose = subst (λ count. Rose count after.faults) read.faults rose
+torn_since was before after NoMemory read rose = subst (λ count. Rose count after.wants) read.wants rose
+torn_since was before after _ read rose = absurd rose
+
+-- how often the files wanted memory, where one was not written whole
+pub torn_wants : {A : Type 0} {before now : ℕ} (fault : Fault) → CountsOnce before now (IsErrOf {T = A} (Err fault) Faults.NoMemory)
+    → CountsIf before now (fault ≡ Faults.NoMemory)
+torn_wants Faults.Failed want = counts_if want.later (inl (want.stayed (λ e. cc)))
+torn_wants Faults.NoMemory want = counts_if want.later (inr (want.rose refl, refl))

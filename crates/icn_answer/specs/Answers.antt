@@ -82,20 +82,6 @@ IsAbsence ReadFault = ⊥
 IsAbsence WriteFault = ⊥
 IsAbsence NoMemory = ⊥
 
--- what a file may fail to be written whole by: a fault of the files, or want of memory
-abbrev pub IsTornFault : Answer → Type 0
-IsTornFault Wrote = ⊥
-IsTornFault (Ran ending) = ⊥
-IsTornFault (Refused file line rule) = ⊥
-IsTornFault (Command kind) = ⊥
-IsTornFault (Missing name) = ⊥
-IsTornFault (BadUcode name rule) = ⊥
-IsTornFault (BadImage rule) = ⊥
-IsTornFault FileFault = ⊤
-IsTornFault ReadFault = ⊥
-IsTornFault WriteFault = ⊥
-IsTornFault NoMemory = ⊤
-
 -- the call is refused, as a file was not there
 abbrev pub IsErrOfAbsence : {A : Type 0} → Result A Answer → Type 0
 IsErrOfAbsence (Ok a) = ⊥

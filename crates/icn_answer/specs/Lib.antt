@@ -3,3 +3,4 @@ pub mod Endings
 pub mod Lines
 pub mod Refusing
 pub mod FilesRead
+pub mod TornFiles

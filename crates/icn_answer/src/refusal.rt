@@ -56,6 +56,7 @@ pub fn own_line<E: Sink>(fault: &Answer, err: &mut E)
 /// The answer where a file could not be written whole. Its line is put, as far as it can be put.
 pub fn torn_answer<E: Sink>(fault: Fault, err: &mut E) -> Answer
     ensures failed { (result ≡ Answer.FileFault) ↔ (fault ≡ Fault.Failed) }
+    ensures wanted { (result ≡ Answer.NoMemory) ↔ (fault ≡ Fault.NoMemory) }
     ensures others { (result ≡ Answer.FileFault) ⊎ (result ≡ Answer.NoMemory) }
     ensures puts { PutsOwn result (E.state err.old) (E.state err.new) }
 {

@@ -2,3 +2,4 @@ pub mod NameLists
 mod NamesStay
 mod SizesStay
 mod InPlace
+mod HaltedRows

@@ -1,17 +1,16 @@
 -- What is answered names only what has a name, by the law over rows.
-use Rattle.std.proofs.Common.{◌≡◌, ◌∙◌, refl, sym, ap, subst, ◌<◌, arith, true, List, [], ◌∷◌, length, map, Result, Ok, Err}
+use Rattle.std.proofs.Common.{◌≡◌, refl, sym, subst, ◌<◌, arith, List, [], ◌∷◌, length, map, Result, Ok, Err}
 use Rattle.std.specs.Prelude.{IsErrAnd}
 use Rattle.std.specs.List.{All}
 use Rattle.std.specs.Option.{option_map}
 use Rattle.std.proofs.lemmas.List.{length-map}
 use Rattle.std.proofs.lemmas.List.Elements.{All-nil, All-cons, All-head, All-tail, All-weaker}
 use Rattle.icn_text.specs.declared.func.Func.{Func}
-use Rattle.icn_text.specs.declared.func.Func.TheVariants.{Copy}
 use Rattle.icn_value.specs.declared.val.Val.{Val}
 use Rattle.icn_value.specs.declared.val.Val.TheVariants.{Null as NullVal, Integer as IntegerVal, Text as TextVal, Chars as CharsVal, Std as StdVal, Proc as ProcVal, Rec as RecVal, List as ListVal, Set as SetVal, Table as TableVal, Coexp as CoexpVal}
 use Rattle.icn_value.specs.Values.{Value, Item}
-use Rattle.icn_value.specs.Store.{Names, Record, Outside, Setting, outside_of}
-use Rattle.icn_defs.specs.Applying.{function_of, function_row}
+use Rattle.icn_value.specs.Store.{Heap, Names, Record, Outside, Setting, outside_of}
+use Rattle.icn_defs.specs.Applying.{function_of}
 use Rattle.icn_defs.specs.Arguments.{arg}
 use Rattle.icn_defs.specs.ReadAndAssign.{the_values}
 use Rattle.icn_defs.specs.Rows.{Row, Fails, Error, Ends, fails}
@@ -21,7 +20,7 @@ use Rattle.icn_heap.specs.HeapParts.{record_in}
 use Rattle.icn_heap.specs.declared.heap.Heap.{Heap as HeldHeap}
 use Rattle.icn_convert.specs.ProgramNames.{AreRecordsNamed, IsNamed}
 use Rattle.law_names.specs.RowsNamed.{IsThere, OutcomeNamed}
-use Rattle.law_names.specs.NamedSettings.{ItemNamed, RecordNamed, SettingNamed, ValueNamed}
+use Rattle.law_names.specs.NamedSettings.{HeapNamed, ItemNamed, RecordNamed, SettingNamed, ValueNamed}
 use Rattle.law_names.proofs.RowsNamed.{rows_keep_names}
 use Rattle.icn_vars.specs.Outcomes.{ComesToAnswer, outcome_in}
 use Rattle.icn_vars.specs.Stops.{StopsFinding, halt_of}
@@ -35,7 +34,6 @@ use Rattle.icn_vars.specs.declared.stop.Stop.TheVariants.{Error as ErrorStop, No
 use Rattle.icn_vars.specs.declared.world.World.{World}
 use Rattle.icn_streams.specs.Answers.{CallState, setting_with}
 use Rattle.icn_streams.specs.Applies.{Applies}
-use Rattle.icn_iofn.specs.OfFiles.{is_of_files}
 use Rattle.icn_apply.specs.NamesAfter.{AnswerNamed}
 
 -- What is named does not ask for the outside
@@ -87,14 +85,6 @@ applies_named names row before after (Err ReadFault) named is = tt
 applies_named names row before after (Err WriteFault) named is = tt
 applies_named names row before after (Err NoMemory) named is = tt
 
--- whatever the outside
-pub answers_named : (names : Names) (row : Row) (old new : World) (locals : List Val) (result : Result HeldOutcome Halt)
-    → OutcomeNamed names (row (setting_of (outside_of []) old locals))
-    → ((was : Outside) → ComesToAnswer (extent_of new.heap) row (setting_of was old locals) (setting_of was new locals) result)
-    → AnswerNamed names new locals result
-answers_named names row old new locals result named is =
-    comes_named names row (setting_of (outside_of []) old locals) named new locals (outside_of []) result (is (outside_of []))
-
 -- Values of items
 
 pub values_named : (names : Names) (items : List Item) (at : Setting) (values : List Value) → SettingNamed names at → All (ItemNamed names) items
@@ -125,12 +115,10 @@ vals_named names all (val ∷ vals) are =
     All-cons (IsNamed names) val vals (val_named names all val (All-head (ValueNamed names) (value_in all val) (map (value_in all) vals) are))
     (vals_named names all vals (All-tail (ValueNamed names) (value_in all val) (map (value_in all) vals) are))
 
-pub records_named : (names : Names) (world : World) (locals : List Val) (was : Outside) → SettingNamed names (setting_of was world locals)
-    → AreRecordsNamed names (heap_of world.heap)
-records_named names world locals was named =
+pub records_named : (names : Names) (heap : Heap) → HeapNamed names heap → AreRecordsNamed names heap
+records_named names heap named =
     record {
-      kinds = All-weaker (RecordNamed names) (λ (structure : Record). structure.kind < length names.records) (λ structure is. is.0)
-          (heap_of world.heap).records named.world.heap.records;
+      kinds = All-weaker (RecordNamed names) (λ (structure : Record). structure.kind < length names.records) (λ structure is. is.0) heap.records named.records;
     }
 
 -- Records that are there
@@ -170,17 +158,6 @@ pub function_named : (names : Names) (func : Func) (world : World) (locals : Lis
 function_named names func world locals was vals named are live =
     rows_keep_names.functions names func (map (value_in (extent_of world.heap)) vals) (setting_of was world locals) named are
     (λ is_copy. first_there world.heap vals live)
-
-pub copies_nothing : (func : Func) → is_of_files func ≡ true → func ≡ Copy → ⊥
-copies_nothing func is same = let both : is_of_files Copy ≡ true = sym (ap is_of_files same) ∙ is in cc
-
--- a function over files, of items
-pub file_function_named : (names : Names) (func : Func) (items : List Item) (at : Setting) → is_of_files func ≡ true → SettingNamed names at
-    → All (ItemNamed names) items
-    → OutcomeNamed names (function_row names func items at)
-file_function_named names func items at is named are =
-    rows_keep_names.values names items (function_of names func) at named are
-    (λ values these. rows_keep_names.functions names func values at named these (λ same. absurd (copies_nothing func is same)))
 
 -- what stopped the reading of items
 pub stop_named : (names : Names) (items : List Item) (world : World) (locals : List Val) (stop : Stop) (result : Result HeldOutcome Halt)

@@ -1,11 +1,10 @@
 -- What is answered leaves records as long as their kinds, by the law over rows.
-use Rattle.std.proofs.Common.{◌≡◌, ℕ, refl, subst, true, List, [], map, Result, Ok, Err}
+use Rattle.std.proofs.Common.{◌≡◌, ℕ, refl, subst, List, map, Result, Ok, Err}
 use Rattle.std.specs.List.{All}
 use Rattle.icn_text.specs.declared.func.Func.{Func}
 use Rattle.icn_value.specs.declared.val.Val.{Val}
-use Rattle.icn_value.specs.Values.{Item}
 use Rattle.icn_value.specs.Store.{Names, Outside, Setting, outside_of}
-use Rattle.icn_defs.specs.Applying.{function_of, function_row}
+use Rattle.icn_defs.specs.Applying.{function_of}
 use Rattle.icn_defs.specs.Rows.{Row, Outcome}
 use Rattle.icn_heap.specs.Extents.{IsLive, value_in}
 use Rattle.icn_heap.specs.Heaps.{extent_of, heap_of}
@@ -20,9 +19,8 @@ use Rattle.icn_vars.specs.declared.outcome.Halt.TheVariants.{Error as ErrorHalt,
 use Rattle.icn_vars.specs.declared.world.World.{World}
 use Rattle.icn_streams.specs.Answers.{CallState, setting_with}
 use Rattle.icn_streams.specs.Applies.{Applies}
-use Rattle.icn_iofn.specs.OfFiles.{is_of_files}
 use Rattle.icn_apply.specs.SizesAfter.{AnswerKeepsSizes}
-use Rattle.icn_apply.proofs.NamesStay.{copies_nothing, first_there}
+use Rattle.icn_apply.proofs.NamesStay.{first_there}
 
 -- from the heap of a world to what an outcome leaves
 abbrev pub Sized : World → Outcome → Type 0
@@ -76,29 +74,10 @@ applies_sized row before after (Err ReadFault) sized is = tt
 applies_sized row before after (Err WriteFault) sized is = tt
 applies_sized row before after (Err NoMemory) sized is = tt
 
--- whatever the outside
-answers_sized : (row : Row) (old new : World) (locals : List Val) (result : Result HeldOutcome Halt) → Sized old (row (setting_of (outside_of []) old locals))
-    → ((was : Outside) → ComesToAnswer (extent_of new.heap) row (setting_of was old locals) (setting_of was new locals) result)
-    → AnswerKeepsSizes old new result
-answers_sized row old new locals result sized is =
-    comes_sized row (setting_of (outside_of []) old locals) old sized new locals (outside_of []) result (is (outside_of []))
-
--- Functions
-
--- of values of a world
-pub function_sized : (names : Names) (func : Func) (old new : World) (locals vals : List Val) (result : Result HeldOutcome Halt)
-    → All (IsLive (extent_of old.heap)) vals
-    → ((was : Outside) → ComesToAnswer (extent_of new.heap) (function_of names func (map (value_in (extent_of old.heap)) vals)) (setting_of was old locals)
-    (setting_of was new locals) result)
-    → AnswerKeepsSizes old new result
-function_sized names func old new locals vals result live is =
-    answers_sized (function_of names func (map (value_in (extent_of old.heap)) vals)) old new locals result
-    (λ sizes. rows_keep_sizes.functions sizes names func (map (value_in (extent_of old.heap)) vals) (setting_of (outside_of []) old locals)
-    (λ is_copy. first_there old.heap vals live)) is
-
--- a function over files, of items
-pub file_function_sized : (names : Names) (func : Func) (items : List Item) (at : Setting) → is_of_files func ≡ true
-    → (sizes : ℕ → ℕ) → KeepSizes sizes at.world.heap (heap_after (function_row names func items at))
-file_function_sized names func items at is = λ sizes.
-    rows_keep_sizes.values sizes items (function_of names func) at
-    (λ values. rows_keep_sizes.functions sizes names func values at (λ same. absurd (copies_nothing func is same)))
+-- a function of values of a world
+pub function_sized : (names : Names) (func : Func) (world : World) (locals : List Val) (was : Outside) (vals : List Val)
+    → All (IsLive (extent_of world.heap)) vals
+    → Sized world (function_of names func (map (value_in (extent_of world.heap)) vals) (setting_of was world locals))
+function_sized names func world locals was vals live = λ sizes.
+    rows_keep_sizes.functions sizes names func (map (value_in (extent_of world.heap)) vals) (setting_of was world locals)
+    (λ is_copy. first_there world.heap vals live)

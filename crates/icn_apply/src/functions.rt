@@ -1,43 +1,45 @@
-// Functions, by what they are over.
-ghost use Rattle.std.specs.Prelude.{◌≡◌, [], map, true};
+// The row of each function.
+ghost use Rattle.std.specs.Prelude.{◌≡◌, [], map};
 ghost use Rattle.std.specs.List.{All};
-ghost use Rattle.icn_text.specs.declared.func.Func.TheVariants.{ErrorClear};
 ghost use Rattle.icn_value.specs.Store.{outside_of};
-ghost use Rattle.icn_defs.specs.Applying.{function_row};
-ghost use Rattle.icn_heap.specs.Extents.{IsLive};
-ghost use Rattle.icn_heap.specs.Heaps.{extent_of};
-ghost use Rattle.law_names.specs.NamedSettings.{ItemNamed, SettingNamed};
+ghost use Rattle.icn_defs.specs.Applying.{function_of, function_row};
+ghost use Rattle.icn_heap.specs.Extents.{IsLive, value_in};
+ghost use Rattle.icn_heap.specs.Heaps.{extent_of, heap_of};
+ghost use Rattle.icn_convert.specs.ProgramNames.{IsNamed};
+ghost use Rattle.law_names.specs.NamedSettings.{HeapNamed, ItemNamed, SettingNamed};
 ghost use Rattle.icn_vars.specs.Worlds.{IsLiveItem, item_in, reach_of, setting_of};
 ghost use Rattle.icn_streams.specs.Answers.{call_state};
 ghost use Rattle.icn_streams.specs.Applies.{Applies};
-ghost use Rattle.icn_streams.specs.Handed.{CallStreams, call_streams};
-ghost use Rattle.icn_strfn.specs.Functions.{is_string_function};
-ghost use Rattle.icn_scanfn.specs.Functions.{is_scanning_function};
-ghost use Rattle.icn_structfn.specs.Functions.{is_of_structures};
+ghost use Rattle.icn_apply.specs.HaltedAnswers.{as_answer};
 ghost use Rattle.icn_apply.specs.NamesAfter.{AnswerNamed};
 ghost use Rattle.icn_apply.specs.SizesAfter.{AnswerKeepsSizes};
 
 use crate::errors::errorclear_row;
-use crate::function_groups::{FunctionGroup, kind_of};
 use icn_args::values_of;
 use icn_convert::Names;
-use icn_host::{Sink, Source};
+use icn_iofn::exit;
+use icn_scanfn::{
+    any_row, bal_row, find_row, many_row, match_row, move_row, pos_row, tab_row, upto_row,
+};
+use icn_streams::Streams;
+use icn_strfn::{
+    Layout, abs_row, char_row, cset_row, field_row, iand_row, icom_row, image_row, integer_row,
+    ior_row, ishift_row, ixor_row, map_row, ord_row, repl_row, reverse_row, seq_row, string_row,
+    trim_row, type_row,
+};
 use icn_text::Func;
-use icn_value::Item;
-use icn_vars::{Halt, Locals, Outcome, World};
+use icn_value::{Item, Val};
+use icn_vars::{Halt, Locals, Outcome, Stop, World};
 
 /// Applies a function to items. `Halt` is the run-time error of its row, the end of the program by `exit`, a reading or a
 /// writing that failed, or want of memory.
-pub fn apply_function<L: Locals, N: Names, I: Source, O: Sink, E: Sink>(
+pub fn apply_function<L: Locals, N: Names, S: Streams>(
     func: Func,
     args: &[Item],
     w: &mut World,
     l: &L,
     names: &N,
-    buffer: &mut Vec<u8>,
-    input: &mut I,
-    out: &mut O,
-    err: &mut E,
+    streams: &mut S,
 ) -> Result<Outcome, Halt>
     requires locals { All (IsLive (extent_of w.old.heap)) (L.items l.now) }
     requires args { All (IsLiveItem (reach_of w.old (L.items l.now))) args.now }
@@ -46,113 +48,95 @@ pub fn apply_function<L: Locals, N: Names, I: Source, O: Sink, E: Sink>(
         (map (item_in (extent_of w.old.heap)) args.now) }
     ensures applies { Applies (function_row (N.known names.now) func
         (map (item_in (extent_of w.old.heap)) args.now))
-        (call_state w.old (L.items l.now)
-        (call_streams (I.left input.old) (I.counts input.old) (O.state out.old) (E.state err.old)))
-        (call_state w.new (L.items l.now)
-        (call_streams (I.left input.new) (I.counts input.new) (O.state out.new) (E.state err.new))) result }
+        (call_state w.old (L.items l.now) (S.state streams.old))
+        (call_state w.new (L.items l.now) (S.state streams.new)) result }
     ensures named { AnswerNamed (N.known names.now) w.new (L.items l.now) result }
     ensures sized { AnswerKeepsSizes w.old w.new result }
 {
-    match kind_of(func) {
-        FunctionGroup::Errors => apply_errorclear(args, w, l, names),
-        FunctionGroup::Files => icn_iofn::first(func, args, w, l, buffer, input, out, err),
-        FunctionGroup::Scanning => apply_scanning(func, args, w, l, names),
-        FunctionGroup::Strings => apply_to_strings(func, args, w, l, names),
-        FunctionGroup::Structures => apply_to_structures(func, args, w, l, names),
+    let vals = values_of(w, l, args)?;
+    apply_to_values(func, &vals, w, l, names, streams)
+}
+
+// Applies a function to the values of its arguments; one that is missing is null.
+fn apply_to_values<L: Locals, N: Names, S: Streams>(
+    func: Func,
+    vals: &[Val],
+    w: &mut World,
+    l: &L,
+    names: &N,
+    streams: &mut S,
+) -> Result<Outcome, Halt>
+    requires locals { All (IsLive (extent_of w.old.heap)) (L.items l.now) }
+    requires vals { All (IsLive (extent_of w.old.heap)) vals.now }
+    requires named { All (IsNamed (N.known names.now)) vals.now }
+    requires heap_named { HeapNamed (N.known names.now) (heap_of w.old.heap) }
+    ensures { Applies (function_of (N.known names.now) func (map (value_in (extent_of w.old.heap)) vals.now))
+        (call_state w.old (L.items l.now) (S.state streams.old))
+        (call_state w.new (L.items l.now) (S.state streams.new)) result }
+{
+    match func {
+        Func::Abs => as_answer(abs_row(w, l, vals)),
+        Func::Any => any_row(w, l, vals),
+        Func::Bal => bal_row(w, l, vals),
+        Func::Center => as_answer(field_row(w, l, Layout::Center, vals)),
+        Func::Char => as_answer(char_row(w, l, vals)),
+        Func::Copy => icn_structfn::copy(w, l, vals),
+        Func::Cset => as_answer(cset_row(w, l, vals)),
+        Func::Delete => icn_structfn::delete(w, l, vals),
+        Func::Exit => exit(&w.heap, vals),
+        Func::Find => find_row(w, l, vals),
+        Func::Get => icn_structfn::get(w, l, vals),
+        Func::Iand => as_answer(iand_row(w, l, vals)),
+        Func::Icom => as_answer(icom_row(w, l, vals)),
+        Func::Image => as_answer(image_row(names, w, l, vals)),
+        Func::Insert => icn_structfn::insert(w, l, vals),
+        Func::Integer => as_answer(integer_row(w, l, vals)),
+        Func::Ior => as_answer(ior_row(w, l, vals)),
+        Func::Ishift => as_answer(ishift_row(w, l, vals)),
+        Func::Ixor => as_answer(ixor_row(w, l, vals)),
+        Func::Key => icn_structfn::key(w, l, vals),
+        Func::Left => as_answer(field_row(w, l, Layout::Left, vals)),
+        Func::List => icn_structfn::list(w, l, vals),
+        Func::Many => many_row(w, l, vals),
+        Func::Map => as_answer(map_row(w, l, vals)),
+        Func::Match => match_row(w, l, vals),
+        Func::Member => icn_structfn::member(w, l, vals),
+        Func::Move => move_row(w, l, vals),
+        Func::Numeric => as_answer(integer_row(w, l, vals)),
+        Func::Ord => as_answer(ord_row(w, l, vals)),
+        Func::Pop => icn_structfn::get(w, l, vals),
+        Func::Pos => pos_row(w, l, vals),
+        Func::Pull => icn_structfn::pull(w, l, vals),
+        Func::Push => icn_structfn::push(w, l, vals),
+        Func::Put => icn_structfn::put(w, l, vals),
+        Func::Read => streams.read(vals, w, l),
+        Func::Reads => streams.reads(vals, w, l),
+        Func::Repl => as_answer(repl_row(w, l, vals)),
+        Func::Reverse => as_answer(reverse_row(w, l, vals)),
+        Func::Right => as_answer(field_row(w, l, Layout::Right, vals)),
+        Func::Seq => as_answer(seq_row(w, l, vals)),
+        Func::Set => icn_structfn::set(w, l, vals),
+        Func::Sort => icn_structfn::sort(w, l, names, vals),
+        Func::Stop => streams.stop(vals, w, l),
+        Func::String => as_answer(string_row(w, l, vals)),
+        Func::Tab => tab_row(w, l, vals),
+        Func::Table => icn_structfn::table(w, l, vals),
+        Func::Trim => as_answer(trim_row(w, l, vals)),
+        Func::TypeOf => as_answer(type_row(names, w, l, vals)),
+        Func::Upto => upto_row(w, l, vals),
+        Func::Write => streams.write(vals, w, l),
+        Func::Writes => streams.writes(vals, w, l),
+        Func::ErrorClear => errorclear_row(w, l),
     }
 }
 
-// Applies the function over the error that is kept to items.
-fn apply_errorclear<L: Locals, N: Names>(
-    args: &[Item],
-    w: &mut World,
-    l: &L,
-    _names: &N,
-) -> Result<Outcome, Halt>
-    requires locals { All (IsLive (extent_of w.old.heap)) (L.items l.now) }
-    requires args { All (IsLiveItem (reach_of w.old (L.items l.now))) args.now }
-    requires named { SettingNamed (N.known _names.now) (setting_of (outside_of []) w.old (L.items l.now)) }
-    requires args_named { All (ItemNamed (N.known _names.now))
-        (map (item_in (extent_of w.old.heap)) args.now) }
-    ensures applies { (handed : CallStreams)
-        → Applies (function_row (N.known _names.now) ErrorClear
-        (map (item_in (extent_of w.old.heap)) args.now))
-        (call_state w.old (L.items l.now) handed) (call_state w.new (L.items l.now) handed) result }
-    ensures named { AnswerNamed (N.known _names.now) w.new (L.items l.now) result }
-    ensures sized { AnswerKeepsSizes w.old w.new result }
+// What a row answers that neither ends the program nor meets a fault, as an answer that could.
+fn as_answer(answer: Result<Outcome, Stop>) -> Result<Outcome, Halt>
+    ensures { result ≡ as_answer answer }
 {
-    let _vals = values_of(w, l, args)?;
-    errorclear_row(w, l)
-}
-
-// Applies a function of scanning to items.
-fn apply_scanning<L: Locals, N: Names>(
-    func: Func,
-    args: &[Item],
-    w: &mut World,
-    l: &L,
-    _names: &N,
-) -> Result<Outcome, Halt>
-    requires function { is_scanning_function func ≡ true }
-    requires locals { All (IsLive (extent_of w.old.heap)) (L.items l.now) }
-    requires args { All (IsLiveItem (reach_of w.old (L.items l.now))) args.now }
-    requires named { SettingNamed (N.known _names.now) (setting_of (outside_of []) w.old (L.items l.now)) }
-    requires args_named { All (ItemNamed (N.known _names.now))
-        (map (item_in (extent_of w.old.heap)) args.now) }
-    ensures applies { (handed : CallStreams)
-        → Applies (function_row (N.known _names.now) func (map (item_in (extent_of w.old.heap)) args.now))
-        (call_state w.old (L.items l.now) handed) (call_state w.new (L.items l.now) handed) result }
-    ensures named { AnswerNamed (N.known _names.now) w.new (L.items l.now) result }
-    ensures sized { AnswerKeepsSizes w.old w.new result }
-{
-    let vals = values_of(w, l, args)?;
-    icn_scanfn::first(func, &vals, w, l)
-}
-
-// Applies a function over integers, texts and csets to items.
-fn apply_to_strings<L: Locals, N: Names>(
-    func: Func,
-    args: &[Item],
-    w: &mut World,
-    l: &L,
-    names: &N,
-) -> Result<Outcome, Halt>
-    requires function { is_string_function func ≡ true }
-    requires locals { All (IsLive (extent_of w.old.heap)) (L.items l.now) }
-    requires args { All (IsLiveItem (reach_of w.old (L.items l.now))) args.now }
-    requires named { SettingNamed (N.known names.now) (setting_of (outside_of []) w.old (L.items l.now)) }
-    requires args_named { All (ItemNamed (N.known names.now))
-        (map (item_in (extent_of w.old.heap)) args.now) }
-    ensures applies { (handed : CallStreams)
-        → Applies (function_row (N.known names.now) func (map (item_in (extent_of w.old.heap)) args.now))
-        (call_state w.old (L.items l.now) handed) (call_state w.new (L.items l.now) handed) result }
-    ensures named { AnswerNamed (N.known names.now) w.new (L.items l.now) result }
-    ensures sized { AnswerKeepsSizes w.old w.new result }
-{
-    let vals = values_of(w, l, args)?;
-    icn_strfn::first(names, func, &vals, w, l)
-}
-
-// Applies a function over structures to items.
-fn apply_to_structures<L: Locals, N: Names>(
-    func: Func,
-    args: &[Item],
-    w: &mut World,
-    l: &L,
-    names: &N,
-) -> Result<Outcome, Halt>
-    requires function { is_of_structures func ≡ true }
-    requires locals { All (IsLive (extent_of w.old.heap)) (L.items l.now) }
-    requires args { All (IsLiveItem (reach_of w.old (L.items l.now))) args.now }
-    requires named { SettingNamed (N.known names.now) (setting_of (outside_of []) w.old (L.items l.now)) }
-    requires args_named { All (ItemNamed (N.known names.now))
-        (map (item_in (extent_of w.old.heap)) args.now) }
-    ensures applies { (handed : CallStreams)
-        → Applies (function_row (N.known names.now) func (map (item_in (extent_of w.old.heap)) args.now))
-        (call_state w.old (L.items l.now) handed) (call_state w.new (L.items l.now) handed) result }
-    ensures named { AnswerNamed (N.known names.now) w.new (L.items l.now) result }
-    ensures sized { AnswerKeepsSizes w.old w.new result }
-{
-    let vals = values_of(w, l, args)?;
-    icn_structfn::first(w, l, names, func, &vals)
+    match answer {
+        Ok(outcome) => Ok(outcome),
+        Err(Stop::Error(number, offending)) => Err(Halt::Error(number, offending)),
+        Err(Stop::NoMemory) => Err(Halt::NoMemory),
+    }
 }

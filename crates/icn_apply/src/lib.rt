@@ -5,7 +5,6 @@ mod applied;
 mod applying;
 mod code_names;
 mod errors;
-mod function_groups;
 mod functions;
 mod names;
 

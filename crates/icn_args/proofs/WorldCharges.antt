@@ -1,5 +1,5 @@
 -- What a call over a world says of a change of its heap.
-use Rattle.std.proofs.Common.{◌≡◌, ℕ, List}
+use Rattle.std.proofs.Common.{◌≡◌, List}
 use Rattle.std.specs.Prelude.{IsErrAnd, Result}
 use Rattle.std.specs.List.{All}
 use Rattle.icn_value.specs.declared.full.Full.{Full}

@@ -1,7 +1,8 @@
 // Texts that are made, and charged.
-ghost use Rattle.std.specs.Prelude.{◌≡◌, ◌++◌, ◌∷◌, [], length, IfErr, IfOk};
+ghost use Rattle.std.specs.Prelude.{◌≡◌, ◌++◌, ◌∷◌, [], length, IfErr, IfOk, OnErr};
 ghost use Rattle.std.specs.List.{All};
 ghost use Rattle.icn_value.specs.Store.{Outside};
+ghost use Rattle.icn_convert.specs.TextCharges.{MakesNoText};
 ghost use Rattle.icn_defs.specs.Rows.{costs_bytes, costs_text, costs_texts};
 ghost use Rattle.icn_heap.specs.Extents.{IsLive, IsText, text_in, value_in};
 ghost use Rattle.icn_heap.specs.Heaps.{extent_of};
@@ -13,7 +14,8 @@ use icn_convert::to_text;
 use icn_value::{Span, Val};
 use icn_vars::{Locals, Stop, World};
 
-/// The text of a value that has one, as `check_text` finds. A text that is made is charged. The errors are 306 and want of memory.
+/// The text of a value that has one, as `check_text` finds. A text that is made is charged. The errors are 306 and want of memory,
+/// and there is none where no text is made.
 #[tactic(auto, using(icn_vars::proofs::GrowingWorlds::grows))]
 pub fn text_of<L: Locals>(w: &mut World, l: &L, val: Val) -> Result<Span, Stop>
     requires locals { All (IsLive (extent_of w.old.heap)) (L.items l.now) }
@@ -26,6 +28,7 @@ pub fn text_of<L: Locals>(w: &mut World, l: &L, val: Val) -> Result<Span, Stop>
     ensures step { (outside : Outside)
         → IsPassed (extent_of w.new.heap) (costs_text (value_in (extent_of w.old.heap) val))
         (setting_of outside w.old (L.items l.now)) (setting_of outside w.new (L.items l.now)) result }
+    ensures held { MakesNoText (value_in (extent_of w.old.heap) val) → OnErr result ⊥ }
     ensures locals { All (IsLive (extent_of w.new.heap)) (L.items l.now) }
     ensures kept { KeepsItems (reach_of w.old (L.items l.now)) (reach_of w.new (L.items l.now)) }
 {

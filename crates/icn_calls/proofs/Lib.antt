@@ -4,3 +4,4 @@ pub mod InvokeSteps
 pub mod ParameterSteps
 pub mod RecordSteps
 pub mod RuleSteps
+mod FunctionPlaces

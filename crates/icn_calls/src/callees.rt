@@ -1,5 +1,5 @@
 // What is called by a number.
-ghost use Rattle.std.specs.Prelude.{◌≡◌, ◌+◌, List, length, IfSome};
+ghost use Rattle.std.specs.Prelude.{◌≡◌, ◌+◌, List, length, slice_get, IfSome};
 ghost use Rattle.icn_defs.specs.Numbers.{func_of};
 ghost use Rattle.icn_heap.specs.Extents.{Extent, value_in};
 ghost use Rattle.icn_run.specs.Rows.{Function, Item, apply};
@@ -9,7 +9,6 @@ ghost use Rattle.icn_code.specs.CodeTables.{tables_of};
 ghost use Rattle.icn_calls.specs.Calling.{IsCallee, function_in};
 
 use icn_code::Code;
-use icn_defs::func_numbered;
 use icn_text::Func;
 use icn_value::Val;
 
@@ -40,14 +39,18 @@ pub(crate) fn record_count(code: &Code) -> usize
     code.records.as_slice().len()
 }
 
+// The function at a place among some, if there is one.
+fn function_among(funcs: &[Func], place: usize) -> Option<Func>
+    ensures { result ≡ slice_get funcs.now place }
+{
+    funcs.get(place).copied()
+}
+
 // The function of a number, where the first one has the number 0.
 fn function_at(place: u32) -> Option<Func>
     ensures { result ≡ func_of (place + 1) }
 {
-    match place.checked_add(1) {
-        Some(number) => func_numbered(number),
-        None => None,
-    }
+    function_among(&Func::ALL, place as usize)
 }
 
 /// What a number names in a code. It takes no memory.

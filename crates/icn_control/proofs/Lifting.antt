@@ -5,7 +5,6 @@ use Rattle.icn_heap.specs.declared.heap.Heap.{Heap as HeldHeap}
 use Rattle.icn_heap.specs.Extents.{Extent}
 use Rattle.icn_heap.specs.Heaps.{extent_of}
 use Rattle.icn_vars.specs.declared.world.World.{World}
-use Rattle.icn_vars.specs.declared.outcome.Halt.TheVariants as Halts
 use Rattle.icn_vars.specs.Worlds.{world_of}
 use Rattle.icn_frames.specs.Stacks as held
 use Rattle.icn_frames.specs.Stacks.{FlatStack}

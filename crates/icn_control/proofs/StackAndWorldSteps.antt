@@ -7,7 +7,6 @@ use Rattle.icn_value.specs.declared.item.Item.{Item}
 use Rattle.icn_value.specs.declared.item.Item.TheVariants.{Val as HeldVal}
 use Rattle.icn_value.specs.declared.item.Pair.{Pair as HeldPair}
 use Rattle.icn_value.specs.Store.{World as StoreWorld}
-use Rattle.icn_value.specs.Values.{Value}
 use Rattle.icn_defs.specs.Conversions.{integer_of}
 use Rattle.icn_defs.specs.Rows.{Outcome}
 use Rattle.icn_heap.specs.declared.heap.Heap.{Heap as HeldHeap}

@@ -12,7 +12,7 @@ use Rattle.icn_coexp.specs.Transfers.{Coexp, CoexpTable, source}
 use Rattle.icn_run.specs.Rows as rows
 use Rattle.icn_run.specs.Stacks.{Frames, flat}
 use Rattle.icn_run.specs.Step as code
-use Rattle.icn_run.specs.Step.{Store, Status, Fresh, Active, Waiting, Exhausted, running, failing, activator_of, status_of, with_status, with_activator, make_active, fail_by, give_by, passed_failure, passed_value}
+use Rattle.icn_run.specs.Step.{Store, Status, Fresh, Active, Waiting, Exhausted, running, failing, activator_of, with_status, with_activator, make_active, fail_by, give_by, passed_failure, passed_value}
 use Rattle.icn_control.specs.Machines.{status_in, coexp_in}
 use Rattle.icn_control.specs.StackViews.{stack_in, reading_of}
 use Rattle.icn_control.specs.TransfersRead.{Beside, store_with, land, TransfersAreRead}

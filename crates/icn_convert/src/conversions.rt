@@ -6,7 +6,7 @@ ghost use Rattle.icn_value.specs.Members.{members_of};
 ghost use Rattle.icn_defs.specs.Conversions.{integer_of, cset_of, text_of};
 ghost use Rattle.icn_heap.specs.Extents.{IsLive, IsText, KeepsValues, text_in, value_in};
 ghost use Rattle.icn_heap.specs.Heaps.{extent_of, heap_of};
-ghost use Rattle.icn_convert.specs.TextCharges.{heap_with_text};
+ghost use Rattle.icn_convert.specs.TextCharges.{MakesNoText, heap_with_text};
 
 use crate::csets::{cset_of_text, text_of_cset};
 use icn_heap::Heap;
@@ -41,7 +41,7 @@ pub fn to_cset(heap: &Heap, val: Val) -> Option<Cset>
 }
 
 /// The text of a value, which is charged where it is made. `None` comes exactly where a value has no text. The error is the
-/// limit that refuses the charge, or else want of memory; the heap is then as it was.
+/// limit that refuses the charge, or else want of memory; the heap is then as it was. There is none where no text is made.
 pub fn to_text(heap: &mut Heap, val: Val) -> Result<Option<Span>, Full>
     requires { IsLive (extent_of heap.old) val }
     ensures live { IfOk result (λ found. IfSome found (IsText (extent_of heap.new))) }
@@ -52,6 +52,7 @@ pub fn to_text(heap: &mut Heap, val: Val) -> Result<Option<Span>, Full>
         (Refuses (heap_with_text (heap_of heap.old) (value_in (extent_of heap.old) val))) }
     ensures limits { LimitsFirst (heap_with_text (heap_of heap.old) (value_in (extent_of heap.old) val))
         result }
+    ensures held { MakesNoText (value_in (extent_of heap.old) val) → OnErr result ⊥ }
     ensures kept { KeepsValues (extent_of heap.old) (extent_of heap.new) }
     ensures unchanged { OnErr result (heap_of heap.new ≡ heap_of heap.old) }
 {

@@ -3,7 +3,7 @@ use Rattle.std.proofs.Common.{◌≡◌, ℕ, zero, suc, ◌+◌, List, [], ◌�
 use Rattle.std.specs.Prelude.{drop, map, take}
 use Rattle.std.specs.Io.KnownBytes.{Keeps}
 use Rattle.std.proofs.lemmas.List.{drop-drop, append_assoc, append-nil}
-use Rattle.icn_host.specs.Counts.{one_more, raised}
+use Rattle.icn_host.specs.Counts.{one_more, raised_count}
 use Rattle.icn_host.specs.Sinks.{Gains}
 use Rattle.icn_host.proofs.KeptSteps.{gains_keeps, keeps_gains}
 use Rattle.icn_host.proofs.SinkSteps.{gains_nothing, gains_then}
@@ -33,7 +33,7 @@ left_then left (OutputByte byte ∷ a) b = left_then left a b
 left_then left (ErrorByte byte ∷ a) b = left_then left a b
 
 -- how often the input was called
-pub calls_then : (calls : ℕ) (a b : List Event) → raised calls (readings_in (a ++ b)) ≡ raised (raised calls (readings_in a)) (readings_in b)
+pub calls_then : (calls : ℕ) (a b : List Event) → raised_count calls (readings_in (a ++ b)) ≡ raised_count (raised_count calls (readings_in a)) (readings_in b)
 calls_then calls [] b = refl
 calls_then calls (AReading asked ∷ a) b = calls_then (one_more calls) a b
 calls_then calls (OutputByte byte ∷ a) b = calls_then calls a b
@@ -140,7 +140,7 @@ pub stands_then : {a b c : Streams} {left : List ℕ} {x y : List Event} → Sta
     → StandsBehind left (x ++ y) a c
 stands_then {a} {b} {c} {left} {x} {y} first second = record {
   rest = second.rest ∙ ap (λ (l : List ℕ). Some l) (sym (left_then left x y));
-  calls = second.calls ∙ ap (λ (n : ℕ). raised n (readings_in y)) first.calls ∙ sym (calls_then a.calls x y);
+  calls = second.calls ∙ ap (λ (n : ℕ). raised_count n (readings_in y)) first.calls ∙ sym (calls_then a.calls x y);
   output = subst (Gains a.output c.output) (sym (output_then x y)) (gains_then first.output second.output);
   errors = subst (Gains a.errors c.errors) (sym (errors_then x y)) (gains_then first.errors second.errors);
 }
@@ -149,7 +149,7 @@ pub then_in_reading : {a b c : Streams} {left : List ℕ} {x y : List Event} {as
     → StandsInReading (left_behind left x) y asked b c → StandsInReading left (x ++ y) asked a c
 then_in_reading {a} {b} {c} {left} {x} {y} {asked} first second = record {
   rest = subst (λ (l : List ℕ). LosesPart l (asked_of asked l) c.left) (sym (left_then left x y)) second.rest;
-  calls = second.calls ∙ ap (λ (n : ℕ). one_more (raised n (readings_in y))) first.calls ∙ ap one_more (sym (calls_then a.calls x y));
+  calls = second.calls ∙ ap (λ (n : ℕ). one_more (raised_count n (readings_in y))) first.calls ∙ ap one_more (sym (calls_then a.calls x y));
   output = subst (Gains a.output c.output) (sym (output_then x y)) (gains_then first.output second.output);
   errors = subst (Gains a.errors c.errors) (sym (errors_then x y)) (gains_then first.errors second.errors);
 }
@@ -170,7 +170,7 @@ pub kept_stands : (a b c : Streams) {left : List ℕ} {x : List Event} → b.cal
     → StandsBehind left x a c
 kept_stands a b c {left} {x} calls output errors stands = record {
   rest = stands.rest;
-  calls = stands.calls ∙ ap (λ (n : ℕ). raised n (readings_in x)) calls;
+  calls = stands.calls ∙ ap (λ (n : ℕ). raised_count n (readings_in x)) calls;
   output = keeps_gains output stands.output;
   errors = keeps_gains errors stands.errors;
 }
@@ -180,7 +180,7 @@ pub kept_in_reading : (a b c : Streams) {left : List ℕ} {x : List Event} {aske
     → StandsInReading left x asked b c → StandsInReading left x asked a c
 kept_in_reading a b c {left} {x} {asked} calls output errors stands = record {
   rest = stands.rest;
-  calls = stands.calls ∙ ap (λ (n : ℕ). one_more (raised n (readings_in x))) calls;
+  calls = stands.calls ∙ ap (λ (n : ℕ). one_more (raised_count n (readings_in x))) calls;
   output = keeps_gains output stands.output;
   errors = keeps_gains errors stands.errors;
 }

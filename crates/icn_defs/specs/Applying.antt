@@ -67,7 +67,7 @@ operation_on SectionPlus x y z = section_plus_row x y z
 operation_on SectionMinus x y z = section_minus_row x y z
 operation_on ToBy x y z = to_by_row x y z
 
--- an operand by its index, from 0 on
+-- an operand by its index, from 0 on; one that is missing is null, as a missing argument is
 abbrev pub operand : List Item → ℕ → Item
 operand items index = unwrap_or (slice_get items index) (Val Null)
 

@@ -1,7 +1,7 @@
 -- What a run leaves in the streams that it was handed: where it ended, and where a fault or want of memory
 -- broke it off. All is said of what is observed of the run, since every run ends.
 use Rattle.std.specs.Prelude.{◌≡◌, ◌==◌, ◌+◌, ◌≤◌, ℕ, not, List, [], ◌∷◌, ◌++◌, drop, length, take_while, Option, Some}
-use Rattle.icn_host.specs.Counts.{one_more, raised}
+use Rattle.icn_host.specs.Counts.{one_more, raised_count}
 use Rattle.icn_host.specs.Sinks.{Gains}
 use Rattle.icn_value.specs.Store.{Request, ALine, SomeBytes, Event, AReading, OutputByte, ErrorByte, Outside, output_in, errors_in, readings_in, with_reading}
 use Rattle.icn_defs.specs.Running.{Observation}
@@ -47,7 +47,7 @@ pub record ExtendsBy (was : Outside) (done : List Event) (now : Outside) : Type 
 -- once for each reading.
 pub record StandsBehind (left : List ℕ) (done : List Event) (before after : Streams) : Type 0 where
   pub rest : after.left ≡ Some (left_behind left done)
-  pub calls : after.calls ≡ raised before.calls (readings_in done)
+  pub calls : after.calls ≡ raised_count before.calls (readings_in done)
   pub output : Gains before.output after.output (output_in done)
   pub errors : Gains before.errors after.errors (errors_in done)
 
@@ -55,7 +55,7 @@ pub record StandsBehind (left : List ℕ) (done : List Event) (before after : St
 pub record StandsInReading (left : List ℕ) (done : List Event) (asked : Request)
     (before after : Streams) : Type 0 where
   pub rest : LosesPart (left_behind left done) (asked_of asked (left_behind left done)) after.left
-  pub calls : after.calls ≡ one_more (raised before.calls (readings_in done))
+  pub calls : after.calls ≡ one_more (raised_count before.calls (readings_in done))
   pub output : Gains before.output after.output (output_in done)
   pub errors : Gains before.errors after.errors (errors_in done)
 
@@ -85,6 +85,6 @@ pub data Breaks (was end : Outside) (before after : Streams) : Type 0 where
 pub record Ends (input : List ℕ) (seen : Observation) (before after : Streams) : Type 0 where
   pub taken : seen.outside.left ≡ left_behind input seen.outside.history
   pub left : after.left ≡ Some seen.outside.left
-  pub calls : after.calls ≡ raised before.calls (readings_in seen.outside.history)
+  pub calls : after.calls ≡ raised_count before.calls (readings_in seen.outside.history)
   pub output : Gains before.output after.output (output_in seen.outside.history)
   pub errors : Gains before.errors after.errors (errors_in seen.outside.history)

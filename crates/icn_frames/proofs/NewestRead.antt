@@ -8,7 +8,7 @@ use Rattle.icn_frames.specs.declared.layout.NewestKind.TheVariants as NewestKind
 use Rattle.icn_frames.specs.declared.layout.Why.{Why}
 use Rattle.icn_frames.specs.declared.layout.Cell.{Cell}
 use Rattle.icn_frames.specs.declared.layout.Cell.TheVariants.{Suspension}
-use Rattle.icn_frames.specs.Slots.{counting, TellsWhy}
+use Rattle.icn_frames.specs.Slots.{why_counting, TellsWhy}
 use Rattle.icn_frames.specs.Stacks.{FlatStack, resume}
 use Rattle.icn_frames.specs.StackInvariant.{IsSuspended, Sound}
 use Rattle.icn_frames.specs.Newest.{IsCounting, IsHeldBy, IsNewest}
@@ -44,7 +44,7 @@ newest_is NewestKinds.Other why m t h = (why, h)
 
 -- what its count says
 pub counting_is : (o : Option Count) (why : Why) (m : FlatStack)
-    → IfSome o (λ (count : Count). why ≡ counting count.given count.last count.step) → IsHeldBy why m
+    → IfSome o (λ (count : Count). why ≡ why_counting count.given count.last count.step) → IsHeldBy why m
     → IfSome o (λ (count : Count). IsCounting count m)
 counting_is None why m t h = tt
 counting_is (Some count) why m t h = subst (λ (w : Why). IsHeldBy w m) t h

@@ -10,7 +10,7 @@ use Rattle.icn_value.specs.declared.item.Item.{Item}
 use Rattle.icn_frames.specs.declared.layout.Why.{Why}
 use Rattle.icn_frames.specs.declared.layout.Cell.{Cell}
 use Rattle.icn_frames.specs.declared.layout.Cell.TheVariants.{Base, Call, Local, Mark, Limit, Suspension, Operand}
-use Rattle.icn_frames.specs.Stacks.{opening, copy_up}
+use Rattle.icn_frames.specs.Stacks.{mark_cell, copy_up}
 use Rattle.icn_frames.specs.StackInvariant.{CellKind, is_scan, AMark, ASuspension, ALocal, AnOperand, shape, outer_of, operand_count, IsFramed, IsMarked, IsSuspended, IsScan, count_of, bottom_from, bottom, KindAt, MayBeAt, FrameAt, MarkOr, RegistersLead, RegistersFit, MaySave, Fit, Sound}
 
 -- one more cell on top
@@ -147,15 +147,15 @@ stands_open s r t =
       top = zero-add _ ∙ ap (λ (q : Bool). bottom_from None q (suc (length s)) (r.base + count_of (cell_at r.base (AMark r ∷ s)))) n;
     }
 
-pub shape_opening : (label count : Option ℕ) (r : Registers) → shape (opening label count r) ≡ AMark r
-shape_opening label None r = refl
-shape_opening label (Some n) r = refl
+pub shape_mark_cell : (label count : Option ℕ) (r : Registers) → shape (mark_cell label count r) ≡ AMark r
+shape_mark_cell label None r = refl
+shape_mark_cell label (Some n) r = refl
 
 pub sound_open : (label count : Option ℕ) (cells : List Cell) (r : Registers) (n : ℕ) → n ≡ suc (length cells) → Sound cells r
-    → Sound (opening label count r ∷ cells) (record r { mark = n; newest = None })
+    → Sound (mark_cell label count r ∷ cells) (record r { mark = n; newest = None })
 sound_open label count cells r n e t =
     let k : n ≡ suc (length (map shape cells)) = rw (length-map cells shape) e in
-    let x : AMark r ≡ shape (opening label count r) = sym (shape_opening label count r) in
+    let x : AMark r ≡ shape (mark_cell label count r) = sym (shape_mark_cell label count r) in
     record {
       stands = subst (λ (w : CellKind). RegistersFit (w ∷ map shape cells) (record r { mark = n; newest = None })) x
           (subst (λ (w : ℕ). RegistersFit (AMark r ∷ map shape cells) (record r { mark = w; newest = None })) (sym k)

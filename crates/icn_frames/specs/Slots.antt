@@ -59,8 +59,8 @@ abbrev pub whole_variable : Root → Cell
 whole_variable root = Operand (Items.Var (VarRefs.Whole root))
 
 -- why a count is suspended, by the integer that it gave last, its end and its step
-abbrev pub counting : ℤ → ℤ → ℤ → Why
-counting given last step = Whys.Op (Residuals.Counting given last step)
+abbrev pub why_counting : ℤ → ℤ → ℤ → Why
+why_counting given last step = Whys.Op (Residuals.Counting given last step)
 
 -- the cell that a slot stands for, with what is kept beside it
 abbrev pub cell_of : Control → Extra → StackSlot → Cell
@@ -73,7 +73,7 @@ cell_of control extra (LimitMark count) = Limit count control.saved
 cell_of control extra (AltHeld address) = Suspension Whys.Alt control.saved address
 cell_of control extra (OpHeld address) = Suspension (Whys.Op extra.residual) control.saved address
 cell_of control extra (CountHeld address given) =
-    Suspension (counting given control.range.last control.range.step) control.saved address
+    Suspension (why_counting given control.range.last control.range.step) control.saved address
 cell_of control extra (ScanHeld address) = Suspension (Whys.Scan extra.pair) control.saved address
 cell_of control extra (EscanHeld address) = Suspension Whys.Escan control.saved address
 cell_of control extra (ProcHeld address) = Suspension Whys.Proc control.saved address
@@ -116,9 +116,9 @@ cell_of control extra VarPosition = whole_variable (Roots.Keyword Keywords.Posit
 cell_of control extra VarRandom = whole_variable (Roots.Keyword Keywords.Random)
 
 -- each entry by how many stand below it
-abbrev pub numbered : {A B : Type 0} → (ℕ → A → B) → List A → List B
-numbered f [] = []
-numbered f (x ∷ xs) = f (length xs) x ∷ numbered f xs
+abbrev pub number_entries : {A B : Type 0} → (ℕ → A → B) → List A → List B
+number_entries f [] = []
+number_entries f (x ∷ xs) = f (length xs) x ∷ number_entries f xs
 
 -- the cell of a slot by how many stand below it
 abbrev pub placed_cell : List Control → List Extra → ℕ → StackSlot → Cell
@@ -126,7 +126,7 @@ placed_cell controls extras place slot = cell_of (control_at controls place) (ex
 
 -- the cells of all slots, the newest first
 abbrev pub cells_of : List Control → List Extra → List StackSlot → List Cell
-cells_of controls extras slots = numbered (placed_cell controls extras) slots
+cells_of controls extras slots = number_entries (placed_cell controls extras) slots
 
 -- there is room beside each slot, and beside each that may still come
 pub record Roomy (here spare made beside : ℕ) : Type 0 where
@@ -220,7 +220,7 @@ plain_value slot = option_and_then value_only (plain_operand slot)
 abbrev pub TellsWhy : NewestKind → Why → Type 0
 TellsWhy NewestKinds.Nothing why = ⊥
 TellsWhy NewestKinds.Alt why = why ≡ Whys.Alt
-TellsWhy NewestKinds.Count why = (given last step : ℤ) × (why ≡ counting given last step)
+TellsWhy NewestKinds.Count why = (given last step : ℤ) × (why ≡ why_counting given last step)
 TellsWhy NewestKinds.Escan why = why ≡ Whys.Escan
 TellsWhy NewestKinds.Proc why = why ≡ Whys.Proc
 TellsWhy NewestKinds.Other why = Unit {0}

@@ -3,7 +3,7 @@ ghost use Rattle.std.specs.Prelude.{◌≡◌, ◌+◌, ◌<◌, ◌≤◌, ◌^
 ghost use Rattle.icn_frames.specs.Stacks as flat;
 ghost use Rattle.icn_frames.specs.Stacks.{FlatStack};
 ghost use Rattle.icn_frames.specs.StackInvariant.{shape, IsScan, MayBeAt};
-ghost use Rattle.icn_frames.specs.Slots.{plain_operand, plain_local, counting};
+ghost use Rattle.icn_frames.specs.Slots.{plain_operand, plain_local, why_counting};
 ghost use Rattle.icn_frames.specs.Newest.{IsCounting, IsNewest};
 ghost use Rattle.icn_frames.specs.CalledWith.{EntersWith, HasOperands, operands_above};
 ghost use Rattle.icn_frames.specs.declared.layout.Cell.{Cell};
@@ -422,7 +422,7 @@ impl<K: Stack<StackSlot> + Drop> Frames<K> {
     /// stack is as it was then.
     pub fn suspend_count(&mut self, count: Count) -> Result<(), AllocError>
         ensures ok { OnOk result (flat.given_to (Some (Items.Val (Vals.Integer count.given)))
-            (flat.suspend_by (counting count.given count.last count.step) self.old.flat)
+            (flat.suspend_by (why_counting count.given count.last count.step) self.old.flat)
             ≡ Some self.new.flat) }
         ensures err { OnErr result (self.new.flat ≡ self.old.flat) }
         ensures spare { OnErr result (self.old.spare ≤ self.new.spare) }

@@ -1,7 +1,7 @@
 // The cells of a stack over slots, with what is kept beside them.
 ghost use Rattle.std.specs.Prelude.{◌≡◌, ◌+◌, ◌-◌, ◌<◌, ◌≤◌, ◌^◌, ℕ, List, [], ◌∷◌, length, Option, Some, is_some, IsSome, Bool, true, OnOk, IsOk, IfSome};
 ghost use Rattle.icn_frames.specs.Heights.{cut, cell_at, set_cell, with_copy};
-ghost use Rattle.icn_frames.specs.Slots.{operand_in, is_plain_cell, count_in, top_operand, plain_operand, plain_local, counting, TellsWhy};
+ghost use Rattle.icn_frames.specs.Slots.{operand_in, is_plain_cell, count_in, top_operand, plain_operand, plain_local, why_counting, TellsWhy};
 ghost use Rattle.icn_frames.specs.StackInvariant.{shape, outer_of};
 ghost use Rattle.icn_frames.specs.Stacks as flat;
 ghost use Rattle.icn_value.specs.declared.val.Val.{Val};
@@ -213,7 +213,7 @@ impl<K: Stack<StackSlot> + Drop> Cells<K> {
     /// Puts a plain mark, or with a count a limit mark, on top. There must be room for it.
     pub fn push_mark(&mut self, label: Option<u32>, count: Option<u64>, saved: Registers)
         requires { 0 < self.old.spare }
-        ensures cells { self.new.cells ≡ flat.opening label count saved ∷ self.old.cells }
+        ensures cells { self.new.cells ≡ flat.mark_cell label count saved ∷ self.old.cells }
         ensures spare { self.new.spare + 1 ≡ self.old.spare }
     {
         let at = self.slots.len();
@@ -237,7 +237,7 @@ impl<K: Stack<StackSlot> + Drop> Cells<K> {
     pub fn push_count(&mut self, count: Count, saved: Registers, address: u32)
         requires { 0 < self.old.spare }
         ensures cells { self.new.cells
-            ≡ CellVariants.Suspension (counting count.given count.last count.step) saved address
+            ≡ CellVariants.Suspension (why_counting count.given count.last count.step) saved address
             ∷ self.old.cells }
         ensures spare { self.new.spare + 1 ≡ self.old.spare }
     {
@@ -435,7 +435,7 @@ impl<K: Stack<StackSlot> + Drop> Cells<K> {
         requires { i < length self.now.cells }
         ensures { (why : Why) (saved : Registers) (address : ℕ)
             → cell_at (i + 1) self.now.cells ≡ Some (CellVariants.Suspension why saved address)
-            → IfSome result (λ count. why ≡ counting count.given count.last count.step) }
+            → IfSome result (λ count. why ≡ why_counting count.given count.last count.step) }
     {
         let range = range_of(&self.controls, i);
         count_held(self.slots.get(i), range)

@@ -1,7 +1,7 @@
 // How a cell is kept: a slot of sixteen bytes, and beside it, at the same height, what does not fit in one.
 ghost use Rattle.std.specs.Prelude.{◌≡◌, ◌<◌, ◌≤◌, ℕ, Bool, true, false, length, vec_len, vec_capacity, Option, Some, is_some, OnOk, OnErr, IfSome};
 ghost use Rattle.std.specs.Bool.{OnFalse};
-ghost use Rattle.icn_frames.specs.Slots.{cell_of, control_at, extra_at, no_control, no_extra, ExtrasElsewhere, ControlsElsewhere, IsFree, operand_in, is_plain_cell, count_in, plain_operand, plain_local, plain_value, counting, TellsWhy};
+ghost use Rattle.icn_frames.specs.Slots.{cell_of, control_at, extra_at, no_control, no_extra, ExtrasElsewhere, ControlsElsewhere, IsFree, operand_in, is_plain_cell, count_in, plain_operand, plain_local, plain_value, why_counting, TellsWhy};
 ghost use Rattle.std.specs.Option.{option_map};
 ghost use Rattle.icn_frames.specs.Stacks as flat;
 ghost use Rattle.icn_value.specs.declared.item.Item.TheVariants as Items;
@@ -687,7 +687,7 @@ pub fn count_of(slot: StackSlot) -> u64
 /// The slot of a mark, or with a count of a limit mark.
 pub fn mark_slot(label: Option<u32>, count: Option<u64>) -> StackSlot
     ensures { (control : Control) (extra : Extra)
-        → cell_of control extra result ≡ flat.opening label count control.saved }
+        → cell_of control extra result ≡ flat.mark_cell label count control.saved }
 {
     match (count, label) {
         (Some(count), _) => StackSlot::LimitMark { count },
@@ -760,7 +760,7 @@ pub fn count_held(slot: StackSlot, range: CountRange) -> Option<Count>
     ensures { (control : Control) (extra : Extra) (why : Why) (registers : Registers) (address : ℕ)
         → control.range ≡ range
         → cell_of control extra slot ≡ CellVariants.Suspension why registers address
-        → IfSome result (λ count. why ≡ counting count.given count.last count.step) }
+        → IfSome result (λ count. why ≡ why_counting count.given count.last count.step) }
 {
     match slot {
         StackSlot::CountHeld { given, .. } => Some(Count {

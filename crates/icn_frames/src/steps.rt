@@ -8,7 +8,7 @@ ghost use Rattle.icn_frames.specs.Stacks as flat;
 ghost use Rattle.icn_frames.specs.declared.layout.Cell.{Cell};
 ghost use Rattle.icn_frames.specs.declared.layout.Cell.TheVariants as CellVariants;
 ghost use Rattle.icn_frames.specs.Heights.{with_copy};
-ghost use Rattle.icn_frames.specs.Slots.{counting};
+ghost use Rattle.icn_frames.specs.Slots.{why_counting};
 ghost use Rattle.icn_frames.specs.StackInvariant.{shape, KindAt, IsScan, MayBeAt, Fit, bottom, FrameAt};
 
 use crate::cells::Cells;
@@ -228,7 +228,7 @@ pub fn hang_count<K: Stack<StackSlot> + Drop>(
     requires within { to ≤ length cells.old.cells }
     ensures height { IfOk result (λ height. height ≡ length cells.old.cells + 1) }
     ensures ok { OnOk result (cells.new.cells
-        ≡ with_copy from to (CellVariants.Suspension (counting count.given count.last count.step) saved
+        ≡ with_copy from to (CellVariants.Suspension (why_counting count.given count.last count.step) saved
         address ∷ cells.old.cells)) }
     ensures room { OnOk result (0 < cells.new.spare) }
     ensures err { OnErr result (cells.new.cells ≡ cells.old.cells) }

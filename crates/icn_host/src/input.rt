@@ -137,7 +137,7 @@ impl<R: Read> StdSource<R> {
     }
 
     // Counts a call, and what it came to.
-    fn counted<T>(&mut self, answer: Result<T, Fault>) -> Result<T, Fault>
+    fn count_answer<T>(&mut self, answer: Result<T, Fault>) -> Result<T, Fault>
         ensures same { result ≡ answer }
         ensures kept { self.new.ahead ≡ self.old.ahead }
         ensures cause { CountsOnce (⟦<StdSource<R> as Source>⟧.counts self.old).faults
@@ -166,11 +166,11 @@ impl<R: Read> Source for StdSource<R> {
 
     fn line(&mut self, into: &mut Vec<u8>) -> Result<LineEnd, Fault> {
         let answer = self.ahead.line(into);
-        self.counted(answer)
+        self.count_answer(answer)
     }
 
     fn take(&mut self, n: u64, into: &mut Vec<u8>) -> Result<u64, Fault> {
         let answer = self.ahead.take(n, into);
-        self.counted(answer)
+        self.count_answer(answer)
     }
 }

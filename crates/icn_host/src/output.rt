@@ -67,7 +67,7 @@ impl<W: Write> StdSink<W> {
     }
 
     // Counts what a call came to.
-    fn counted(&mut self, answer: Result<(), Fault>) -> Result<(), Fault>
+    fn count_answer(&mut self, answer: Result<(), Fault>) -> Result<(), Fault>
         ensures same { result ≡ answer }
         ensures kept { self.new.kept ≡ self.old.kept }
         ensures cause { CountsOnce (⟦<StdSink<W> as Sink>⟧.state self.old).faults
@@ -94,11 +94,11 @@ impl<W: Write> Sink for StdSink<W> {
     fn put(&mut self, piece: &[u8]) -> Result<(), Fault> {
         let is_due = self.settling.is_due(piece);
         let answer = self.kept.put_settling(piece, is_due);
-        self.counted(answer)
+        self.count_answer(answer)
     }
 
     fn flush(&mut self) -> Result<(), Fault> {
         let answer = self.kept.flush();
-        self.counted(answer)
+        self.count_answer(answer)
     }
 }

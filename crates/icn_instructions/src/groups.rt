@@ -21,6 +21,7 @@ pub enum InstrGroup {
 }
 
 /// What an instruction touches.
+#[inline(always)]
 pub fn group_of(instr: Instr) -> InstrGroup
     ensures { result ≡ group_of instr }
 {
@@ -66,6 +67,7 @@ pub fn group_of(instr: Instr) -> InstrGroup
 }
 
 // Of the operations, the refreshing of a co-expression is no row.
+#[inline(always)]
 fn group_of_op(op: Op) -> InstrGroup
     ensures { result ≡ group_of_op op }
 {

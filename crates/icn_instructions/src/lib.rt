@@ -10,4 +10,4 @@ mod on_machine;
 mod on_stack;
 
 pub use groups::{InstrGroup, group_of};
-pub use instructions::do_instruction;
+pub use instructions::{do_instruction, do_stack_instruction};

@@ -23,6 +23,7 @@ use std::alloc::AllocError;
 
 /// Does an instruction that touches nothing but the stack that runs, in a code with these first statics of its procedures. The
 /// error is want of memory.
+#[inline(always)]
 pub fn do_on_stack<K: Stack<Cell> + Drop>(
     frames: &mut Frames<K>,
     code: &Code,

@@ -1,7 +1,7 @@
 -- Rows that put a line.
 use Rattle.std.proofs.Common.{◌≡◌, ◌∙◌, refl, sym, ap, ℕ, List, [], Option, Some, Ok, Err, true}
 use Rattle.std.specs.List.{All}
-use Rattle.icn_host.specs.Counts.{raised}
+use Rattle.icn_host.specs.Counts.{raised_count}
 use Rattle.icn_host.specs.Sinks.{SinkState}
 use Rattle.icn_host.specs.Sources.{SourceCounts}
 use Rattle.icn_host.specs.declared.fault.Fault.{Fault}
@@ -61,7 +61,7 @@ module _ (end : List ℕ) (file : File) (args : List Value) (next : Row) (quiet 
     extends = gained.extends;
     stands = record {
       rest = told ∙ ap Some (sym (none_taken was.left gained.done gained.unread));
-      calls = ap (raised faults.calls) (sym gained.unread);
+      calls = ap (raised_count faults.calls) (sym gained.unread);
       output = gained.output;
       errors = gained.errors;
     };
@@ -79,7 +79,7 @@ module _ (end : List ℕ) (file : File) (args : List Value) (next : Row) (quiet 
     are = ap (λ (now : Outside). now.history) (left_by (setting_of was w locals)) ∙ part.are;
     stands = record {
       rest = told ∙ ap Some (sym (none_taken was.left part.done part.unread));
-      calls = ap (raised faults.calls) (sym part.unread);
+      calls = ap (raised_count faults.calls) (sym part.unread);
       output = part.output;
       errors = part.errors;
     };

@@ -1,4 +1,3 @@
-pub mod OfFiles
 pub mod PutPieces
 pub mod Checks
 pub mod ReadParts

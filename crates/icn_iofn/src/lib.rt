@@ -3,11 +3,14 @@
 
 mod arguments;
 mod ending;
-mod functions;
+mod held;
+mod lent;
 mod members;
 mod pieces;
 mod putting;
 mod reads;
 mod writes;
 
-pub use functions::first;
+pub use ending::exit;
+pub use held::HeldStreams;
+pub use lent::{LentSink, LentSource, Loan};

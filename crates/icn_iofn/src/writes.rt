@@ -17,9 +17,49 @@ use icn_host::{Fault, Sink};
 use icn_value::{File, Item, Val};
 use icn_vars::{Halt, Locals, Outcome, World};
 
-/// `write(x, ..)`, and `writes(x, ..)` where no lines end. It gives its last argument, or null. The errors are 109 about a value
-/// that is neither a text nor a file nor null, and 213 about the input. All arguments are checked before anything is put.
+/// `write(x, ..)`: puts its arguments as a line. It gives its last argument, or null. The errors are 109 about a value that is
+/// neither a text nor a file nor null, and 213 about the input. All arguments are checked before anything is put.
 pub fn write<L: Locals, O: Sink, E: Sink>(
+    vals: &[Val],
+    w: &World,
+    l: &L,
+    buffer: &mut Vec<u8>,
+    out: &mut O,
+    err: &mut E,
+) -> Result<Outcome, Halt>
+    requires locals { All (IsLive (extent_of w.now.heap)) (L.items l.now) }
+    requires live { All (IsLive (extent_of w.now.heap)) vals.now }
+    ensures { (left : Option (List ℕ)) (counts : SourceCounts)
+        → Applies (rows.write_row (map (value_in (extent_of w.now.heap)) vals.now))
+        (call_state w.now (L.items l.now) (call_streams left counts (O.state out.old) (E.state err.old)))
+        (call_state w.now (L.items l.now) (call_streams left counts (O.state out.new) (E.state err.new)))
+        result }
+{
+    put_all(true, vals, w, l, buffer, out, err)
+}
+
+/// `writes(x, ..)`: puts its arguments, and ends no line. It gives its last argument, or null. The errors are those of `write`.
+pub fn writes<L: Locals, O: Sink, E: Sink>(
+    vals: &[Val],
+    w: &World,
+    l: &L,
+    buffer: &mut Vec<u8>,
+    out: &mut O,
+    err: &mut E,
+) -> Result<Outcome, Halt>
+    requires locals { All (IsLive (extent_of w.now.heap)) (L.items l.now) }
+    requires live { All (IsLive (extent_of w.now.heap)) vals.now }
+    ensures { (left : Option (List ℕ)) (counts : SourceCounts)
+        → Applies (rows.writes_row (map (value_in (extent_of w.now.heap)) vals.now))
+        (call_state w.now (L.items l.now) (call_streams left counts (O.state out.old) (E.state err.old)))
+        (call_state w.now (L.items l.now) (call_streams left counts (O.state out.new) (E.state err.new)))
+        result }
+{
+    put_all(false, vals, w, l, buffer, out, err)
+}
+
+// Puts the arguments, which are checked first, and ends a line where lines end.
+fn put_all<L: Locals, O: Sink, E: Sink>(
     ends: bool,
     vals: &[Val],
     w: &World,

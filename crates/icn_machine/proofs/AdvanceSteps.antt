@@ -1,6 +1,6 @@
 -- What some steps come to, put together.
 use Rattle.std.proofs.Common.{◌≡◌, ℕ, zero, suc, ◌+◌, List, [], ◌∷◌, ◌++◌, append_assoc, append-nil, true, Some, Result, Ok, Err, refl, sym, ap, ◌∙◌, subst, arith}
-use Rattle.icn_host.specs.Counts.{one_more, raised}
+use Rattle.icn_host.specs.Counts.{one_more, raised_count}
 use Rattle.icn_host.specs.Sinks.{Gains}
 use Rattle.icn_host.proofs.KeptSteps.{gains_keeps}
 use Rattle.icn_host.proofs.SinkSteps.{gains_nothing, gains_then}
@@ -189,7 +189,7 @@ gains_more : {was between now : List Event} {a b c : CallStreams} → GainsEvent
 gains_more {was} {between} {now} {a} {b} {c} first second = record {
   done = first.done ++ second.done;
   history = second.history ∙ ap (λ (h : List Event). h ++ second.done) first.history ∙ append_assoc was first.done second.done;
-  calls = second.calls ∙ ap (λ (k : ℕ). raised k (readings_in second.done)) first.calls ∙ sym (calls_then a.counts.calls first.done second.done);
+  calls = second.calls ∙ ap (λ (k : ℕ). raised_count k (readings_in second.done)) first.calls ∙ sym (calls_then a.counts.calls first.done second.done);
   output = subst (Gains a.output.held c.output.held) (sym (output_behind first.done second.done)) (gains_then first.output second.output);
   errors = subst (Gains a.errors.held c.errors.held) (sym (errors_behind first.done second.done)) (gains_then first.errors second.errors);
 }

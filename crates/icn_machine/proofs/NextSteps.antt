@@ -100,6 +100,18 @@ applied_kind (Instrs.Invoke count) e = cc
 applied_kind Instrs.Appl e = cc
 applied_kind _ e = λ q. absurd (cc)
 
+-- what touches the stack alone applies nothing
+pub stack_applies_none : (instr : Instr) → group_of instr ≡ Groups.Stack → is_applied instr ≡ false
+stack_applies_none (Instrs.Op op) e = by_op op e
+  where
+    by_op : (op : Op) → group_of_op op ≡ Groups.Stack → applies_op op ≡ false
+    by_op Ops.Refresh e = refl
+    by_op _ e = cc
+stack_applies_none (Instrs.Field place) e = cc
+stack_applies_none (Instrs.Invoke count) e = cc
+stack_applies_none Instrs.Appl e = cc
+stack_applies_none _ e = refl
+
 pub no_refresh : (op : Op) → applies_op op ≡ true → op ≢ Ops.Refresh
 no_refresh op e q = let same : applies_op op ≡ false = ap applies_op q in let bad : true ≡ false = sym e ∙ same in absurd (cc)
 

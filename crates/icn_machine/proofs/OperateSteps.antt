@@ -1,5 +1,5 @@
 -- Rows that a machine performs as instructions, and as what was left is resumed.
-use Rattle.std.proofs.Common.{◌≡◌, ℕ, zero, suc, ◌+◌, Bool, true, false, nat_lt, List, [], ◌∷◌, length, map, Option, Some, None, Result, Ok, Err, refl, sym, ap, ◌∙◌, subst, arith}
+use Rattle.std.proofs.Common.{◌≡◌, ℕ, zero, suc, ◌+◌, Bool, true, false, nat_lt, List, [], ◌∷◌, length, map, Option, Some, None, Result, Ok, Err, refl, sym, ap, ◌∙◌, subst}
 use Rattle.std.proofs.lemmas.Option.{same_Some}
 use Rattle.std.specs.Prelude.{if◌then◌else◌, IsSome}
 use Rattle.std.specs.Option.{option_and_then, option_map}
@@ -242,26 +242,6 @@ resumes tables w table m rest after turns was e b =
     ∙ in_turn tables st (λ s. outcome flat (run_rows.again rest (here flat (stack_in all m) s)) (stack_in all m) s) b
 
 -- Operands
-
-taken_length : (n : ℕ) (m k : FlatStack) (onto items : List Item) → taken_onto n m onto ≡ Some (items, k) → length items ≡ n + length onto
-taken_length zero m k onto items e =
-    let here : List Item × FlatStack = (onto, m) in
-    let same : length onto ≡ length items = ap (λ (x : List Item × FlatStack). length x.0) (same_Some here (items, k) e) in
-    omega arith
-taken_length (suc n) m k onto items e = by_pop (held.pop m) e (taken_length n)
-  where
-    by_pop : (o : Option (Item × FlatStack)) → option_and_then (λ (popped : Item × FlatStack). taken_onto n popped.1 (popped.0 ∷ onto)) o ≡ Some (items, k)
-        → ((m k : FlatStack) (onto items : List Item) → taken_onto n m onto ≡ Some (items, k) → length items ≡ n + length onto)
-        → length items ≡ suc n + length onto
-    by_pop None q f = cc
-    by_pop (Some popped) q f =
-        let more : length items ≡ n + suc (length onto) = f popped.1 k (popped.0 ∷ onto) items q in
-        omega arith
-
-pub taken_count : (n : ℕ) (m k : FlatStack) (items : List Item) → take_operands n m ≡ Some (items, k) → length items ≡ n
-taken_count n m k items e =
-    let long : length items ≡ n + length {A = Item} [] = taken_length n m k [] items e in
-    omega arith
 
 -- the same operands, and the same stack, under other names
 pub taken_as : (n o : ℕ) (m k l : FlatStack) (items xs : List Item) → take_operands n m ≡ Some (items, k) → n ≡ o → Some k ≡ Some l → xs ≡ items

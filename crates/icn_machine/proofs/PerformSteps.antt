@@ -36,7 +36,7 @@ use Rattle.icn_code.specs.Codes.{Tables}
 use Rattle.icn_streams.specs.Answers.{Answers, CausedBy, Comes, Stops, StopsReading, StopsPutting, call_state, outside_after, idle, reading, putting}
 use Rattle.icn_streams.specs.Applies.{Applies}
 use Rattle.icn_streams.specs.Handed.{CallStreams, Follows, uncounted}
-use Rattle.icn_apply.specs.Applicable.{applied_of}
+use Rattle.icn_apply.specs.AppliedRows.{applied_of}
 use Rattle.icn_apply.specs.NamesAfter.{AnswerNamed}
 use Rattle.icn_apply.specs.SizesAfter.{AnswerKeepsSizes, WorldsKeepSizes}
 use Rattle.icn_apply.specs.declared.applied.Applied.{Applied as HeldApplied}

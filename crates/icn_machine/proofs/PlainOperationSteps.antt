@@ -23,7 +23,6 @@ use Rattle.icn_defs.specs.Arities.{arity}
 use Rattle.icn_defs.specs.Arithmetic.{arithmetic_row, number_comparison_row}
 use Rattle.icn_defs.specs.ReadAndAssign.{assigns, the_value, the_variable}
 use Rattle.icn_defs.specs.Rows.{Outcome, Row, Fails, Gives, gives, gives_value, number_or_error, fails_unless}
-use Rattle.icn_defs.specs.StepRows as step_rows
 use Rattle.icn_defs.specs.Variables.{assign_row}
 use Rattle.law_rows.proofs.EachOfList.{Each, all_of, each_of, each_set}
 use Rattle.icn_heap.specs.Extents.{Extent, IsLive, value_in}

@@ -1,6 +1,6 @@
 -- What some steps of the run of a code come to, on a machine.
 use Rattle.std.specs.Prelude.{◌≡◌, ◌≢◌, ◌⊎◌, ◌<◌, ◌==◌, ℕ, zero, suc, length, Bool, true, false, List, [], ◌∷◌, ◌++◌, Some, IsSome, Result, Ok, Err, ⊤}
-use Rattle.icn_host.specs.Counts.{raised}
+use Rattle.icn_host.specs.Counts.{raised_count}
 use Rattle.icn_host.specs.Sinks.{Gains}
 use Rattle.icn_value.specs.Store.{Event, Outside, errors_in, outside_of, output_in, readings_in}
 use Rattle.icn_vars.specs.declared.outcome.Halt.{Halt}
@@ -150,7 +150,7 @@ AreReadings tables (outside ∷ later) state = (outside.history ≡ (outside_at 
 pub record GainsEvents (was now : List Event) (before after : CallStreams) : Type 0 where
   pub done : List Event
   pub history : now ≡ was ++ done
-  pub calls : after.counts.calls ≡ raised before.counts.calls (readings_in done)
+  pub calls : after.counts.calls ≡ raised_count before.counts.calls (readings_in done)
   pub output : Gains before.output.held after.output.held (output_in done)
   pub errors : Gains before.errors.held after.errors.held (errors_in done)
 

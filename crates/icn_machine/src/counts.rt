@@ -9,7 +9,7 @@ ghost use Rattle.law_steps.specs.StateNames.{StackNamed};
 ghost use Rattle.icn_machine.specs.Counts.{CountsOn, count_outcome};
 ghost use Rattle.icn_machine.specs.Giving.{GivesOutcome};
 
-use crate::plain_operations::computed;
+use crate::plain_operations::computed_number;
 use icn_control::RunState;
 use icn_frames::{Cell, Count, Frames, Stack};
 use icn_text::add;
@@ -54,7 +54,7 @@ pub fn count_on<K: Stack<Cell> + Drop>(
     ensures named { (names : Names) (all : Extent) → StackNamed names (stack_in all frames.old.flat)
         → OnOk result (StackNamed names (stack_in all frames.new.flat)) }
 {
-    let Some(given) = computed(add(count.given, count.step)) else {
+    let Some(given) = computed_number(add(count.given, count.step)) else {
         return Ok(RunState::Failing);
     };
     let next = Count {

@@ -15,6 +15,7 @@ use icn_frames::{Cell, Stack};
 use icn_vars::{Halt, ends_by};
 
 /// An error to which a step came ends the run, or it is kept and the code fails; anything else stays what it is.
+#[inline(always)]
 pub fn settle<K: Stack<Cell> + Drop>(
     m: &mut Machine<K>,
     answer: Result<RunState, Halt>,

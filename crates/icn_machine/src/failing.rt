@@ -2,7 +2,7 @@
 ghost use Rattle.std.specs.Prelude.{◌≡◌, false, Ok, IfOk};
 ghost use Rattle.icn_code.specs.Codes.{Tables};
 ghost use Rattle.icn_run.specs.Step.{all_names};
-ghost use Rattle.icn_streams.specs.Handed.{CallStreams, call_streams};
+ghost use Rattle.icn_streams.specs.Handed.{CallStreams};
 ghost use Rattle.icn_control.specs.Soundness.{KeepsLimits};
 ghost use Rattle.icn_control.specs.declared.machine.RunState.TheVariants as RunStates;
 ghost use Rattle.icn_machine.specs.Stepping.{Advances, FailsFurther, GoesOn, IsFailing, IsReady, MakesTurn, fails_within, is_failing};
@@ -14,25 +14,22 @@ use icn_control::{
 };
 use icn_convert::Names;
 use icn_frames::{Cell, Stack};
-use icn_host::{Sink, Source};
+use icn_streams::Streams;
 use icn_vars::Halt;
 use law_steps::{steps_keep_names, steps_keep_sizes};
 
 // One step of failing, with the turn that it may count. The errors are those of what is resumed.
-fn fail_next<K: Stack<Cell> + Drop, N: Names, I: Source, O: Sink, E: Sink>(
+fn fail_next<K: Stack<Cell> + Drop, N: Names, S: Streams>(
     m: &mut Machine<K>,
     names: &N,
-    buffer: &mut Vec<u8>,
-    input: &mut I,
-    out: &mut O,
-    err: &mut E,
+    streams: &mut S,
 ) -> Result<RunState, Halt>
     requires ready { (tables : Tables)
         × ((all_names tables ≡ N.known names.now) × IsReady tables m.old RunStates.Failing) }
     ensures steps { (tables : Tables) → all_names tables ≡ N.known names.now
         → IsReady tables m.old RunStates.Failing → Advances IsFailing tables m.old RunStates.Failing
-        (call_streams (I.left input.old) (I.counts input.old) (O.state out.old) (E.state err.old)) m.new
-        (call_streams (I.left input.new) (I.counts input.new) (O.state out.new) (E.state err.new)) result }
+        (S.state streams.old) m.new
+        (S.state streams.new) result }
     ensures ready { (tables : Tables) → all_names tables ≡ N.known names.now
         → IsReady tables m.old RunStates.Failing → IfOk result (IsReady tables m.new) }
     ensures further { IfOk result (FailsFurther m.old m.new) }
@@ -45,7 +42,7 @@ fn fail_next<K: Stack<Cell> + Drop, N: Names, I: Source, O: Sink, E: Sink>(
         AfterFailure::Running => Ok(RunState::Running),
         AfterFailure::Beginning => Ok(begin_again(m)),
         AfterFailure::Resuming(rest) => {
-            let answer = resume(m, rest, names, buffer, input, out, err);
+            let answer = resume(m, rest, names, streams);
             settle(m, answer)
         }
         AfterFailure::Reentering => Ok(reenter(m)),
@@ -80,20 +77,17 @@ pub fn is_failing(stage: RunState) -> bool
 }
 
 // Fails until a turn was made, or the code fails no more. The errors are those of `fail_next`.
-fn fail_to_turn<K: Stack<Cell> + Drop, N: Names, I: Source, O: Sink, E: Sink>(
+fn fail_to_turn<K: Stack<Cell> + Drop, N: Names, S: Streams>(
     m: &mut Machine<K>,
     names: &N,
-    buffer: &mut Vec<u8>,
-    input: &mut I,
-    out: &mut O,
-    err: &mut E,
+    streams: &mut S,
 ) -> Result<RunState, Halt>
     requires ready { (tables : Tables)
         × ((all_names tables ≡ N.known names.now) × IsReady tables m.old RunStates.Failing) }
     ensures steps { (tables : Tables) → all_names tables ≡ N.known names.now
         → IsReady tables m.old RunStates.Failing → GoesOn IsFailing tables m.old RunStates.Failing
-        (call_streams (I.left input.old) (I.counts input.old) (O.state out.old) (E.state err.old)) m.new
-        (call_streams (I.left input.new) (I.counts input.new) (O.state out.new) (E.state err.new)) result }
+        (S.state streams.old) m.new
+        (S.state streams.new) result }
     ensures ready { (tables : Tables) → all_names tables ≡ N.known names.now
         → IsReady tables m.old RunStates.Failing → IfOk result (IsReady tables m.new) }
     ensures turn { IfOk result (MakesTurn m.old m.new) }
@@ -102,7 +96,7 @@ fn fail_to_turn<K: Stack<Cell> + Drop, N: Names, I: Source, O: Sink, E: Sink>(
     let turns = m.turns;
     let mut stage = RunState::Failing;
     while fails_within(stage, m.turns, turns) {
-        stage = fail_next(m, names, buffer, input, out, err)?;
+        stage = fail_next(m, names, streams)?;
     }
     Ok(stage)
 }
@@ -122,28 +116,25 @@ fn hop_next<K: Stack<Cell> + Drop>(m: &mut Machine<K>) -> RunState
 }
 
 // Fails until a turn was made, or hops, where one of both is due. The errors are those of `fail_next`.
-fn fail_turn<K: Stack<Cell> + Drop, N: Names, I: Source, O: Sink, E: Sink>(
+fn fail_turn<K: Stack<Cell> + Drop, N: Names, S: Streams>(
     m: &mut Machine<K>,
     stage: RunState,
     names: &N,
-    buffer: &mut Vec<u8>,
-    input: &mut I,
-    out: &mut O,
-    err: &mut E,
+    streams: &mut S,
 ) -> Result<RunState, Halt>
     requires ready { (tables : Tables)
         × ((all_names tables ≡ N.known names.now) × IsReady tables m.old stage) }
     ensures steps { (tables : Tables) → all_names tables ≡ N.known names.now → IsReady tables m.old stage
         → GoesOn IsFailing tables m.old stage
-        (call_streams (I.left input.old) (I.counts input.old) (O.state out.old) (E.state err.old)) m.new
-        (call_streams (I.left input.new) (I.counts input.new) (O.state out.new) (E.state err.new)) result }
+        (S.state streams.old) m.new
+        (S.state streams.new) result }
     ensures ready { (tables : Tables) → all_names tables ≡ N.known names.now → IsReady tables m.old stage
         → IfOk result (IsReady tables m.new) }
     ensures turn { IfOk result (MakesTurn m.old m.new) }
     ensures within { KeepsLimits m.old m.new result }
 {
     match stage {
-        RunState::Failing => fail_to_turn(m, names, buffer, input, out, err),
+        RunState::Failing => fail_to_turn(m, names, streams),
         RunState::Hopping => Ok(hop_next(m)),
         RunState::Running => Ok(RunState::Running),
         RunState::Over => Ok(RunState::Over),
@@ -157,21 +148,18 @@ fn fail_turn<K: Stack<Cell> + Drop, N: Names, I: Source, O: Sink, E: Sink>(
 /// # Errors
 ///
 /// Those of what is resumed (`resume`). Nothing else of failing takes memory.
-pub fn fail_through<K: Stack<Cell> + Drop, N: Names, I: Source, O: Sink, E: Sink>(
+pub fn fail_through<K: Stack<Cell> + Drop, N: Names, S: Streams>(
     m: &mut Machine<K>,
     from: RunState,
     names: &N,
-    buffer: &mut Vec<u8>,
-    input: &mut I,
-    out: &mut O,
-    err: &mut E,
+    streams: &mut S,
 ) -> Result<RunState, Halt>
     requires ready { (tables : Tables)
         × ((all_names tables ≡ N.known names.now) × IsReady tables m.old from) }
     ensures steps { (tables : Tables) → all_names tables ≡ N.known names.now → IsReady tables m.old from
         → GoesOn IsFailing tables m.old from
-        (call_streams (I.left input.old) (I.counts input.old) (O.state out.old) (E.state err.old)) m.new
-        (call_streams (I.left input.new) (I.counts input.new) (O.state out.new) (E.state err.new)) result }
+        (S.state streams.old) m.new
+        (S.state streams.new) result }
     ensures ready { (tables : Tables) → all_names tables ≡ N.known names.now → IsReady tables m.old from
         → IfOk result (IsReady tables m.new) }
     ensures fails_no_more { IfOk result (λ stage. is_failing stage ≡ false) }
@@ -179,7 +167,7 @@ pub fn fail_through<K: Stack<Cell> + Drop, N: Names, I: Source, O: Sink, E: Sink
 {
     let mut stage = from;
     while is_failing(stage) {
-        stage = fail_turn(m, stage, names, buffer, input, out, err)?;
+        stage = fail_turn(m, stage, names, streams)?;
     }
     Ok(stage)
 }

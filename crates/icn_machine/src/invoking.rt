@@ -14,7 +14,6 @@ ghost use Rattle.icn_run.specs.Stacks.{flat as calls};
 ghost use Rattle.icn_run.specs.Step.{all_names, applied_to_elements, invoke_value, invoked_with};
 ghost use Rattle.law_steps.specs.KeepingSizes.{field_count};
 ghost use Rattle.law_steps.specs.StateNames.{CoexpNamed};
-ghost use Rattle.icn_streams.specs.Handed.{call_streams};
 ghost use Rattle.icn_control.specs.LiveStacks.{IsLiveStack, with_locals};
 ghost use Rattle.icn_control.specs.Machines.{IsSoundMachine, does, stack_of};
 ghost use Rattle.icn_control.specs.Soundness.{KeepsLimits, LeavesWorld, IsRunnable, UnlessEnded, HasItsStack};
@@ -34,18 +33,18 @@ use icn_code::Code;
 use icn_control::{Machine, RunState, take_operands, value_of};
 use icn_convert::Names;
 use icn_frames::{Cell, Frames, Stack};
-use icn_host::{Sink, Source};
+use icn_streams::Streams;
 use icn_value::{Item, Limits, Val};
 use icn_vars::{Halt, World};
 use law_steps::{steps_keep_names, steps_keep_sizes};
 
 /// Calls a value with items: a built-in function is performed on them, a procedure entered, a record made, and a number
-/// chooses one of them. The rooms for values and for what is read and put are used again, whatever they hold.
+/// chooses one of them. The room for values is used again, whatever it holds.
 ///
 /// # Errors
 ///
 /// Those of a function (`perform`), and of anything else that is called (`icn_calls::invoke`).
-pub fn call_value<K: Stack<Cell> + Drop, N: Names, I: Source, O: Sink, E: Sink>(
+pub fn call_value<K: Stack<Cell> + Drop, N: Names, S: Streams>(
     frames: &mut Frames<K>,
     world: &mut World,
     code: &Code,
@@ -54,10 +53,7 @@ pub fn call_value<K: Stack<Cell> + Drop, N: Names, I: Source, O: Sink, E: Sink>(
     items: &[Item],
     vals: &mut Vec<Val>,
     names: &N,
-    buffer: &mut Vec<u8>,
-    input: &mut I,
-    out: &mut O,
-    err: &mut E,
+    streams: &mut S,
 ) -> Result<RunState, Halt>
     requires known { N.known names.now ≡ all_names (tables_of code.now) }
     requires few { length items.now < 2 ^ 63 }
@@ -69,9 +65,8 @@ pub fn call_value<K: Stack<Cell> + Drop, N: Names, I: Source, O: Sink, E: Sink>(
     ensures step { PerformsEvent (all_names (tables_of code.now))
         (λ st. invoke_value calls (tables_of code.now)
         (value_in (extent_of world.old.heap) callee) (map (item_in (extent_of world.old.heap)) items.now)
-        (stack_in (extent_of world.old.heap) frames.old.flat) st) world.old (call_streams (I.left input.old)
-        (I.counts input.old) (O.state out.old) (E.state err.old)) world.new frames.new.flat
-        (call_streams (I.left input.new) (I.counts input.new) (O.state out.new) (E.state err.new)) result }
+        (stack_in (extent_of world.old.heap) frames.old.flat) st) world.old (S.state streams.old)
+        world.new frames.new.flat (S.state streams.new) result }
     ensures live { IsLiveStack (tables_of code.now) (reach_of world.old []) frames.old.flat
         → UnlessEnded result (IsLiveStack (tables_of code.now) (reach_of world.new []) frames.new.flat) }
     ensures leaves { LeavesWorld world.old world.new result }
@@ -83,23 +78,13 @@ pub fn call_value<K: Stack<Cell> + Drop, N: Names, I: Source, O: Sink, E: Sink>(
     steps_keep_names();
     steps_keep_sizes();
     match function_of(code, callee) {
-        Some(func) => perform(
-            frames,
-            world,
-            Applied::Func(func),
-            items,
-            names,
-            buffer,
-            input,
-            out,
-            err,
-        ),
+        Some(func) => perform(frames, world, Applied::Func(func), items, names, streams),
         None => icn_calls::invoke(frames, world, code, limits, callee, items, vals),
     }
 }
 
 // Calls the value of the first of some items, which must be there, with the others. The error is also that of the first item.
-fn call_first<K: Stack<Cell> + Drop, N: Names, I: Source, O: Sink, E: Sink>(
+fn call_first<K: Stack<Cell> + Drop, N: Names, S: Streams>(
     frames: &mut Frames<K>,
     world: &mut World,
     code: &Code,
@@ -107,10 +92,7 @@ fn call_first<K: Stack<Cell> + Drop, N: Names, I: Source, O: Sink, E: Sink>(
     items: &[Item],
     vals: &mut Vec<Val>,
     names: &N,
-    buffer: &mut Vec<u8>,
-    input: &mut I,
-    out: &mut O,
-    err: &mut E,
+    streams: &mut S,
 ) -> Result<RunState, Halt>
     requires known { N.known names.now ≡ all_names (tables_of code.now) }
     requires some { 0 < length items.now }
@@ -120,9 +102,8 @@ fn call_first<K: Stack<Cell> + Drop, N: Names, I: Source, O: Sink, E: Sink>(
     requires given { AreNamed (N.known names.now) world.old frames.old.flat items.now }
     ensures step { PerformsEvent (all_names (tables_of code.now))
         (λ st. invoked_with calls (tables_of code.now) (map (item_in (extent_of world.old.heap)) items.now)
-        (stack_in (extent_of world.old.heap) frames.old.flat) st) world.old (call_streams (I.left input.old)
-        (I.counts input.old) (O.state out.old) (E.state err.old)) world.new frames.new.flat
-        (call_streams (I.left input.new) (I.counts input.new) (O.state out.new) (E.state err.new)) result }
+        (stack_in (extent_of world.old.heap) frames.old.flat) st) world.old (S.state streams.old)
+        world.new frames.new.flat (S.state streams.new) result }
     ensures live { IsLiveStack (tables_of code.now) (reach_of world.old []) frames.old.flat
         → UnlessEnded result (IsLiveStack (tables_of code.now) (reach_of world.new []) frames.new.flat) }
     ensures leaves { LeavesWorld world.old world.new result }
@@ -137,28 +118,24 @@ fn call_first<K: Stack<Cell> + Drop, N: Names, I: Source, O: Sink, E: Sink>(
     };
     let callee = value_of(frames, world, *first)?;
     call_value(
-        frames, world, code, limits, callee, others, vals, names, buffer, input, out, err,
+        frames, world, code, limits, callee, others, vals, names, streams,
     )
 }
 
-/// Calls the operand below so many others with these, as a turn; all of them must be there. A
-/// procedure that slots tell is called in place. The rooms for operands, for values
-/// and for what is read and put are used again, whatever they hold.
+/// Calls the operand below so many others with these, as a turn; all of them must be there. A procedure that slots tell is called
+/// in place. The rooms for operands and for values are used again, whatever they hold.
 ///
 /// # Errors
 ///
 /// That of the operand that is called, where it has no value, and those of `call_value`.
-pub fn invoke<K: Stack<Cell> + Drop, N: Names, I: Source, O: Sink, E: Sink>(
+pub fn invoke<K: Stack<Cell> + Drop, N: Names, S: Streams>(
     m: &mut Machine<K>,
     code: &Code,
     count: u32,
     items: &mut Vec<Item>,
     vals: &mut Vec<Val>,
     names: &N,
-    buffer: &mut Vec<u8>,
-    input: &mut I,
-    out: &mut O,
-    err: &mut E,
+    streams: &mut S,
 ) -> Result<RunState, Halt>
     requires known { N.known names.now ≡ all_names (tables_of code.now) }
     requires stands { IsRunnable m.old }
@@ -166,8 +143,8 @@ pub fn invoke<K: Stack<Cell> + Drop, N: Names, I: Source, O: Sink, E: Sink>(
     requires named { MachineNamed (N.known names.now) m.old }
     ensures step { PerformsOn (tables_of code.now)
         (λ outside. does (tables_of code.now) outside (Instrs.Invoke count) m.old) m.new
-        (call_streams (I.left input.old) (I.counts input.old) (O.state out.old) (E.state err.old))
-        (call_streams (I.left input.new) (I.counts input.new) (O.state out.new) (E.state err.new)) result }
+        (S.state streams.old)
+        (S.state streams.new) result }
     ensures sound { IsSoundMachine (tables_of code.now) m.old
         → UnlessEnded result (IsSoundMachine (tables_of code.now) m.new) }
     ensures within { KeepsLimits m.old m.new result }
@@ -189,22 +166,19 @@ pub fn invoke<K: Stack<Cell> + Drop, N: Names, I: Source, O: Sink, E: Sink>(
         m.turns += 1;
         return Ok(RunState::Running);
     }
-    invoke_by_value(m, code, count, items, vals, names, buffer, input, out, err)
+    invoke_by_value(m, code, count, items, vals, names, streams)
 }
 
 // Calls it by its value, whatever it is.
 #[inline(never)]
-fn invoke_by_value<K: Stack<Cell> + Drop, N: Names, I: Source, O: Sink, E: Sink>(
+fn invoke_by_value<K: Stack<Cell> + Drop, N: Names, S: Streams>(
     m: &mut Machine<K>,
     code: &Code,
     count: u32,
     items: &mut Vec<Item>,
     vals: &mut Vec<Val>,
     names: &N,
-    buffer: &mut Vec<u8>,
-    input: &mut I,
-    out: &mut O,
-    err: &mut E,
+    streams: &mut S,
 ) -> Result<RunState, Halt>
     requires known { N.known names.now ≡ all_names (tables_of code.now) }
     requires stands { IsRunnable m.old }
@@ -212,8 +186,8 @@ fn invoke_by_value<K: Stack<Cell> + Drop, N: Names, I: Source, O: Sink, E: Sink>
     requires named { MachineNamed (N.known names.now) m.old }
     ensures step { PerformsOn (tables_of code.now)
         (λ outside. does (tables_of code.now) outside (Instrs.Invoke count) m.old) m.new
-        (call_streams (I.left input.old) (I.counts input.old) (O.state out.old) (E.state err.old))
-        (call_streams (I.left input.new) (I.counts input.new) (O.state out.new) (E.state err.new)) result }
+        (S.state streams.old)
+        (S.state streams.new) result }
     ensures sound { IsSoundMachine (tables_of code.now) m.old
         → UnlessEnded result (IsSoundMachine (tables_of code.now) m.new) }
     ensures within { KeepsLimits m.old m.new result }
@@ -240,16 +214,13 @@ fn invoke_by_value<K: Stack<Cell> + Drop, N: Names, I: Source, O: Sink, E: Sink>
         items,
         vals,
         names,
-        buffer,
-        input,
-        out,
-        err,
+        streams,
     )
 }
 
 // Calls the value of an item with the elements of the list, or the fields of the record, that another item's value is. The
 // errors are also those of the two items, the callee's first, and 126.
-fn call_with_elements<K: Stack<Cell> + Drop, N: Names, I: Source, O: Sink, E: Sink>(
+fn call_with_elements<K: Stack<Cell> + Drop, N: Names, S: Streams>(
     frames: &mut Frames<K>,
     world: &mut World,
     code: &Code,
@@ -259,10 +230,7 @@ fn call_with_elements<K: Stack<Cell> + Drop, N: Names, I: Source, O: Sink, E: Si
     items: &mut Vec<Item>,
     vals: &mut Vec<Val>,
     names: &N,
-    buffer: &mut Vec<u8>,
-    input: &mut I,
-    out: &mut O,
-    err: &mut E,
+    streams: &mut S,
 ) -> Result<RunState, Halt>
     requires known { N.known names.now ≡ all_names (tables_of code.now) }
     requires bounds { (heap_of world.old.heap).bounds ≡ limits_of limits.now }
@@ -275,9 +243,9 @@ fn call_with_elements<K: Stack<Cell> + Drop, N: Names, I: Source, O: Sink, E: Si
     ensures step { PerformsEvent (all_names (tables_of code.now)) (λ st. applied_to_elements calls
         (tables_of code.now) (item_in (extent_of world.old.heap) callee ∷ item_in (extent_of world.old.heap)
         from ∷ []) (stack_in (extent_of world.old.heap) frames.old.flat) st) world.old
-        (call_streams (I.left input.old) (I.counts input.old) (O.state out.old) (E.state err.old))
+        (S.state streams.old)
         world.new frames.new.flat
-        (call_streams (I.left input.new) (I.counts input.new) (O.state out.new) (E.state err.new)) result }
+        (S.state streams.new) result }
     ensures live { IsLiveStack (tables_of code.now) (reach_of world.old []) frames.old.flat
         → UnlessEnded result (IsLiveStack (tables_of code.now) (reach_of world.new []) frames.new.flat) }
     ensures leaves { LeavesWorld world.old world.new result }
@@ -291,27 +259,24 @@ fn call_with_elements<K: Stack<Cell> + Drop, N: Names, I: Source, O: Sink, E: Si
     let from = value_of(frames, world, from)?;
     elements_of(world, from, items)?;
     call_value(
-        frames, world, code, limits, callee, items, vals, names, buffer, input, out, err,
+        frames, world, code, limits, callee, items, vals, names, streams,
     )
 }
 
 /// Calls the operand below the top one with the elements of the list, or the fields of the record, that the top one is, as a turn;
-/// both must be there. The rooms for items, for values and for what is read and put are used again, whatever they hold.
+/// both must be there. The rooms for items and for values are used again, whatever they hold.
 ///
 /// # Errors
 ///
 /// That of an operand that has no value, the lower one's first, 126 where the top one is no list and no record, and those of
 /// `call_value`.
-pub fn appl<K: Stack<Cell> + Drop, N: Names, I: Source, O: Sink, E: Sink>(
+pub fn appl<K: Stack<Cell> + Drop, N: Names, S: Streams>(
     m: &mut Machine<K>,
     code: &Code,
     items: &mut Vec<Item>,
     vals: &mut Vec<Val>,
     names: &N,
-    buffer: &mut Vec<u8>,
-    input: &mut I,
-    out: &mut O,
-    err: &mut E,
+    streams: &mut S,
 ) -> Result<RunState, Halt>
     requires known { N.known names.now ≡ all_names (tables_of code.now) }
     requires stands { IsRunnable m.old }
@@ -319,8 +284,8 @@ pub fn appl<K: Stack<Cell> + Drop, N: Names, I: Source, O: Sink, E: Sink>(
     requires named { MachineNamed (N.known names.now) m.old }
     ensures step { PerformsOn (tables_of code.now)
         (λ outside. does (tables_of code.now) outside Instrs.Appl m.old) m.new
-        (call_streams (I.left input.old) (I.counts input.old) (O.state out.old) (E.state err.old))
-        (call_streams (I.left input.new) (I.counts input.new) (O.state out.new) (E.state err.new)) result }
+        (S.state streams.old)
+        (S.state streams.new) result }
     ensures sound { IsSoundMachine (tables_of code.now) m.old
         → UnlessEnded result (IsSoundMachine (tables_of code.now) m.new) }
     ensures within { KeepsLimits m.old m.new result }
@@ -347,10 +312,7 @@ pub fn appl<K: Stack<Cell> + Drop, N: Names, I: Source, O: Sink, E: Sink>(
         items,
         vals,
         names,
-        buffer,
-        input,
-        out,
-        err,
+        streams,
     )
 }
 

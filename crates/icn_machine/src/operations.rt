@@ -1,7 +1,6 @@
 // Operations, and the rows that are resumed.
 ghost use Rattle.std.specs.Prelude.{◌≡◌, ◌≢◌, ◌+◌, ◌<◌, ◌^◌, IsSome};
 ghost use Rattle.icn_text.specs.declared.op.Op.TheVariants as Ops;
-ghost use Rattle.icn_value.specs.Store.{Outside};
 ghost use Rattle.icn_defs.specs.Arities.{arity};
 ghost use Rattle.icn_vars.specs.Outcomes.{IsLiveResidual, residual_in};
 ghost use Rattle.icn_frames.specs.Stacks as flat;
@@ -11,7 +10,6 @@ ghost use Rattle.law_names.specs.NamedSettings.{ResidualNamed};
 ghost use Rattle.icn_run.specs.Calls.{Op as Operation};
 ghost use Rattle.icn_run.specs.Stacks.{flat as calls};
 ghost use Rattle.icn_run.specs.Step.{all_names, resume_by};
-ghost use Rattle.icn_streams.specs.Handed.{call_streams};
 ghost use Rattle.icn_control.specs.LiveStacks.{with_locals};
 ghost use Rattle.icn_control.specs.Machines.{does, extent, stack_of, stack_seen, store_seen, world_reach};
 ghost use Rattle.icn_control.specs.Soundness.{IsRunnable, StaysSound};
@@ -26,23 +24,20 @@ use icn_control::{Machine, RunState, take_operands};
 use icn_convert::Names;
 use icn_defs::arity;
 use icn_frames::{Cell, Stack};
-use icn_host::{Sink, Source};
+use icn_streams::Streams;
 use icn_text::Op;
 use icn_value::{Item, Residual};
 use icn_vars::Halt;
 
 /// Performs an operation on its operands, which must be there, as a turn; the refreshing of a co-expression has a call of its own.
-/// One on integers and locals is done in place. The rooms for operands and for what is read and put are used again, whatever they
-/// hold. The errors are those of `perform`.
-pub fn operate<K: Stack<Cell> + Drop, N: Names, I: Source, O: Sink, E: Sink>(
+/// One on integers and locals is done in place. The room for operands is used again, whatever it holds. The errors are those of
+/// `perform`.
+pub fn operate<K: Stack<Cell> + Drop, N: Names, S: Streams>(
     m: &mut Machine<K>,
     op: Op,
     items: &mut Vec<Item>,
     names: &N,
-    buffer: &mut Vec<u8>,
-    input: &mut I,
-    out: &mut O,
-    err: &mut E,
+    streams: &mut S,
 ) -> Result<RunState, Halt>
     requires stands { IsRunnable m.old }
     requires row { op ≢ Ops.Refresh }
@@ -50,8 +45,8 @@ pub fn operate<K: Stack<Cell> + Drop, N: Names, I: Source, O: Sink, E: Sink>(
     requires named { MachineNamed (N.known names.now) m.old }
     ensures step { (tables : Tables) → all_names tables ≡ N.known names.now
         → PerformsOn tables (λ outside. does tables outside (Instrs.Op op) m.old) m.new
-        (call_streams (I.left input.old) (I.counts input.old) (O.state out.old) (E.state err.old))
-        (call_streams (I.left input.new) (I.counts input.new) (O.state out.new) (E.state err.new)) result }
+        (S.state streams.old)
+        (S.state streams.new) result }
     ensures keeps { StaysSound m.old m.new result }
     ensures named { LeavesNamed (N.known names.now) m.new.world (stack_of m.new) result }
 {
@@ -63,21 +58,18 @@ pub fn operate<K: Stack<Cell> + Drop, N: Names, I: Source, O: Sink, E: Sink>(
             m.turns += 1;
             Ok(stage)
         }
-        None => operate_by_row(m, op, items, names, buffer, input, out, err),
+        None => operate_by_row(m, op, items, names, streams),
     }
 }
 
 // Performs it by its row, where a turn is left.
 #[inline(never)]
-fn operate_by_row<K: Stack<Cell> + Drop, N: Names, I: Source, O: Sink, E: Sink>(
+fn operate_by_row<K: Stack<Cell> + Drop, N: Names, S: Streams>(
     m: &mut Machine<K>,
     op: Op,
     items: &mut Vec<Item>,
     names: &N,
-    buffer: &mut Vec<u8>,
-    input: &mut I,
-    out: &mut O,
-    err: &mut E,
+    streams: &mut S,
 ) -> Result<RunState, Halt>
     requires stands { IsRunnable m.old }
     requires turn { m.old.turns < m.old.limits.turns }
@@ -87,8 +79,8 @@ fn operate_by_row<K: Stack<Cell> + Drop, N: Names, I: Source, O: Sink, E: Sink>(
     requires named { MachineNamed (N.known names.now) m.old }
     ensures step { (tables : Tables) → all_names tables ≡ N.known names.now
         → PerformsOn tables (λ outside. does tables outside (Instrs.Op op) m.old) m.new
-        (call_streams (I.left input.old) (I.counts input.old) (O.state out.old) (E.state err.old))
-        (call_streams (I.left input.new) (I.counts input.new) (O.state out.new) (E.state err.new)) result }
+        (S.state streams.old)
+        (S.state streams.new) result }
     ensures keeps { StaysSound m.old m.new result }
     ensures named { LeavesNamed (N.known names.now) m.new.world (stack_of m.new) result }
 {
@@ -102,22 +94,16 @@ fn operate_by_row<K: Stack<Cell> + Drop, N: Names, I: Source, O: Sink, E: Sink>(
         Applied::Op(op),
         items,
         names,
-        buffer,
-        input,
-        out,
-        err,
+        streams,
     )
 }
 
 /// Resumes what an operation or a function left, as a turn. The errors are those of `perform`.
-pub fn resume<K: Stack<Cell> + Drop, N: Names, I: Source, O: Sink, E: Sink>(
+pub fn resume<K: Stack<Cell> + Drop, N: Names, S: Streams>(
     m: &mut Machine<K>,
     rest: Residual,
     names: &N,
-    buffer: &mut Vec<u8>,
-    input: &mut I,
-    out: &mut O,
-    err: &mut E,
+    streams: &mut S,
 ) -> Result<RunState, Halt>
     requires stands { IsRunnable m.old }
     requires rest { IsLiveResidual (with_locals (flat.local_count (stack_of m.old)) (world_reach m.old))
@@ -126,8 +112,8 @@ pub fn resume<K: Stack<Cell> + Drop, N: Names, I: Source, O: Sink, E: Sink>(
     requires rest_named { ResidualNamed (N.known names.now) (residual_in (extent m.old) rest) }
     ensures step { (tables : Tables) → PerformsOn tables (λ outside. resume_by calls tables
         (Operation (residual_in (extent m.old) rest)) (stack_seen m.old) (store_seen tables outside m.old))
-        m.new (call_streams (I.left input.old) (I.counts input.old) (O.state out.old) (E.state err.old))
-        (call_streams (I.left input.new) (I.counts input.new) (O.state out.new) (E.state err.new)) result }
+        m.new (S.state streams.old)
+        (S.state streams.new) result }
     ensures keeps { StaysSound m.old m.new result }
     ensures named { LeavesNamed (N.known names.now) m.new.world (stack_of m.new) result }
 {
@@ -135,14 +121,5 @@ pub fn resume<K: Stack<Cell> + Drop, N: Names, I: Source, O: Sink, E: Sink>(
         return Ok(RunState::AtBound);
     }
     m.turns += 1;
-    perform_again(
-        m.stacks.frames(),
-        &mut m.world,
-        rest,
-        names,
-        buffer,
-        input,
-        out,
-        err,
-    )
+    perform_again(m.stacks.frames(), &mut m.world, rest, names, streams)
 }

@@ -1,5 +1,5 @@
 // Rows that are performed on a stack in a world.
-ghost use Rattle.std.specs.Prelude.{◌≡◌, [], IfErr, IfOk, OnOk, length, map};
+ghost use Rattle.std.specs.Prelude.{◌≡◌, [], IfErr, IfOk, OnOk, map};
 ghost use Rattle.icn_defs.specs.Applying as rows;
 ghost use Rattle.icn_heap.specs.Extents.{Extent};
 ghost use Rattle.icn_value.specs.Store.{Names as StoreNames};
@@ -16,8 +16,7 @@ ghost use Rattle.icn_frames.specs.Stacks as flat;
 ghost use Rattle.icn_code.specs.Codes.{Tables};
 ghost use Rattle.icn_streams.specs.Answers.{call_state};
 ghost use Rattle.icn_streams.specs.Applies.{Applies};
-ghost use Rattle.icn_streams.specs.Handed.{call_streams};
-ghost use Rattle.icn_apply.specs.Applicable.{IsApplicable, applied_of};
+ghost use Rattle.icn_apply.specs.AppliedRows.{applied_of};
 ghost use Rattle.icn_apply.specs.NamesAfter.{AnswerNamed};
 ghost use Rattle.icn_apply.specs.SizesAfter.{AnswerKeepsSizes, WorldsKeepSizes};
 ghost use Rattle.icn_control.specs.LiveStacks.{IsLiveStack, StaysLive, with_locals};
@@ -32,44 +31,40 @@ use icn_apply::{Applied, again, apply};
 use icn_control::RunState;
 use icn_convert::Names;
 use icn_frames::{Cell, Count, Frames, Stack};
-use icn_host::{Sink, Source};
+use icn_streams::Streams;
 use icn_value::{Item, Residual};
 use icn_vars::{Halt, Outcome, World};
 use std::marker::{Brand, PhantomData};
 
-/// Performs an operation, but for the refreshing of a co-expression, or a function, on items of the activation that runs: pushes
-/// what it gives, or fails. The room for what is read and put is used again, whatever stands in it.
+/// Performs an operation or a function on items of the activation that runs: pushes what it gives, or fails. The refreshing of a
+/// co-expression is no row: it fails here.
 ///
 /// # Errors
 ///
 /// Those of the row: `Error` and `Ends`. `ReadFault` where the input failed and `WriteFault` where an output did, `NoMemory` where
 /// memory ran out: the run is over then.
-pub fn perform<K: Stack<Cell> + Drop, N: Names, I: Source, O: Sink, E: Sink>(
+pub fn perform<K: Stack<Cell> + Drop, N: Names, S: Streams>(
     frames: &mut Frames<K>,
     world: &mut World,
     what: Applied,
     items: &[Item],
     names: &N,
-    buffer: &mut Vec<u8>,
-    input: &mut I,
-    out: &mut O,
-    err: &mut E,
+    streams: &mut S,
 ) -> Result<RunState, Halt>
-    requires applicable { IsApplicable what (length items.now) }
     requires here { HoldsNamed (N.known names.now) world.old frames.old.flat }
     requires given { AreNamed (N.known names.now) world.old frames.old.flat items.now }
     ensures row { PerformsRow (step_rows.apply (N.known names.now) (applied_of what)
         (map (item_in (extent_of world.old.heap)) items.now)) world.old frames.old.flat
-        (call_streams (I.left input.old) (I.counts input.old) (O.state out.old) (E.state err.old))
+        (S.state streams.old)
         world.new frames.new.flat
-        (call_streams (I.left input.new) (I.counts input.new) (O.state out.new) (E.state err.new)) result }
+        (S.state streams.new) result }
     ensures live { (tables : Tables) → IsLiveStack tables (reach_of world.old []) frames.old.flat
         → UnlessEnded result (IsLiveStack tables (reach_of world.new []) frames.new.flat) }
     ensures leaves { LeavesWorld world.old world.new result }
     ensures sized { UnlessEnded result (WorldsKeepSizes world.old world.new) }
     ensures named { LeavesNamed (N.known names.now) world.new frames.new.flat result }
 {
-    let outcome = perform_in(frames, world, what, items, names, buffer, input, out, err)?;
+    let outcome = perform_in(frames, world, what, items, names, streams)?;
     frames.local_count();
     match give_outcome(frames, outcome) {
         Ok(stage) => Ok(stage),
@@ -78,60 +73,50 @@ pub fn perform<K: Stack<Cell> + Drop, N: Names, I: Source, O: Sink, E: Sink>(
 }
 
 // Applies it to items, where the locals of the stack may change.
-fn perform_in<K: Stack<Cell> + Drop, N: Names, I: Source, O: Sink, E: Sink>(
+fn perform_in<K: Stack<Cell> + Drop, N: Names, S: Streams>(
     frames: &mut Frames<K>,
     world: &mut World,
     what: Applied,
     items: &[Item],
     names: &N,
-    buffer: &mut Vec<u8>,
-    input: &mut I,
-    out: &mut O,
-    err: &mut E,
+    streams: &mut S,
 ) -> Result<Outcome, Halt>
-    requires applicable { IsApplicable what (length items.now) }
     requires here { HoldsNamed (N.known names.now) world.old frames.old.flat }
     requires given { AreNamed (N.known names.now) world.old frames.old.flat items.now }
     ensures applies { Applies (step_rows.apply (N.known names.now)
         (applied_of what) (map (item_in (extent_of world.old.heap)) items.now))
         (call_state world.old (flat.locals frames.old.flat)
-        (call_streams (I.left input.old) (I.counts input.old) (O.state out.old) (E.state err.old)))
+        (S.state streams.old))
         (call_state world.new (flat.locals frames.new.flat)
-        (call_streams (I.left input.new) (I.counts input.new) (O.state out.new) (E.state err.new))) result }
+        (S.state streams.new)) result }
     ensures named { AnswerNamed (N.known names.now) world.new (flat.locals frames.new.flat) result }
     ensures sized { AnswerKeepsSizes world.old world.new result }
     ensures stack { flat.set_locals (flat.locals frames.new.flat) frames.old.flat ≡ frames.new.flat }
 {
-    let (answer, _) = perform_lent::<K, Brand, N, I, O, E>(
-        frames, world, what, items, names, buffer, input, out, err,
-    );
+    let (answer, _) = perform_lent::<K, Brand, N, S>(frames, world, what, items, names, streams);
     answer
 }
 
 // Applies it to items on a stack that is lent by name, and hands the stack back.
-fn perform_lent<'a, K: Stack<Cell> + Drop, B: Earlier, N: Names, I: Source, O: Sink, E: Sink>(
+fn perform_lent<'a, K: Stack<Cell> + Drop, B: Earlier, N: Names, S: Streams>(
     frames: &'a mut Frames<K>,
     world: &mut World,
     what: Applied,
     items: &[Item],
     names: &N,
-    buffer: &mut Vec<u8>,
-    input: &mut I,
-    out: &mut O,
-    err: &mut E,
+    streams: &mut S,
 ) -> (Result<Outcome, Halt>, &'a mut Frames<K>)
     requires lent { frames.ghost_name ≡ B.loan }
     requires earlier { B.stack ≡ frames.old.flat }
-    requires applicable { IsApplicable what (length items.now) }
     requires here { HoldsNamed (N.known names.now) world.old frames.old.flat }
     requires given { AreNamed (N.known names.now) world.old frames.old.flat items.now }
     ensures same_reference { result.1.ghost_name ≡ frames.entry.ghost_name }
     ensures applies { Applies (step_rows.apply (N.known names.now)
         (applied_of what) (map (item_in (extent_of world.old.heap)) items.now))
         (call_state world.old (flat.locals frames.old.flat)
-        (call_streams (I.left input.old) (I.counts input.old) (O.state out.old) (E.state err.old)))
+        (S.state streams.old))
         (call_state world.new (flat.locals result.1.now.flat)
-        (call_streams (I.left input.new) (I.counts input.new) (O.state out.new) (E.state err.new))) result.0 }
+        (S.state streams.new)) result.0 }
     ensures named { AnswerNamed (N.known names.now) world.new (flat.locals result.1.now.flat) result.0 }
     ensures sized { AnswerKeepsSizes world.old world.new result.0 }
     ensures stack { flat.set_locals (flat.locals result.1.now.flat) frames.old.flat ≡ result.1.now.flat }
@@ -141,29 +126,25 @@ fn perform_lent<'a, K: Stack<Cell> + Drop, B: Earlier, N: Names, I: Source, O: S
         frames,
         of: PhantomData,
     };
-    let answer = apply(what, items, world, &mut own, names, buffer, input, out, err);
+    let answer = apply(what, items, world, &mut own, names, streams);
     (answer, own.frames)
 }
 
 /// Resumes what an operation or a function left on a stack: pushes what it gives next, or fails. The errors are those of `perform`.
-pub fn perform_again<K: Stack<Cell> + Drop, N: Names, I: Source, O: Sink, E: Sink>(
+pub fn perform_again<K: Stack<Cell> + Drop, N: Names, S: Streams>(
     frames: &mut Frames<K>,
     world: &mut World,
     rest: Residual,
     names: &N,
-    buffer: &mut Vec<u8>,
-    input: &mut I,
-    out: &mut O,
-    err: &mut E,
+    streams: &mut S,
 ) -> Result<RunState, Halt>
     requires here { HoldsNamed (N.known names.now) world.old frames.old.flat }
     requires rest { IsLiveResidual (with_locals (flat.local_count frames.old.flat) (reach_of world.old []))
         rest }
     requires rest_named { ResidualNamed (N.known names.now) (residual_in (extent_of world.old.heap) rest) }
     ensures row { PerformsRow (rows.again (residual_in (extent_of world.old.heap) rest))
-        world.old frames.old.flat (call_streams (I.left input.old)
-        (I.counts input.old) (O.state out.old) (E.state err.old)) world.new frames.new.flat
-        (call_streams (I.left input.new) (I.counts input.new) (O.state out.new) (E.state err.new)) result }
+        world.old frames.old.flat (S.state streams.old) world.new frames.new.flat
+        (S.state streams.new) result }
     ensures live { (tables : Tables) → IsLiveStack tables (reach_of world.old []) frames.old.flat
         → UnlessEnded result (IsLiveStack tables (reach_of world.new []) frames.new.flat) }
     ensures leaves { LeavesWorld world.old world.new result }
@@ -173,7 +154,7 @@ pub fn perform_again<K: Stack<Cell> + Drop, N: Names, I: Source, O: Sink, E: Sin
     if let Residual::Counting { given, last, step } = rest {
         return resume_count(frames, Count { given, last, step });
     }
-    let outcome = again_in(frames, world, rest, names, buffer, input, out, err)?;
+    let outcome = again_in(frames, world, rest, names, streams)?;
     frames.local_count();
     match give_outcome(frames, outcome) {
         Ok(stage) => Ok(stage),
@@ -203,15 +184,12 @@ fn resume_count<K: Stack<Cell> + Drop>(
 }
 
 // Resumes it, where the locals of the stack may change.
-fn again_in<K: Stack<Cell> + Drop, N: Names, I: Source, O: Sink, E: Sink>(
+fn again_in<K: Stack<Cell> + Drop, N: Names, S: Streams>(
     frames: &mut Frames<K>,
     world: &mut World,
     rest: Residual,
     names: &N,
-    buffer: &mut Vec<u8>,
-    input: &mut I,
-    out: &mut O,
-    err: &mut E,
+    streams: &mut S,
 ) -> Result<Outcome, Halt>
     requires here { HoldsNamed (N.known names.now) world.old frames.old.flat }
     requires rest { IsLiveResidual (with_locals (flat.local_count frames.old.flat) (reach_of world.old []))
@@ -219,29 +197,24 @@ fn again_in<K: Stack<Cell> + Drop, N: Names, I: Source, O: Sink, E: Sink>(
     requires rest_named { ResidualNamed (N.known names.now) (residual_in (extent_of world.old.heap) rest) }
     ensures applies { Applies (rows.again (residual_in (extent_of world.old.heap) rest))
         (call_state world.old (flat.locals frames.old.flat)
-        (call_streams (I.left input.old) (I.counts input.old) (O.state out.old) (E.state err.old)))
+        (S.state streams.old))
         (call_state world.new (flat.locals frames.new.flat)
-        (call_streams (I.left input.new) (I.counts input.new) (O.state out.new) (E.state err.new))) result }
+        (S.state streams.new)) result }
     ensures named { AnswerNamed (N.known names.now) world.new (flat.locals frames.new.flat) result }
     ensures sized { AnswerKeepsSizes world.old world.new result }
     ensures stack { flat.set_locals (flat.locals frames.new.flat) frames.old.flat ≡ frames.new.flat }
 {
-    let (answer, _) = again_lent::<K, Brand, N, I, O, E>(
-        frames, world, rest, names, buffer, input, out, err,
-    );
+    let (answer, _) = again_lent::<K, Brand, N, S>(frames, world, rest, names, streams);
     answer
 }
 
 // Resumes it on a stack that is lent by name, and hands the stack back.
-fn again_lent<'a, K: Stack<Cell> + Drop, B: Earlier, N: Names, I: Source, O: Sink, E: Sink>(
+fn again_lent<'a, K: Stack<Cell> + Drop, B: Earlier, N: Names, S: Streams>(
     frames: &'a mut Frames<K>,
     world: &mut World,
     rest: Residual,
     names: &N,
-    buffer: &mut Vec<u8>,
-    input: &mut I,
-    out: &mut O,
-    err: &mut E,
+    streams: &mut S,
 ) -> (Result<Outcome, Halt>, &'a mut Frames<K>)
     requires lent { frames.ghost_name ≡ B.loan }
     requires earlier { B.stack ≡ frames.old.flat }
@@ -252,9 +225,9 @@ fn again_lent<'a, K: Stack<Cell> + Drop, B: Earlier, N: Names, I: Source, O: Sin
     ensures same_reference { result.1.ghost_name ≡ frames.entry.ghost_name }
     ensures applies { Applies (rows.again (residual_in (extent_of world.old.heap) rest))
         (call_state world.old (flat.locals frames.old.flat)
-        (call_streams (I.left input.old) (I.counts input.old) (O.state out.old) (E.state err.old)))
+        (S.state streams.old))
         (call_state world.new (flat.locals result.1.now.flat)
-        (call_streams (I.left input.new) (I.counts input.new) (O.state out.new) (E.state err.new))) result.0 }
+        (S.state streams.new)) result.0 }
     ensures named { AnswerNamed (N.known names.now) world.new (flat.locals result.1.now.flat) result.0 }
     ensures sized { AnswerKeepsSizes world.old world.new result.0 }
     ensures stack { flat.set_locals (flat.locals result.1.now.flat) frames.old.flat ≡ result.1.now.flat }
@@ -264,6 +237,6 @@ fn again_lent<'a, K: Stack<Cell> + Drop, B: Earlier, N: Names, I: Source, O: Sin
         frames,
         of: PhantomData,
     };
-    let answer = again(rest, world, &mut own, names, buffer, input, out, err);
+    let answer = again(rest, world, &mut own, names, streams);
     (answer, own.frames)
 }

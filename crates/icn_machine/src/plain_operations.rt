@@ -108,7 +108,7 @@ fn put_slots<K: Stack<Cell> + Drop>(frames: &mut Frames<K>, slots: (Cell, Cell))
 
 /// What was computed, if it was.
 #[inline(always)]
-pub fn computed(found: Result<i64, Arith>) -> Option<i64>
+pub fn computed_number(found: Result<i64, Arith>) -> Option<i64>
     ensures { result ≡ result_ok found }
 {
     match found {
@@ -123,11 +123,11 @@ fn integer_result(op: Op, m: i64, n: i64) -> Option<i64>
     ensures { result ≡ integer_result op m n }
 {
     match op {
-        Op::Add => computed(add(m, n)),
-        Op::Subtract => computed(sub(m, n)),
-        Op::Multiply => computed(mul(m, n)),
-        Op::Divide => computed(div(m, n)),
-        Op::Remainder => computed(rem(m, n)),
+        Op::Add => computed_number(add(m, n)),
+        Op::Subtract => computed_number(sub(m, n)),
+        Op::Multiply => computed_number(mul(m, n)),
+        Op::Divide => computed_number(div(m, n)),
+        Op::Remainder => computed_number(rem(m, n)),
         _ => None,
     }
 }

@@ -1,5 +1,5 @@
 // One instruction of a run.
-ghost use Rattle.std.specs.Prelude.{◌≡◌, ◌≢◌, ◌<◌, false, true, suc, Err, Some, IfOk, length, slice_get};
+ghost use Rattle.std.specs.Prelude.{◌≡◌, ◌≢◌, ◌<◌, false, true, suc, Err, Some, IfOk, length, slice_get, IsTrue};
 ghost use Rattle.icn_value.specs.Store.{Outside};
 ghost use Rattle.icn_vars.specs.declared.outcome.Halt.TheVariants.{NoMemory};
 ghost use Rattle.icn_code.specs.declared.instr.Instr.{Instr as InstrSeen};
@@ -7,11 +7,12 @@ ghost use Rattle.icn_frames.specs.Stacks as flat;
 ghost use Rattle.icn_code.specs.CodeTables.{tables_of};
 ghost use Rattle.icn_run.specs.Stacks.{flat as calls};
 ghost use Rattle.icn_run.specs.Step.{all_names, instruction_at, instrs_of, running, step};
-ghost use Rattle.icn_streams.specs.Handed.{call_streams};
 ghost use Rattle.icn_control.specs.Machines.{ComesTo, does, stack_seen, store_seen};
 ghost use Rattle.icn_control.specs.Soundness.{KeepsLimits};
 ghost use Rattle.icn_control.specs.declared.machine.RunState.TheVariants as RunStates;
 ghost use Rattle.icn_instructions.specs.FirstStatics.{AreFirstStatics};
+ghost use Rattle.icn_instructions.specs.Groups.{group_of};
+ghost use Rattle.icn_instructions.specs.declared.groups.InstrGroup.TheVariants as Groups;
 ghost use Rattle.icn_machine.specs.Performing.{PerformsOn};
 ghost use Rattle.icn_machine.specs.Stepping.{Advances, EndsWhole, GoesOn, IsDoing, IsFailing, IsReady, IsReadyToFail, is_applied, is_failing, is_whole};
 ghost use Rattle.icn_machine.specs.AfterInstruction.{stage_of, stage_result};
@@ -26,8 +27,8 @@ use icn_code::{Code, Instr};
 use icn_control::{Machine, RunState};
 use icn_convert::Names;
 use icn_frames::{Cell, Frames, Stack};
-use icn_host::{Sink, Source};
-use icn_instructions::do_instruction;
+use icn_instructions::{InstrGroup, do_instruction, do_stack_instruction, group_of};
+use icn_streams::Streams;
 use icn_text::Op;
 use icn_value::{Item, Val};
 use icn_vars::Halt;
@@ -45,12 +46,11 @@ pub enum AfterStep {
     AtBound,
 }
 
-/// Rooms that each instruction uses again, whatever they hold: for operands, for values, and for what is read and put.
+/// Rooms that each instruction uses again, whatever they hold: for operands, and for values.
 #[derive(Drop)]
 pub struct Rooms {
     pub items: Vec<Item>,
     pub vals: Vec<Val>,
-    pub buffer: Vec<u8>,
 }
 
 // The instructions of a procedure; of one that is not there, none.
@@ -105,22 +105,21 @@ fn is_applied(instr: Instr) -> bool
 }
 
 // Performs an operation, calls something or takes a field, as is due. The errors are those of the call.
-fn do_applied<K: Stack<Cell> + Drop, N: Names, I: Source, O: Sink, E: Sink>(
+#[inline(always)]
+fn do_applied<K: Stack<Cell> + Drop, N: Names, S: Streams>(
     m: &mut Machine<K>,
     code: &Code,
     instr: Instr,
     names: &N,
     rooms: &mut Rooms,
-    input: &mut I,
-    out: &mut O,
-    err: &mut E,
+    streams: &mut S,
 ) -> Result<RunState, Halt>
     requires applied { is_applied instr ≡ true }
     requires known { N.known names.now ≡ all_names (tables_of code.now) }
     requires doing { IsDoing (tables_of code.now) m.old instr }
     ensures step { PerformsOn (tables_of code.now) (λ outside. does (tables_of code.now) outside instr m.old)
-        m.new (call_streams (I.left input.old) (I.counts input.old) (O.state out.old) (E.state err.old))
-        (call_streams (I.left input.new) (I.counts input.new) (O.state out.new) (E.state err.new)) result }
+        m.new (S.state streams.old)
+        (S.state streams.new) result }
     ensures ready { IfOk result (IsReady (tables_of code.now) m.new) }
     ensures erring { IsReadyToFail (tables_of code.now) m.new result }
     ensures within { KeepsLimits m.old m.new result }
@@ -129,17 +128,17 @@ fn do_applied<K: Stack<Cell> + Drop, N: Names, I: Source, O: Sink, E: Sink>(
     steps_keep_sizes();
     let items = &mut rooms.items;
     let vals = &mut rooms.vals;
-    let buffer = &mut rooms.buffer;
     match instr {
-        Instr::Op(op) => operate(m, op, items, names, buffer, input, out, err),
+        Instr::Op(op) => operate(m, op, items, names, streams),
         Instr::Field(place) => field(m, code, place),
-        Instr::Invoke(count) => invoke(m, code, count, items, vals, names, buffer, input, out, err),
-        Instr::Appl => appl(m, code, items, vals, names, buffer, input, out, err),
+        Instr::Invoke(count) => invoke(m, code, count, items, vals, names, streams),
+        Instr::Appl => appl(m, code, items, vals, names, streams),
         _ => unreachable!(),
     }
 }
 
 // Does any other instruction that is due. The errors are those of `do_instruction`.
+#[inline(always)]
 fn do_plain<K: Stack<Cell> + Drop>(
     m: &mut Machine<K>,
     code: &Code,
@@ -162,23 +161,59 @@ fn do_plain<K: Stack<Cell> + Drop>(
     do_instruction(m, code, firsts, instr, &mut rooms.items, &mut rooms.vals)
 }
 
+// Whether an instruction touches nothing but the stack that runs.
+#[inline(always)]
+fn is_on_stack(instr: Instr) -> bool
+    ensures { IsTrue result → group_of instr ≡ Groups.Stack }
+{
+    match group_of(instr) {
+        InstrGroup::Stack => true,
+        InstrGroup::World => false,
+        InstrGroup::Machine => false,
+        InstrGroup::Coexpression => false,
+        InstrGroup::Application => false,
+    }
+}
+
+// Does one that touches nothing but the stack that runs. The error is want of memory.
+#[inline(always)]
+fn do_on_stack<K: Stack<Cell> + Drop>(
+    m: &mut Machine<K>,
+    code: &Code,
+    firsts: &[u32],
+    instr: Instr,
+) -> Result<RunState, Halt>
+    requires firsts { AreFirstStatics (tables_of code.now) firsts.now }
+    requires group { group_of instr ≡ Groups.Stack }
+    requires doing { IsDoing (tables_of code.now) m.old instr }
+    ensures step { (outside : Outside)
+        → ComesTo (tables_of code.now) outside (does (tables_of code.now) outside instr m.old) m.new result }
+    ensures ready { IfOk result (IsReady (tables_of code.now) m.new) }
+    ensures erring { IsReadyToFail (tables_of code.now) m.new result }
+    ensures whole { is_whole instr ≡ true → EndsWhole result }
+    ensures within { KeepsLimits m.old m.new result }
+{
+    steps_keep_names();
+    steps_keep_sizes();
+    do_stack_instruction(m, code, firsts, instr)
+}
+
 // Does the instruction that is due, but for the failing behind it. The errors are those of the instruction that end the run.
-fn do_next<K: Stack<Cell> + Drop, N: Names, I: Source, O: Sink, E: Sink>(
+#[inline(always)]
+fn do_next<K: Stack<Cell> + Drop, N: Names, S: Streams>(
     m: &mut Machine<K>,
     code: &Code,
     firsts: &[u32],
     names: &N,
     rooms: &mut Rooms,
-    input: &mut I,
-    out: &mut O,
-    err: &mut E,
+    streams: &mut S,
 ) -> Result<RunState, Halt>
     requires firsts { AreFirstStatics (tables_of code.now) firsts.now }
     requires known { N.known names.now ≡ all_names (tables_of code.now) }
     requires ready { IsReady (tables_of code.now) m.old RunStates.Running }
     ensures steps { Advances IsFailing (tables_of code.now) m.old RunStates.Running
-        (call_streams (I.left input.old) (I.counts input.old) (O.state out.old) (E.state err.old)) m.new
-        (call_streams (I.left input.new) (I.counts input.new) (O.state out.new) (E.state err.new)) result }
+        (S.state streams.old) m.new
+        (S.state streams.new) result }
     ensures ready { IfOk result (IsReady (tables_of code.now) m.new) }
     ensures whole { (instr : InstrSeen)
         → instruction_at calls (tables_of code.now) (stack_seen m.old) ≡ Some instr → is_whole instr ≡ true
@@ -187,7 +222,11 @@ fn do_next<K: Stack<Cell> + Drop, N: Names, I: Source, O: Sink, E: Sink>(
 {
     let instr = next_instr(m, code);
     if is_applied(instr) {
-        let answer = do_applied(m, code, instr, names, rooms, input, out, err);
+        let answer = do_applied(m, code, instr, names, rooms, streams);
+        return settle(m, answer);
+    }
+    if is_on_stack(instr) {
+        let answer = do_on_stack(m, code, firsts, instr);
         return settle(m, answer);
     }
     let answer = do_plain(m, code, firsts, instr, rooms);
@@ -209,46 +248,43 @@ fn stepped_of(stage: RunState) -> AfterStep
 }
 
 // Fails until the run stands somewhere. The errors are those of `fail_through`.
-fn fail_to_next<K: Stack<Cell> + Drop, N: Names, I: Source, O: Sink, E: Sink>(
+#[inline(never)]
+fn fail_to_next<K: Stack<Cell> + Drop, N: Names, S: Streams>(
     m: &mut Machine<K>,
     from: RunState,
     code: &Code,
     names: &N,
-    buffer: &mut Vec<u8>,
-    input: &mut I,
-    out: &mut O,
-    err: &mut E,
+    streams: &mut S,
 ) -> Result<AfterStep, Halt>
     requires known { N.known names.now ≡ all_names (tables_of code.now) }
     requires ready { IsReady (tables_of code.now) m.old from }
     ensures steps { GoesOn IsFailing (tables_of code.now) m.old from
-        (call_streams (I.left input.old) (I.counts input.old) (O.state out.old) (E.state err.old)) m.new
-        (call_streams (I.left input.new) (I.counts input.new) (O.state out.new) (E.state err.new))
+        (S.state streams.old) m.new
+        (S.state streams.new)
         (stage_result result) }
     ensures ready { IfOk result (λ stepped. IsReady (tables_of code.now) m.new (stage_of stepped)) }
     ensures within { KeepsLimits m.old m.new result }
 {
-    let stage = fail_through(m, from, names, buffer, input, out, err)?;
+    let stage = fail_through(m, from, names, streams)?;
     Ok(stepped_of(stage))
 }
 
 // Does one instruction, by the names of the code.
-fn step_named<K: Stack<Cell> + Drop, N: Names, I: Source, O: Sink, E: Sink>(
+#[inline(always)]
+fn step_named<K: Stack<Cell> + Drop, N: Names, S: Streams>(
     m: &mut Machine<K>,
     code: &Code,
     firsts: &[u32],
     names: &N,
     rooms: &mut Rooms,
-    input: &mut I,
-    out: &mut O,
-    err: &mut E,
+    streams: &mut S,
 ) -> Result<AfterStep, Halt>
     requires firsts { AreFirstStatics (tables_of code.now) firsts.now }
     requires known { N.known names.now ≡ all_names (tables_of code.now) }
     requires ready { IsReady (tables_of code.now) m.old RunStates.Running }
     ensures steps { Advances IsFailing (tables_of code.now) m.old RunStates.Running
-        (call_streams (I.left input.old) (I.counts input.old) (O.state out.old) (E.state err.old)) m.new
-        (call_streams (I.left input.new) (I.counts input.new) (O.state out.new) (E.state err.new))
+        (S.state streams.old) m.new
+        (S.state streams.new)
         (stage_result result) }
     ensures ready { IfOk result (λ stepped. IsReady (tables_of code.now) m.new (stage_of stepped)) }
     ensures no_memory { (instr : InstrSeen)
@@ -256,9 +292,9 @@ fn step_named<K: Stack<Cell> + Drop, N: Names, I: Source, O: Sink, E: Sink>(
         → result ≢ Err NoMemory }
     ensures within { KeepsLimits m.old m.new result }
 {
-    let stage = do_next(m, code, firsts, names, rooms, input, out, err)?;
+    let stage = do_next(m, code, firsts, names, rooms, streams)?;
     if fails_now(stage) {
-        return fail_to_next(m, stage, code, names, &mut rooms.buffer, input, out, err);
+        return fail_to_next(m, stage, code, names, streams);
     }
     Ok(stepped_of(stage))
 }
@@ -271,18 +307,16 @@ fn step_named<K: Stack<Cell> + Drop, N: Names, I: Source, O: Sink, E: Sink>(
 /// `Error` where the run is over by a run-time error, and `Ends` where it ends with a status. `ReadFault` where the input failed,
 /// `WriteFault` where an output did, and `NoMemory` where memory ran out: the run is over then. An instruction that pops, unmarks,
 /// sets or goes to a label or asks for `initial` takes no memory.
-pub fn step<K: Stack<Cell> + Drop, I: Source, O: Sink, E: Sink>(
+pub fn step<K: Stack<Cell> + Drop, S: Streams>(
     m: &mut Machine<K>,
     code: &Verified,
     rooms: &mut Rooms,
-    input: &mut I,
-    out: &mut O,
-    err: &mut E,
+    streams: &mut S,
 ) -> Result<AfterStep, Halt>
     requires ready { IsReady (tables_of code.now.code) m.old RunStates.Running }
     ensures steps { Advances IsFailing (tables_of code.now.code) m.old RunStates.Running
-        (call_streams (I.left input.old) (I.counts input.old) (O.state out.old) (E.state err.old)) m.new
-        (call_streams (I.left input.new) (I.counts input.new) (O.state out.new) (E.state err.new))
+        (S.state streams.old) m.new
+        (S.state streams.new)
         (stage_result result) }
     ensures ready { IfOk result (λ stepped. IsReady (tables_of code.now.code) m.new (stage_of stepped)) }
     ensures no_memory { (instr : InstrSeen)
@@ -293,5 +327,5 @@ pub fn step<K: Stack<Cell> + Drop, I: Source, O: Sink, E: Sink>(
     let firsts = code.first_statics();
     let code = code.code();
     let names = CodeNames::new(code);
-    step_named(m, code, firsts, &names, rooms, input, out, err)
+    step_named(m, code, firsts, &names, rooms, streams)
 }

@@ -13,7 +13,8 @@ use Rattle.icn_defs.specs.Variables.{element_position, places}
 pub element_found : (n : ℤ) (size place : ℕ) (next : ℕ → Row) (s : Setting) → Some place ≡ position_of n size → place ≤ size
     → element_position n size next s ≡ next place s
 element_found n size place next s is within =
-    ap (λ one. thing_or_failure one (λ p. fails_unless (nat_le p size) (next p)) s) (sym is) ∙ ap (λ t. fails_unless t (next place) s) (le-leb place size within)
+    ap (λ one. thing_or_failure one (λ p. fails_unless (nat_le p size) (next p)) s) (sym is)
+    ∙ ap (λ t. fails_unless t (next place) s) (le-leb place size within)
 
 -- Integers and sizes as they are held
 
@@ -21,7 +22,8 @@ element_found n size place next s is within =
 pub element_held : (n n' : ℤ) (size size' : ℕ) (next : ℕ → Row) (s : Setting) (outcome : Outcome) → n' ≡ n → size' ≡ size
     → element_position n' size' next s ≡ outcome
     → element_position n size next s ≡ outcome
-element_held n n' size size' next s outcome same same' is = sym (ap (λ k. element_position k size' next s) same ∙ ap (λ k. element_position n k next s) same') ∙ is
+element_held n n' size size' next s outcome same same' is =
+    sym (ap (λ k. element_position k size' next s) same ∙ ap (λ k. element_position n k next s) same') ∙ is
 
 pub places_held : (m m' n n' : ℤ) (size size' : ℕ) (next : ℕ × ℕ → Row) (s : Setting) (outcome : Outcome) → m' ≡ m → n' ≡ n → size' ≡ size
     → places m' n' size' next s ≡ outcome

@@ -1,177 +1,138 @@
-// All operations in one call, and what they left in another.
-ghost use Rattle.std.specs.Prelude.{◌≡◌, true, false, length, map};
+// All operations in one call.
+ghost use Rattle.std.specs.Prelude.{◌≡◌, map};
 ghost use Rattle.std.specs.List.{All};
-ghost use Rattle.icn_value.specs.Values.{Null, Val as ValItem};
-ghost use Rattle.icn_defs.specs.Applying.{again, operation_on, operation_row};
-ghost use Rattle.icn_defs.specs.Arities.{arity};
-ghost use Rattle.icn_heap.specs.Extents.{IsLive};
+ghost use Rattle.icn_defs.specs.Applying.{operand, operation_on, operation_row};
+ghost use Rattle.icn_heap.specs.Extents.{Extent, IsLive};
 ghost use Rattle.icn_heap.specs.Heaps.{extent_of};
-ghost use Rattle.icn_vars.specs.Outcomes.{IsLiveAnswer, IsLiveResidual, residual_in};
-ghost use Rattle.icn_vars.specs.Worlds.{IsLiveItem, KeepsItems, item_in, reach_of};
-ghost use Rattle.icn_args.specs.RowWords.{Answers};
+ghost use Rattle.icn_vars.specs.Worlds.{IsLiveItem, Reach, item_in, reach_of};
 ghost use Rattle.icn_streams.specs.Answers.{call_state};
 ghost use Rattle.icn_streams.specs.Applies.{Applies};
-ghost use Rattle.icn_streams.specs.Handed.{call_streams};
-ghost use Rattle.icn_ops.specs.OperationGroups.{is_of_operations, wants_values};
 
+use crate::arithmetic::{
+    add_row, divide_row, multiply_row, negate_row, number_row, power_row, remainder_row,
+    subtract_row,
+};
+use crate::comparisons::{
+    equal_row, equivalent_row, greater_or_equal_row, greater_row, less_or_equal_row, less_row,
+    lexically_equal_row, lexically_greater_or_equal_row, lexically_greater_row,
+    lexically_less_or_equal_row, lexically_less_row, lexically_not_equal_row, not_equal_row,
+    not_equivalent_row,
+};
+use crate::counting::to_by_row;
+use crate::lists::concatenate_lists_row;
+use crate::null::{dereference_row, is_not_null_row, is_null_row, size_row};
 use crate::random::random_row;
-use crate::resumed::resume;
+use crate::scanning::tab_match_row;
 use crate::sections::{section_minus_row, section_plus_row, section_row};
+use crate::sets::{difference_row, intersection_row, union_row};
 use crate::subscripts::subscript_row;
-use crate::values::{apply_to_values, wants_values};
+use crate::texts::{complement_row, concatenate_row};
 use crate::variables::{assign_row, reversible_assign_row, reversible_swap_row, swap_row};
 use crate::walks::elements_row;
-use icn_host::{Sink, Source};
-use icn_streams::lines_again;
+use icn_streams::Streams;
 use icn_text::Op;
-use icn_value::{Item, Residual};
+use icn_value::{Item, Val};
 use icn_vars::{Halt, Locals, Outcome, World};
 
-/// Applies an operation to as many operands as it has. The refreshing of a co-expression is no row: it fails here. The buffer is room
-/// for a line.
+/// Applies an operation; an operand that is missing is null, and one that is too many does nothing. The refreshing of a co-expression
+/// is no row: it fails here.
 ///
 /// # Errors
 ///
 /// `Error` where the row says so. `ReadFault` where the input failed in this call, `WriteFault` where an output did as it was settled
 /// before a reading, `NoMemory` where memory ran out.
-pub fn first<L: Locals, I: Source, O: Sink, E: Sink>(
+pub fn apply_operation<L: Locals, S: Streams>(
     op: Op,
     args: &[Item],
     w: &mut World,
     l: &mut L,
-    buffer: &mut Vec<u8>,
-    input: &mut I,
-    out: &mut O,
-    err: &mut E,
+    streams: &mut S,
 ) -> Result<Outcome, Halt>
-    requires arity { length args.now ≡ arity op }
     requires locals { All (IsLive (extent_of w.old.heap)) (L.items l.old) }
     requires args { All (IsLiveItem (reach_of w.old (L.items l.old))) args.now }
-    ensures { Applies (operation_row op (map (item_in (extent_of w.old.heap)) args.now)) (call_state w.old
-        (L.items l.old)
-        (call_streams (I.left input.old) (I.counts input.old) (O.state out.old) (E.state err.old)))
-        (call_state w.new (L.items l.new)
-        (call_streams (I.left input.new) (I.counts input.new) (O.state out.new) (E.state err.new))) result }
+    ensures { Applies (operation_row op (map (item_in (extent_of w.old.heap)) args.now))
+        (call_state w.old (L.items l.old) (S.state streams.old))
+        (call_state w.new (L.items l.new) (S.state streams.new)) result }
 {
-    if wants_values(op) {
-        return apply_to_values(op, args, w, l);
-    }
-    match args {
-        [x] => apply_to_one(op, *x, w, l, buffer, input, out, err),
-        [x, y] => apply_to_two(op, *x, *y, w, l),
-        [x, y, z] => apply_to_three(op, *x, *y, *z, w, l),
-        _ => unreachable!(),
-    }
+    let x = operand(args, 0);
+    let y = operand(args, 1);
+    let z = operand(args, 2);
+    apply_to_operands(op, x, y, z, w, l, streams)
 }
 
-/// Goes on with what an operation left, or takes it back. The buffer is room for a line. The errors are those of `first`.
-pub fn again<L: Locals, I: Source, O: Sink, E: Sink>(
-    rest: Residual,
-    w: &mut World,
-    l: &mut L,
-    buffer: &mut Vec<u8>,
-    input: &mut I,
-    out: &mut O,
-    err: &mut E,
-) -> Result<Outcome, Halt>
-    requires operation { is_of_operations rest ≡ true }
-    requires locals { All (IsLive (extent_of w.old.heap)) (L.items l.old) }
-    requires rest { IsLiveResidual (reach_of w.old (L.items l.old)) rest }
-    ensures { Applies (again (residual_in (extent_of w.old.heap) rest)) (call_state w.old (L.items l.old)
-        (call_streams (I.left input.old) (I.counts input.old) (O.state out.old) (E.state err.old)))
-        (call_state w.new (L.items l.new)
-        (call_streams (I.left input.new) (I.counts input.new) (O.state out.new) (E.state err.new))) result }
+// The operand at an index, counted from 0, which is null where it is missing.
+fn operand(args: &[Item], index: usize) -> Item
+    ensures value { (all : Extent)
+        → item_in all result ≡ operand (map (item_in all) args.now) index }
+    ensures live { (reach : Reach) → All (IsLiveItem reach) args.now → IsLiveItem reach result }
 {
-    match rest {
-        Residual::InputLines => lines_again(w, l, buffer, input, out, err),
-        _ => resume(rest, w, l),
-    }
+    args.get(index).copied().unwrap_or(Item::Val(Val::Null))
 }
 
-// An operation of one operand that it takes apart.
-fn apply_to_one<L: Locals, I: Source, O: Sink, E: Sink>(
-    op: Op,
-    x: Item,
-    w: &mut World,
-    l: &mut L,
-    buffer: &mut Vec<u8>,
-    input: &mut I,
-    out: &mut O,
-    err: &mut E,
-) -> Result<Outcome, Halt>
-    requires others { wants_values op ≡ false }
-    requires arity { arity op ≡ 1 }
-    requires locals { All (IsLive (extent_of w.old.heap)) (L.items l.old) }
-    requires first { IsLiveItem (reach_of w.old (L.items l.old)) x }
-    ensures { Applies (operation_on op (item_in (extent_of w.old.heap) x) (ValItem Null) (ValItem Null))
-        (call_state w.old (L.items l.old)
-        (call_streams (I.left input.old) (I.counts input.old) (O.state out.old) (E.state err.old)))
-        (call_state w.new (L.items l.new)
-        (call_streams (I.left input.new) (I.counts input.new) (O.state out.new) (E.state err.new))) result }
-{
-    match op {
-        Op::Elements => elements_row(w, l, x, buffer, input, out, err),
-        Op::Random => random_row(w, l, x),
-        Op::Refresh => Ok(Outcome::Fails),
-        _ => unreachable!(),
-    }
-}
-
-// An operation of two operands that takes or gives variables.
-fn apply_to_two<L: Locals>(
-    op: Op,
-    x: Item,
-    y: Item,
-    w: &mut World,
-    l: &mut L,
-) -> Result<Outcome, Halt>
-    requires others { wants_values op ≡ false }
-    requires arity { arity op ≡ 2 }
-    requires locals { All (IsLive (extent_of w.old.heap)) (L.items l.old) }
-    requires first { IsLiveItem (reach_of w.old (L.items l.old)) x }
-    requires second { IsLiveItem (reach_of w.old (L.items l.old)) y }
-    ensures row { Answers w.old (L.items l.old) w.new (L.items l.new) (operation_on op
-        (item_in (extent_of w.old.heap) x) (item_in (extent_of w.old.heap) y) (ValItem Null)) result }
-    ensures live { IsLiveAnswer (reach_of w.new (L.items l.new)) result }
-    ensures locals { All (IsLive (extent_of w.new.heap)) (L.items l.new) }
-    ensures kept { KeepsItems (reach_of w.old (L.items l.old)) (reach_of w.new (L.items l.new)) }
-{
-    match op {
-        Op::Assign => assign_row(w, l, x, y),
-        Op::Swap => swap_row(w, l, x, y),
-        Op::ReversibleAssign => reversible_assign_row(w, l, x, y),
-        Op::ReversibleSwap => reversible_swap_row(w, l, x, y),
-        Op::Subscript => subscript_row(w, l, x, y),
-        _ => unreachable!(),
-    }
-}
-
-// An operation of three operands that gives variables.
-fn apply_to_three<L: Locals>(
+// The row of each operation.
+fn apply_to_operands<L: Locals, S: Streams>(
     op: Op,
     x: Item,
     y: Item,
     z: Item,
     w: &mut World,
-    l: &L,
+    l: &mut L,
+    streams: &mut S,
 ) -> Result<Outcome, Halt>
-    requires others { wants_values op ≡ false }
-    requires arity { arity op ≡ 3 }
-    requires locals { All (IsLive (extent_of w.old.heap)) (L.items l.now) }
-    requires first { IsLiveItem (reach_of w.old (L.items l.now)) x }
-    requires second { IsLiveItem (reach_of w.old (L.items l.now)) y }
-    requires third { IsLiveItem (reach_of w.old (L.items l.now)) z }
-    ensures row { Answers w.old (L.items l.now) w.new (L.items l.now)
-        (operation_on op (item_in (extent_of w.old.heap) x) (item_in (extent_of w.old.heap) y)
-        (item_in (extent_of w.old.heap) z)) result }
-    ensures live { IsLiveAnswer (reach_of w.new (L.items l.now)) result }
-    ensures locals { All (IsLive (extent_of w.new.heap)) (L.items l.now) }
-    ensures kept { KeepsItems (reach_of w.old (L.items l.now)) (reach_of w.new (L.items l.now)) }
+    requires locals { All (IsLive (extent_of w.old.heap)) (L.items l.old) }
+    requires first { IsLiveItem (reach_of w.old (L.items l.old)) x }
+    requires second { IsLiveItem (reach_of w.old (L.items l.old)) y }
+    requires third { IsLiveItem (reach_of w.old (L.items l.old)) z }
+    ensures { Applies (operation_on op (item_in (extent_of w.old.heap) x) (item_in (extent_of w.old.heap) y)
+        (item_in (extent_of w.old.heap) z))
+        (call_state w.old (L.items l.old) (S.state streams.old))
+        (call_state w.new (L.items l.new) (S.state streams.new)) result }
 {
     match op {
+        Op::IsNull => is_null_row(w, l, x),
+        Op::IsNotNull => is_not_null_row(w, l, x),
+        Op::Dereference => dereference_row(w, l, x),
+        Op::Number => number_row(w, l, x),
+        Op::Negate => negate_row(w, l, x),
+        Op::Size => size_row(w, l, x),
+        Op::Complement => complement_row(w, l, x),
+        Op::Elements => elements_row(w, l, x, streams),
+        Op::Random => random_row(w, l, x),
+        Op::TabMatch => tab_match_row(w, l, x),
+        Op::Refresh => Ok(Outcome::Fails),
+        Op::Add => add_row(w, l, x, y),
+        Op::Subtract => subtract_row(w, l, x, y),
+        Op::Multiply => multiply_row(w, l, x, y),
+        Op::Divide => divide_row(w, l, x, y),
+        Op::Remainder => remainder_row(w, l, x, y),
+        Op::Power => power_row(w, l, x, y),
+        Op::Less => less_row(w, l, x, y),
+        Op::LessOrEqual => less_or_equal_row(w, l, x, y),
+        Op::Equal => equal_row(w, l, x, y),
+        Op::GreaterOrEqual => greater_or_equal_row(w, l, x, y),
+        Op::Greater => greater_row(w, l, x, y),
+        Op::NotEqual => not_equal_row(w, l, x, y),
+        Op::LexicallyLess => lexically_less_row(w, l, x, y),
+        Op::LexicallyLessOrEqual => lexically_less_or_equal_row(w, l, x, y),
+        Op::LexicallyEqual => lexically_equal_row(w, l, x, y),
+        Op::LexicallyGreaterOrEqual => lexically_greater_or_equal_row(w, l, x, y),
+        Op::LexicallyGreater => lexically_greater_row(w, l, x, y),
+        Op::LexicallyNotEqual => lexically_not_equal_row(w, l, x, y),
+        Op::Equivalent => equivalent_row(w, l, x, y),
+        Op::NotEquivalent => not_equivalent_row(w, l, x, y),
+        Op::Concatenate => concatenate_row(w, l, x, y),
+        Op::ConcatenateLists => concatenate_lists_row(w, l, x, y),
+        Op::Union => union_row(w, l, x, y),
+        Op::Difference => difference_row(w, l, x, y),
+        Op::Intersection => intersection_row(w, l, x, y),
+        Op::Assign => assign_row(w, l, x, y),
+        Op::Swap => swap_row(w, l, x, y),
+        Op::ReversibleAssign => reversible_assign_row(w, l, x, y),
+        Op::ReversibleSwap => reversible_swap_row(w, l, x, y),
+        Op::Subscript => subscript_row(w, l, x, y),
         Op::Section => section_row(w, l, x, y, z),
         Op::SectionPlus => section_plus_row(w, l, x, y, z),
         Op::SectionMinus => section_minus_row(w, l, x, y, z),
-        _ => unreachable!(),
+        Op::ToBy => to_by_row(w, l, x, y, z),
     }
 }

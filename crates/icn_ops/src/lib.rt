@@ -1,4 +1,4 @@
-//! What each operation does: a function for each row of the definitions.
+//! What each operation does: a function for each row of the definitions, and all in one call.
 #![tactic(auto)]
 
 mod applying;
@@ -12,17 +12,15 @@ mod operands;
 mod parts;
 mod positions;
 mod random;
-mod resumed;
 mod scanning;
 mod sections;
 mod sets;
 mod subscripts;
 mod texts;
-mod values;
 mod variables;
 mod walks;
 
-pub use applying::{again, first};
+pub use applying::apply_operation;
 pub use arithmetic::{
     add_row, divide_row, multiply_row, negate_row, number_row, power_row, remainder_row,
     subtract_row,
@@ -41,13 +39,11 @@ pub use elements::{
 pub use lists::concatenate_lists_row;
 pub use null::{dereference_row, is_not_null_row, is_null_row, size_row};
 pub use random::random_row;
-pub use resumed::is_of_operations;
 pub use scanning::tab_match_row;
 pub use sections::{section_minus_row, section_plus_row, section_row};
 pub use sets::{difference_row, intersection_row, union_row};
 pub use subscripts::subscript_row;
 pub use texts::{complement_row, concatenate_row};
-pub use values::{apply_to_values, wants_values};
 pub use variables::{
     assign_row, reversible_assign_row, reversible_swap_row, swap_row, undo_assign_again,
     undo_exchange_again,

@@ -11,7 +11,6 @@ ghost use Rattle.icn_vars.specs.Worlds.{IsLiveItem, KeepsItems, item_in, reach_o
 ghost use Rattle.icn_args.specs.RowWords.{Answers, HasText, the_text};
 ghost use Rattle.icn_streams.specs.Answers.{call_state};
 ghost use Rattle.icn_streams.specs.Applies.{Applies};
-ghost use Rattle.icn_streams.specs.Handed.{call_streams};
 
 use crate::elements::{
     list_items_from, record_fields_from, set_members_from, table_values_from, text_bytes_from,
@@ -19,8 +18,7 @@ use crate::elements::{
 };
 use crate::parts::text_holder;
 use icn_args::text_of;
-use icn_host::{Sink, Source};
-use icn_streams::lines_row;
+use icn_streams::Streams;
 use icn_value::{Item, Val};
 use icn_vars::{Halt, Locals, Outcome, World, deref};
 
@@ -31,25 +29,22 @@ use icn_vars::{Halt, Locals, Outcome, World, deref};
 /// `Error` is 116 about a value that has none of these, 212 about a file that is not the input, and 306 where a text that is made or
 /// read passes its limit. `ReadFault` where the input failed in this call, `WriteFault` where an output did as it was settled before,
 /// `NoMemory` where memory ran out.
-pub fn elements_row<L: Locals, I: Source, O: Sink, E: Sink>(
+pub fn elements_row<L: Locals, S: Streams>(
     w: &mut World,
     l: &L,
     x: Item,
-    buffer: &mut Vec<u8>,
-    input: &mut I,
-    out: &mut O,
-    err: &mut E,
+    streams: &mut S,
 ) -> Result<Outcome, Halt>
     requires locals { All (IsLive (extent_of w.old.heap)) (L.items l.now) }
     requires first { IsLiveItem (reach_of w.old (L.items l.now)) x }
     ensures { Applies (elements_row (item_in (extent_of w.old.heap) x)) (call_state w.old (L.items l.now)
-        (call_streams (I.left input.old) (I.counts input.old) (O.state out.old) (E.state err.old)))
+        (S.state streams.old))
         (call_state w.new (L.items l.now)
-        (call_streams (I.left input.new) (I.counts input.new) (O.state out.new) (E.state err.new))) result }
+        (S.state streams.new)) result }
 {
     let val = deref(w, l, x)?;
     match val {
-        Val::Std(file) => lines_row(file, w, l, buffer, input, out, err),
+        Val::Std(file) => streams.lines(file, w, l),
         _ => elements_of(w, l, x, val),
     }
 }

@@ -4,7 +4,7 @@ use Rattle.icn_profile.specs.Numbers.{greatest_line_operand}
 use Rattle.icn_prep.specs.declared.cursor.Cursor.{Cursor}
 use Rattle.icn_prep.specs.declared.fault.PrepFault.{PrepFault}
 use Rattle.icn_prep.specs.declared.source_reader.SourceReader.{SourceReader}
-use Rattle.icn_prep.specs.Refusals.{IsOfText}
+use Rattle.icn_prep.specs.Refusals.{IsOfPrep, IsOfText}
 
 -- The file of the next line has a name, and its number is the next one or one that `$line` can set. No name is lost, the
 -- first one stays, and so do the lines that were given.
@@ -25,3 +25,4 @@ pub record PassesLine {A : Type 0} (before after : SourceReader) (here next : Cu
     (result : Result A PrepFault) : Type 0 where
   pub leaves : OnOk result (LeavesLine before after here next)
   pub fault : IfErr result IsOfText
+  pub rule : IfErr result IsOfPrep

@@ -1,6 +1,7 @@
 -- What a step of the code may answer where a step of the definition is refused.
 use Rattle.std.specs.Prelude.{◌≡◌, ◌≢◌, ◌⊎◌, List, Option, None, Some, Result, Ok, Err, ℕ, drop}
-use Rattle.icn_tree.specs.declared.rule.Rule.TheVariants.{P6}
+use Rattle.icn_tree.specs.declared.rule.Rule.{Rule}
+use Rattle.icn_tree.specs.declared.rule.Rule.TheVariants.{P1, P2, P3, P4, P5, P6, P7, P8, P9}
 use Rattle.icn_prep.specs.declared.fault.PrepFault.{PrepFault}
 use Rattle.icn_prep.specs.declared.fault.PrepFault.TheVariants.{Missing, Broken, FileFault, NoMemory}
 use Rattle.icn_prep.specs.FileLines.{lines_of}
@@ -18,6 +19,26 @@ IsOfText (Broken rule file line) = rule ≢ P6
 IsOfText NoMemory = Unit {0}
 IsOfText Missing = ⊥
 IsOfText FileFault = ⊥
+
+-- a rule of preprocessing
+abbrev pub IsPrepRule : Rule → Type 0
+IsPrepRule P1 = Unit {0}
+IsPrepRule P2 = Unit {0}
+IsPrepRule P3 = Unit {0}
+IsPrepRule P4 = Unit {0}
+IsPrepRule P5 = Unit {0}
+IsPrepRule P6 = Unit {0}
+IsPrepRule P7 = Unit {0}
+IsPrepRule P8 = Unit {0}
+IsPrepRule P9 = Unit {0}
+IsPrepRule _ = ⊥
+
+-- where a rule is broken, it is one of preprocessing
+abbrev pub IsOfPrep : PrepFault → Type 0
+IsOfPrep (Broken rule file line) = IsPrepRule rule
+IsOfPrep Missing = Unit {0}
+IsOfPrep FileFault = Unit {0}
+IsOfPrep NoMemory = Unit {0}
 
 -- a line was read up to here, where it includes the file of a name, or else whole
 abbrev pub rest_of_line : IncludeStep → Option (List ℕ) → LineState → Cursor → Step

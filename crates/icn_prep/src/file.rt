@@ -4,7 +4,7 @@ ghost use Rattle.std.specs.Option.{option_map};
 ghost use Rattle.icn_profile.specs.Numbers.{greatest_line, most_bytes_of_source};
 ghost use Rattle.icn_prep.specs.FileLines.{lines_of};
 ghost use Rattle.icn_prep.specs.CursorViews.{cursor_of};
-ghost use Rattle.icn_prep.specs.Refusals.{Refuses, IsOfText, rest_of_lines};
+ghost use Rattle.icn_prep.specs.Refusals.{Refuses, IsOfPrep, IsOfText, rest_of_lines};
 ghost use Rattle.icn_prep.specs.SourceLines.{IncludeStep, end_file, lines_read};
 ghost use Rattle.icn_prep.specs.StateViews.{state_of};
 
@@ -35,6 +35,7 @@ pub fn read_lines(
         (state_of reading.new) (cursor_of cursor.new) content.now)
         (Refuses outcome) }
     ensures fault { IfErr result IsOfText }
+    ensures rule { IfErr result IsOfPrep }
     ensures named { IfOk result (λ stop. IfSome stop (λ _. cursor.new.file < vec_len reading.new.names)) }
     ensures behind { IfOk result (λ stop. IfSome stop (λ s. s.1 ≤ length content.now)) }
     ensures numbered { IfOk result
@@ -62,6 +63,7 @@ fn end_file(reading: &SourceReader, cursor: &mut Cursor) -> Result<(), PrepFault
     ensures exact { let outcome = end_file (state_of reading.now) (cursor_of cursor.old).conditionals in
         MatchResult result (λ _. outcome ≡ Ok (state_of reading.now)) (Refuses outcome) }
     ensures fault { IfErr result IsOfText }
+    ensures rule { IfErr result IsOfPrep }
 {
     match cursor.conditionals.pop() {
         Some(innermost) => Err(line_refusal(

@@ -5,7 +5,7 @@ ghost use Rattle.icn_prep.specs.declared.fault.PrepFault.TheVariants.{Broken, No
 ghost use Rattle.icn_prep.specs.declared.literal.LiteralState.TheVariants.{Outside};
 ghost use Rattle.icn_prep.specs.CursorViews.{cursor_of};
 ghost use Rattle.icn_prep.specs.Cursors.{next_line};
-ghost use Rattle.icn_prep.specs.Refusals.{Refuses, IsOfText};
+ghost use Rattle.icn_prep.specs.Refusals.{Refuses, IsOfPrep, IsOfText};
 ghost use Rattle.icn_prep.specs.SourceLines.{first_state, name_at, give_line, left_empty};
 ghost use Rattle.icn_prep.specs.StateViews.{state_of};
 
@@ -80,6 +80,7 @@ pub fn give(
     ensures exact { let step = give_line (state_of reading.old) (cursor_of cursor.now) bytes.items literal in
         MatchResult result (λ _. step ≡ Ok (state_of reading.new)) (Refuses step) }
     ensures fault { IfErr result IsOfText }
+    ensures rule { IfErr result IsOfPrep }
     ensures names { OnOk result (reading.new.names.items ≡ reading.old.names.items) }
     ensures longer { OnOk result (reading.old.size < reading.new.size) }
 {
@@ -104,6 +105,7 @@ pub fn leave_empty(reading: &mut SourceReader, cursor: &Cursor) -> Result<(), Pr
     ensures exact { let step = left_empty (state_of reading.old) (cursor_of cursor.now) in
         MatchResult result (λ _. step ≡ Ok (state_of reading.new)) (Refuses step) }
     ensures fault { IfErr result IsOfText }
+    ensures rule { IfErr result IsOfPrep }
     ensures names { OnOk result (reading.new.names.items ≡ reading.old.names.items) }
     ensures longer { OnOk result (reading.old.size < reading.new.size) }
 {

@@ -1,10 +1,11 @@
 // The lines that a named file gives.
 ghost use Rattle.std.specs.Prelude.{◌≡◌, ◌⊎◌, ◌≤◌, ◌<◌, ◌-◌, ◌+◌, ◌++◌, ◌∷◌, [], Ok, Err, Some, length, vec_len, slice_get, IfSome, IfOk, IfErr, OnOk, IsErrOf, MatchResult};
 ghost use Rattle.icn_profile.specs.Numbers.{most_bytes_of_source};
-ghost use Rattle.icn_host.specs.Counts.{CountsOnce, HasCause};
+ghost use Rattle.icn_host.specs.Counts.{CountsIf, CountsOnce, HasCause};
 ghost use Rattle.icn_prep.specs.declared.fault.PrepFault.TheVariants.{Broken, FileFault, NoMemory};
 ghost use Rattle.icn_prep.specs.Answers.{IsOutside, IsAbsence, IsAnswer, outcome_of};
 ghost use Rattle.icn_prep.specs.CursorViews.{cursor_of};
+ghost use Rattle.icn_prep.specs.Refusals.{IsOfPrep};
 ghost use Rattle.icn_prep.specs.Cursors.{start_of};
 ghost use Rattle.icn_prep.specs.SourceLines.{include_file, named_file, source_lines};
 ghost use Rattle.icn_prep.specs.StateViews.{state_of};
@@ -33,8 +34,12 @@ pub fn preprocess<F: Files>(alloc: Global, name: &str, files: &mut F) -> Result<
         (λ held. IsOutside result ⊎ (outcome_of result ≡ source_lines held name.now)) }
     ensures begins { IfOk result (λ lines. slice_get lines.names.items 0 ≡ Some name.now) }
 
+    // A rule that is broken is one of P1 to P9, whatever the store tells.
+    ensures rule { IfErr result IsOfPrep }
+
     // The causes of what the store answers, also where it tells nothing.
     ensures file_fault { CountsOnce (F.faults files.old) (F.faults files.new) (IsErrOf result FileFault) }
+    ensures file_want { CountsIf (F.wants files.old) (F.wants files.new) (IsErrOf result NoMemory) }
     ensures absence { HasCause (F.absences files.old) (F.absences files.new) (IsAbsence result) }
     ensures same { F.held files.new ≡ F.held files.old }
 {
@@ -110,7 +115,9 @@ fn named_content<F: Files>(alloc: Global, name: &str, files: &mut F) -> Result<V
         (λ content. held name.now ≡ Some content.items)
         (IsAnswer (named_file held name.now (held name.now)))) }
     ensures short { IfOk result (λ content. vec_len content ≤ most_bytes_of_source) }
+    ensures rule { IfErr result IsOfPrep }
     ensures file_fault { CountsOnce (F.faults files.old) (F.faults files.new) (IsErrOf result FileFault) }
+    ensures file_want { CountsIf (F.wants files.old) (F.wants files.new) (IsErrOf result NoMemory) }
     ensures absence { HasCause (F.absences files.old) (F.absences files.new) (IsAbsence result) }
     ensures same { F.held files.new ≡ F.held files.old }
 {
@@ -136,7 +143,9 @@ fn included_content<F: Files>(
         (IsAnswer (include_file held (32 - depth) name.now (state_of reading.now) (cursor_of cursor.now)))) }
     ensures deep { OnOk result (depth < 32) }
     ensures short { IfOk result (λ content. vec_len content ≤ most_bytes_of_source) }
+    ensures rule { IfErr result IsOfPrep }
     ensures file_fault { CountsOnce (F.faults files.old) (F.faults files.new) (IsErrOf result FileFault) }
+    ensures file_want { CountsIf (F.wants files.old) (F.wants files.new) (IsErrOf result NoMemory) }
     ensures absence { HasCause (F.absences files.old) (F.absences files.new) (IsAbsence result) }
     ensures same { F.held files.new ≡ F.held files.old }
 {

@@ -1,9 +1,12 @@
 -- Which counts rose, by the answer.
-use Rattle.std.proofs.Common.{◌≡◌, ◌⊎◌, ◌∙◌, inl, inr, ℕ, ◌≤◌, List, Option, Ok, Err, refl, ap, subst, arith}
+use Rattle.std.proofs.Common.{◌≡◌, ◌⊎◌, ◌↔◌, ◌∙◌, inl, inr, ℕ, ◌≤◌, List, Option, Result, Ok, Err, IsErrOf, refl, ap, subst, arith}
 use Rattle.std.proofs.KnownBytes.{Keeps-refl}
-use Rattle.icn_host.specs.Counts.{CountsOnce, HasCause, Rose, one_more}
+use Rattle.icn_host.specs.Counts.{CountsIf, CountsOnce, HasCause, Rose, one_more}
+use Rattle.icn_host.specs.FileMaps.{FileMap}
 use Rattle.icn_host.specs.Sinks.{SinkState}
 use Rattle.icn_host.specs.Sources.{SourceCounts}
+use Rattle.icn_host.specs.declared.fault.Fault.{Fault}
+use Rattle.icn_host.specs.declared.fault.Fault.TheVariants as Faults
 use Rattle.icn_host.specs.Puts.{RunsShort}
 use Rattle.icn_streams.specs.Handed.{CallStreams, FaultCounts, call_streams, KeepsAllCounts, KeepsFaultCounts, WantsMemory, failed_once, faults_of, uncounted, errors_want}
 use Rattle.icn_machine.specs.Stepping.{OutputFails, output_fails, errors_fail}
@@ -14,10 +17,14 @@ use Rattle.icn_running.specs.Runs.{EndsAtFirst as RunEnds}
 use Rattle.icn_answer.specs.declared.answer.Answer.{Answer}
 use Rattle.icn_answer.specs.declared.answer.Answer.TheVariants.{Wrote, Ran, Refused, Command, Missing, BadUcode, BadImage, FileFault, ReadFault, WriteFault, NoMemory}
 use Rattle.icn_answer.specs.Answers.{IsAbsence, IsFault}
-use Rattle.icn_run_answer.specs.CountCauses.{EndsAtFirst, EndsBehind, IsFirstFaultOf, OutsideState, RunEndsAtFirst, SettlesBehind, outside}
+use Rattle.icn_answer.specs.FilesRead.{files_state}
+use Rattle.icn_run_answer.specs.CountCauses.{EndsAtFirst, EndsBehind, IsFirstFaultOf, RunEndsAtFirst, SettlesBehind}
 use Rattle.icn_run_answer.specs.FaultAnswers.{IsOfRun, of_run}
+use Rattle.icn_run_answer.specs.ToldObjects.{CallObjects, call_objects}
 use Rattle.icn_answer.specs.Refusing.{PutsOwn, PutsItsLine, put, own, write_fault, want}
+use Rattle.icn_answer.proofs.FaultCounts.{counts_as, counts_if}
 use Rattle.icn_answer.proofs.NoFaults.{no_fault}
+use Rattle.icn_answer.proofs.TornAnswers.{torn_no_absence, torn_no_read, torn_no_write, torn_wants}
 
 -- an answer that is no fault puts no line of its own
 none_own : (answer : Answer) (sink : SinkState) → (IsFault answer → ⊥) → PutsOwn answer sink sink
@@ -145,21 +152,43 @@ refused_counts left left' input out answer _ w r (want n between leads puts) = r
   behind = own_behind NoMemory puts;
 }
 
-pub refused_ends : {usage name : List ℕ} {absent given_absent : Type 0} {files files' absences absences' : ℕ} {left left' : Option (List ℕ)} {input :
-    SourceCounts}
-    {out before after : SinkState} (answer given : Answer)
-    → (answer ≡ WriteFault → ⊥) → (answer ≡ ReadFault → ⊥) → CountsOnce files files' (answer ≡ FileFault) → HasCause absences absences' absent
+-- want of memory that was answered is given
+kept_want : {usage name : List ℕ} {before after : SinkState} (answer given : Answer) → PutsItsLine usage name answer before after given → answer ≡ NoMemory
+    → given ≡ NoMemory
+kept_want answer _ (put n whole) e = e
+kept_want answer _ (own f puts) e = e
+kept_want answer _ (write_fault n stops) e = absurd (n (rw e refl))
+kept_want answer _ (want n between leads puts) e = refl
+
+-- where the files wanted memory, nothing has failed or wanted memory before the fault's own line
+refused_alone : {usage name : List ℕ} {before after : SinkState} {wants wants' : ℕ} (left left' : Option (List ℕ)) (input : SourceCounts) (out : SinkState)
+    (answer given : Answer) (w : answer ≡ WriteFault → ⊥) (r : answer ≡ ReadFault → ⊥) (refuses : PutsItsLine usage name answer before after given)
+    → CountsIf wants wants' (answer ≡ NoMemory)
+    → (wants' ≡ wants) ⊎ KeepsAllCounts (call_streams left input out before) (refused_counts left left' input out answer given w r refuses).between
+unfolding refused_counts
+refused_alone left left' input out answer _ w r (put n whole) wanted = inl (wanted.stayed (λ e. n (rw e refl)))
+refused_alone {before = before} left left' input out answer _ w r (own f puts) wanted =
+    inr (errors_kept left left' input out before before (same_counts before))
+refused_alone left left' input out answer _ w r (write_fault n stops) wanted = inl (wanted.stayed (λ e. n (rw e refl)))
+refused_alone left left' input out answer _ w r (want n between leads puts) wanted = inl (wanted.stayed (λ e. n (rw e refl)))
+
+pub refused_ends : {usage name : List ℕ} {absent given_absent : Type 0} {held held' : Option FileMap} {files files' wants wants' absences absences' : ℕ}
+    {left left' : Option (List ℕ)} {input : SourceCounts} {out before after : SinkState} (answer given : Answer)
+    → (answer ≡ WriteFault → ⊥) → (answer ≡ ReadFault → ⊥) → CountsOnce files files' (answer ≡ FileFault) → CountsIf wants wants' (answer ≡ NoMemory)
+    → HasCause absences absences' absent
     → (given_absent → absent) → PutsItsLine usage name answer before after given
-    → EndsAtFirst given given_absent (outside files absences (call_streams left input out before))
-    (outside files' absences' (call_streams left' input out after))
-refused_ends {left = left} {left'} {input} {out} answer given w r file cause absences refuses = record {
+    → EndsAtFirst given given_absent (call_objects (files_state held files wants absences) (call_streams left input out before))
+    (call_objects (files_state held' files' wants' absences') (call_streams left' input out after))
+refused_ends {left = left} {left'} {input} {out} answer given w r file wanted cause absences refuses = record {
   file_fault = record {
     later = file.later;
     rose = λ e. file.rose (given_file answer given refuses e);
     stayed = λ n. file.stayed (λ e. n (kept_file answer given refuses e));
   };
   absence = record { later = cause.later; rose = λ a. cause.rose (absences a) };
+  file_want = record { later = wanted.later; once = wanted.once; stayed = λ n. wanted.stayed (λ e. n (kept_want answer given refuses e)) };
   others = refused_counts left left' input out answer given w r refuses;
+  want_alone = refused_alone left left' input out answer given w r refuses wanted;
 }
 
 -- a file that was not there, in what is given in place of an answer
@@ -185,13 +214,16 @@ run_no_absence _ is a = is
 -- Calls of several parts
 
 -- files that were read before
-pub after_read : {absent : Type 0} {faults faults' absences absences' : ℕ} {streams : CallStreams} {after : OutsideState} (answer : Answer) → faults' ≡ faults
-    → absences ≤ absences'
-    → EndsAtFirst answer absent (outside faults' absences' streams) after → EndsAtFirst answer absent (outside faults absences streams) after
-after_read {after = after} answer f a ends = record {
-  file_fault = subst (λ n. CountsOnce n after.faults (answer ≡ FileFault)) f ends.file_fault;
+pub after_read : {absent : Type 0} {held held' : Option FileMap} {faults faults' wants wants' absences absences' : ℕ} {streams : CallStreams}
+    {after : CallObjects} (answer : Answer) → faults' ≡ faults → wants' ≡ wants → absences ≤ absences'
+    → EndsAtFirst answer absent (call_objects (files_state held' faults' wants' absences') streams) after
+    → EndsAtFirst answer absent (call_objects (files_state held faults wants absences) streams) after
+after_read {streams = streams} {after} answer f w a ends = record {
+  file_fault = subst (λ n. CountsOnce n after.files.faults (answer ≡ FileFault)) f ends.file_fault;
   absence = record { later = omega (arith, a, ends.absence.later); rose = λ is. omega (arith, a, ends.absence.rose is) };
+  file_want = subst (λ n. CountsIf n after.files.wants (answer ≡ NoMemory)) w ends.file_want;
   others = ends.others;
+  want_alone = subst (λ n. (after.files.wants ≡ n) ⊎ KeepsAllCounts streams ends.others.between) w ends.want_alone;
 }
 
 -- no fault is answered, and nothing was put
@@ -211,6 +243,50 @@ own_counts {left = left} {left'} {input} {out} {before} answer w r puts = record
   first = still_first _ _ answer w r (errors_kept left left' input out before before (same_counts before));
   behind = own_behind answer puts;
 }
+
+own_alone : (left left' : Option (List ℕ)) (input : SourceCounts) (out before after : SinkState) (answer : Answer) (w : answer ≡ WriteFault → ⊥)
+    (r : answer ≡ ReadFault → ⊥) (puts : PutsOwn answer before after)
+    → KeepsAllCounts (call_streams left input out before)
+    (own_counts {left = left} {left' = left'} {input = input} {out = out} {before = before} {after = after} answer w r puts).between
+unfolding own_counts
+own_alone left left' input out before after answer w r puts = errors_kept left left' input out before before (same_counts before)
+
+-- Files that are written
+
+-- they were written whole, and no fault is answered
+pub written_ends : {held held' : Option FileMap} {faults faults' wants wants' absences absences' : ℕ} {streams : CallStreams} (answer : Answer)
+    → (IsFault answer → ⊥) → (IsAbsence answer → ⊥) → faults' ≡ faults → wants' ≡ wants → absences' ≡ absences
+    → EndsAtFirst answer (IsAbsence answer) (call_objects (files_state held faults wants absences) streams)
+    (call_objects (files_state held' faults' wants' absences') streams)
+written_ends answer none there f w a = record {
+  file_fault = record { later = omega (arith, f); rose = λ e. absurd (none (rw e refl)); stayed = λ _. f };
+  absence = record { later = omega (arith, a); rose = λ is. absurd (there is) };
+  file_want = counts_if (omega (arith, w)) (inl w);
+  others = none_counts answer none;
+  want_alone = inl w;
+}
+
+-- one could not be written whole
+pub torn_ends : {A : Type 0} {held held' : Option FileMap} {faults faults' wants wants' absences absences' : ℕ} {left left' : Option (List ℕ)}
+    {input : SourceCounts} {out before after : SinkState} (fault : Fault) (answer : Answer) → (answer ≡ FileFault) ↔ (fault ≡ Faults.Failed)
+    → (answer ≡ NoMemory) ↔ (fault ≡ Faults.NoMemory) → (answer ≡ FileFault) ⊎ (answer ≡ NoMemory)
+    → CountsOnce faults faults' (IsErrOf {T = A} (Err fault) Faults.Failed) → CountsOnce wants wants' (IsErrOf {T = A} (Err fault) Faults.NoMemory)
+    → absences' ≡ absences → PutsOwn answer before after
+    → EndsAtFirst answer (IsAbsence answer) (call_objects (files_state held faults wants absences) (call_streams left input out before))
+    (call_objects (files_state held' faults' wants' absences') (call_streams left' input out after))
+torn_ends {left = left} {left'} {input} {out} {before} {after} fault answer failed wanted is cause memory a puts = record {
+  file_fault = record {
+    later = cause.later;
+    rose = λ e. cause.rose (ap (λ f. Err f) (failed.0 e));
+    stayed = λ n. cause.stayed (λ e. n (failed.1 (same_fault e)));
+  };
+  absence = record { later = omega (arith, a); rose = λ absent. absurd (torn_no_absence answer is absent) };
+  file_want = counts_as wanted.1 (torn_wants fault memory);
+  others = own_counts answer (torn_no_write answer is) (torn_no_read answer is) puts;
+  want_alone = inr (own_alone left left' input out before after answer (torn_no_write answer is) (torn_no_read answer is) puts);
+} where
+  same_fault : {A : Type 0} {one other : Fault} → ◌≡◌ {A = Result A Fault} (Err one) (Err other) → one ≡ other
+  same_fault e = cc
 
 -- a run that ended
 pub ran_counts : {before after : CallStreams} (ending : Ending) → RunEnds {A = Ending} (Ok ending) before after → RunEndsAtFirst (Ran ending) before after
@@ -249,8 +325,8 @@ none_wrote_behind {before = before} ends o e =
     (subst (λ (sink : SinkState). Rose before.errors.faults sink.faults → ⊥) ends.behind.own_line e)
 
 -- where no count of faults rose, no fault is answered but want of memory
-pub faultless_of : {absent : Type 0} {before after : OutsideState} (answer : Answer) → EndsAtFirst answer absent before after
-    → (Rose before.faults after.faults → ⊥)
+pub faultless_of : {absent : Type 0} {before after : CallObjects} (answer : Answer) → EndsAtFirst answer absent before after
+    → (Rose before.files.faults after.files.faults → ⊥)
     → (Rose before.streams.counts.faults after.streams.counts.faults → ⊥) → (Rose before.streams.output.faults after.streams.output.faults → ⊥)
     → (Rose before.streams.errors.faults after.streams.errors.faults → ⊥) → IsFault answer → answer ≡ NoMemory
 faultless_of FileFault ends f i o e is = absurd (f (rose_of _ _ (ends.file_fault.rose refl)))

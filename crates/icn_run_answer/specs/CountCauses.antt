@@ -1,13 +1,14 @@
 -- Which counts of the outside rose in a call, by its answer.
 use Rattle.std.specs.Prelude.{◌≡◌, ◌⊎◌, ℕ}
 use Rattle.std.specs.Io.KnownBytes.{Keeps}
-use Rattle.icn_host.specs.Counts.{CountsOnce, HasCause}
+use Rattle.icn_host.specs.Counts.{CountsIf, CountsOnce, HasCause}
 use Rattle.icn_host.specs.Sinks.{SinkState}
 use Rattle.icn_streams.specs.Handed.{CallStreams, FailsOnce, KeepsAllCounts, KeepsFaultCounts, WantsMemory, WantsOnce}
 use Rattle.icn_machine.specs.Stepping.{InputFails, OutputFails}
 use Rattle.icn_answer.specs.declared.answer.Answer.{Answer}
 use Rattle.icn_answer.specs.declared.answer.Answer.TheVariants.{Wrote, Ran, Refused, Command, Missing, BadUcode, BadImage, FileFault, ReadFault, WriteFault, NoMemory}
 use Rattle.icn_answer.specs.Refusing.{PutsOwn}
+use Rattle.icn_run_answer.specs.ToldObjects.{CallObjects}
 
 -- Where it is answered that the input or an output failed, or that memory was wanting, that count rose once, and no other; where it is not, none
 -- rose. Want of memory may have no count.
@@ -61,18 +62,11 @@ pub record RunEndsAtFirst (answer : Answer) (before after : CallStreams) : Type 
   pub first : IsFirstFaultOf answer before between
   pub behind : EndsBehind answer between after
 
--- how often the files have failed and a file was not there; and the input and both outputs
-pub record OutsideState : Type 0 where
-  pub faults : ℕ
-  pub absences : ℕ
-  pub streams : CallStreams
-
--- files that failed and were not there so often, and the input and both outputs
-abbrev pub outside : ℕ → ℕ → CallStreams → OutsideState
-outside faults absences streams = record { faults = faults; absences = absences; streams = streams }
-
--- the first fault ends a call that is handed files too; where a file was not there is answered, the count of absences rose
-pub record EndsAtFirst (answer : Answer) (absent : Type 0) (before after : OutsideState) : Type 0 where
-  pub file_fault : CountsOnce before.faults after.faults (answer ≡ FileFault)
-  pub absence : HasCause before.absences after.absences absent
+-- The first fault ends a call that is handed files too; where a file was not there is answered, the count of absences rose. The files
+-- wanted memory once at most, where want of memory is answered, and then nothing has failed or wanted memory before its line.
+pub record EndsAtFirst (answer : Answer) (absent : Type 0) (before after : CallObjects) : Type 0 where
+  pub file_fault : CountsOnce before.files.faults after.files.faults (answer ≡ FileFault)
+  pub absence : HasCause before.files.absences after.files.absences absent
+  pub file_want : CountsIf before.files.wants after.files.wants (answer ≡ NoMemory)
   pub others : RunEndsAtFirst answer before.streams after.streams
+  pub want_alone : (after.files.wants ≡ before.files.wants) ⊎ KeepsAllCounts before.streams others.between

@@ -2,12 +2,13 @@
 use Rattle.std.specs.Prelude.{◌≡◌, IfSome}
 use Rattle.icn_answer.specs.declared.answer.Answer.{Answer}
 use Rattle.icn_answer.specs.Answers.{IsAbsence}
-use Rattle.icn_run_answer.specs.CountCauses.{EndsAtFirst, OutsideState}
+use Rattle.icn_run_answer.specs.CountCauses.{EndsAtFirst}
 use Rattle.icn_run_answer.specs.FaultAnswers.{IsOfRun}
 use Rattle.icn_run_answer.specs.InputLeft.{LosesSome}
+use Rattle.icn_run_answer.specs.ToldObjects.{CallObjects}
 
 -- What a call with this answer leaves of the input, both outputs, and the counts of all objects.
-pub record LeavesOutside (answer : Answer) (before after : OutsideState) : Type 0 where
+pub record LeavesOutside (answer : Answer) (before after : CallObjects) : Type 0 where
   -- the first fault ends the call, and an absence is answered only where that count rose
   pub causes : EndsAtFirst answer (IsAbsence answer) before after
   -- where the input tells what it has left, some first bytes of it were taken

@@ -1,16 +1,15 @@
--- What the objects that a program is handed tell of what they hold.
-use Rattle.std.specs.Prelude.{Option}
-use Rattle.icn_host.specs.FileMaps.{FileMap}
+-- What the objects that a program is handed tell of what they hold, and their counts.
 use Rattle.icn_host.specs.Sinks.{SinkState}
 use Rattle.icn_streams.specs.Handed.{CallStreams}
+use Rattle.icn_answer.specs.FilesRead.{FilesState}
 
--- the files; and the input and both outputs, with their counts
+-- the files; and the input and both outputs
 pub record CallObjects : Type 0 where
-  pub files : Option FileMap
+  pub files : FilesState
   pub streams : CallStreams
 
--- what these files and these streams tell
-abbrev pub call_objects : Option FileMap → CallStreams → CallObjects
+-- these files and these streams
+abbrev pub call_objects : FilesState → CallStreams → CallObjects
 call_objects files streams = record { files = files; streams = streams }
 
 -- the same where less stands on the error output

@@ -1,7 +1,7 @@
 -- From what is said of the step that a fault or want of memory broke off to what is said of the whole run.
 use Rattle.std.proofs.Common.{◌≡◌, ◌∙◌, refl, sym, ap, subst, ℕ, zero, suc, List, [], ◌++◌, take, Some, None}
 use Rattle.std.specs.Prelude.{drop, map}
-use Rattle.icn_host.specs.Counts.{raised}
+use Rattle.icn_host.specs.Counts.{raised_count}
 use Rattle.icn_host.specs.Sinks.{SinkState, Gains, GainsPart}
 use Rattle.icn_host.proofs.SinkSteps.{gains_nothing}
 use Rattle.icn_host.proofs.KeptSteps.{gains_keeps}
@@ -125,7 +125,7 @@ module _ (tables : Tables) where
           are = ap (λ (e : List Event). now.history ++ e) (bytes_split ErrorByte part.count report);
           stands = record {
             rest = told ∙ ap (λ (l : List ℕ). Some l) (sym (left_by_errors now.left front));
-            calls = ap (raised between.counts.calls) (sym (errors_read_none front));
+            calls = ap (raised_count between.counts.calls) (sym (errors_read_none front));
             output = subst (Gains between.output.held between.output.held) (sym (output_of_errors front)) (gains_nothing between.output.held);
             errors = subst (Gains between.errors.held errors.held) (sym (errors_put front)) (record { appends = part.appends });
           };

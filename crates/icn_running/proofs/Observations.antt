@@ -2,7 +2,7 @@
 use Rattle.std.proofs.Common.{◌≡◌, ℕ, suc, List, [], Option, Some, Ok, Err, refl, sym, ap, ◌∙◌, subst, append-nil}
 use Rattle.std.specs.Prelude.{map}
 use Rattle.std.specs.Option.{option_map}
-use Rattle.icn_host.specs.Counts.{raised}
+use Rattle.icn_host.specs.Counts.{raised_count}
 use Rattle.icn_host.specs.Sinks.{Gains, SinkState}
 use Rattle.icn_host.proofs.SinkSteps.{gains_nothing}
 use Rattle.icn_value.specs.Limited.{Bounds}
@@ -93,7 +93,7 @@ ends_there : (ending : Ending) (input : List ℕ) (before after : CallStreams) (
 ends_there ending input before after now follows = record {
   taken = follows.extends.left ∙ ap (left_behind input) (sym follows.extends.history);
   left = follows_left follows;
-  calls = subst (λ (h : List Event). after.counts.calls ≡ raised before.counts.calls (readings_in h)) (sym follows.extends.history) follows.stands.calls;
+  calls = subst (λ (h : List Event). after.counts.calls ≡ raised_count before.counts.calls (readings_in h)) (sym follows.extends.history) follows.stands.calls;
   output = subst (λ (h : List Event). Gains before.output.held after.output.held (output_in h)) (sym follows.extends.history) follows.stands.output;
   errors = subst (λ (h : List Event). Gains before.errors.held after.errors.held (errors_in h)) (sym follows.extends.history) follows.stands.errors;
 }
@@ -105,7 +105,7 @@ follows_report between errors now report told gains = record {
   extends = extends_by_errors report now;
   stands = record {
     rest = told ∙ ap (λ (l : List ℕ). Some l) (sym (left_by_errors now.left report));
-    calls = ap (raised between.counts.calls) (sym (errors_read_none report));
+    calls = ap (raised_count between.counts.calls) (sym (errors_read_none report));
     output = subst (Gains between.output.held between.output.held) (sym (output_of_errors report)) (gains_nothing between.output.held);
     errors = subst (Gains between.errors.held errors.held) (sym (errors_put report)) gains;
   };

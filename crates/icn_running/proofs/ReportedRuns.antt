@@ -2,7 +2,7 @@
 use Rattle.std.proofs.Common.{◌≡◌, ◌∙◌, inl, inr, ℕ, List, [], ◌∷◌, ◌++◌, Some, None, Result, Ok, Err, refl, sym, ap, subst, take}
 use Rattle.std.specs.Prelude.{IsErrAnd}
 use Rattle.std.specs.Option.{option_map}
-use Rattle.icn_host.specs.Counts.{raised}
+use Rattle.icn_host.specs.Counts.{raised_count}
 use Rattle.icn_host.specs.Sinks.{Gains, SinkState}
 use Rattle.icn_host.proofs.KeptSteps.{gains_keeps}
 use Rattle.icn_host.proofs.SinkSteps.{gains_nothing, gains_then}
@@ -117,7 +117,7 @@ module _ (tables : Tables) (launch : Launch) (before between : CallStreams) (err
               (subst (λ (h : List Event). Gains before.errors.held between.errors.held (errors_in h)) (sym comes.gains.history) comes.gains.errors)
               p.1.gains;
         };
-        calls = subst (λ (h : List Event). between.counts.calls ≡ raised before.counts.calls (readings_in h)) (sym comes.gains.history) comes.gains.calls;
+        calls = subst (λ (h : List Event). between.counts.calls ≡ raised_count before.counts.calls (readings_in h)) (sym comes.gains.history) comes.gains.calls;
         output = subst (λ (h : List Event). Gains before.output.held between.output.held (output_in h)) (sym comes.gains.history) comes.gains.output;
       })
   over_end ending report (Err ReadFault) kind comes p = absurd p

@@ -1,7 +1,7 @@
 -- How a run ends, and what it leaves in the streams.
 use Rattle.std.specs.Prelude.{◌≡◌, ℕ, List, Some, Result, Ok, Err}
 use Rattle.icn_value.specs.Limited.{Bounds}
-use Rattle.icn_host.specs.Counts.{raised}
+use Rattle.icn_host.specs.Counts.{raised_count}
 use Rattle.icn_host.specs.Sinks.{Gains}
 use Rattle.icn_value.specs.Store.{outside_of, output_in, readings_in}
 use Rattle.icn_defs.specs.Interruptions.{Breaks, BreaksBetween, BreaksReading, Ends}
@@ -60,7 +60,7 @@ AnswersRuns tables m result before after =
 pub record RunsOver (tables : Tables) (launch : Launch) (ending : Ending)
     (before after : CallStreams) : Type 0 where
   pub report : PutsReport tables launch ending before.errors after.errors
-  pub calls : after.counts.calls ≡ raised before.counts.calls (readings_in report.now.history)
+  pub calls : after.counts.calls ≡ raised_count before.counts.calls (readings_in report.now.history)
   pub output : Gains before.output.held after.output.held (output_in report.now.history)
 
 -- what is said of a run whatever the input tells: of one that a fault broke off, that it has put something

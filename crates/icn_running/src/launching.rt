@@ -12,14 +12,14 @@ ghost use Rattle.icn_running.specs.Runs.{AnswersRuns, EndsAtFirst, IsBrokenOff, 
 
 use crate::endings::{end_run, end_unbegun};
 use crate::fault::RunFault;
-use crate::running::run_on;
+use crate::lending::run_over;
 use crate::settling::{is_broken, settle_outputs};
 use crate::verified_run_laws::runs_hold;
 use icn_control::Machine;
 use icn_defs::Ending;
 use icn_frames::{Cell, Stack};
 use icn_host::{Sink, Source};
-use icn_machine::{Rooms, start};
+use icn_machine::start;
 use icn_value::Limits;
 use icn_verify::Verified;
 use std::alloc::Global;
@@ -64,7 +64,7 @@ pub fn run<K: Stack<Cell> + Drop, I: Source, O: Sink, E: Sink>(
     }
 }
 
-// Runs what has started to its end. The rooms of the instructions are made here.
+// Runs what has started to its end.
 fn run_started<K: Stack<Cell> + Drop, I: Source, O: Sink, E: Sink>(
     alloc: Global,
     code: &Verified,
@@ -87,12 +87,7 @@ fn run_started<K: Stack<Cell> + Drop, I: Source, O: Sink, E: Sink>(
     ensures settled { OnOk result ((O.pending out.new ≡ 0) × (E.pending err.new ≡ 0)) }
 {
     runs_hold();
-    let mut rooms = Rooms {
-        items: Vec::new(alloc),
-        vals: Vec::new(alloc),
-        buffer: Vec::new(alloc),
-    };
-    let stopped = run_on(m, code, &mut rooms, input, out, err);
+    let stopped = run_over(alloc, m, code, input, out, err);
     if is_broken(&stopped) {
         return end_run(alloc, code.code(), m, stopped, err);
     }

@@ -4,6 +4,7 @@
 mod endings;
 mod fault;
 mod launching;
+mod lending;
 mod names;
 mod report;
 mod running;

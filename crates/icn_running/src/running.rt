@@ -2,7 +2,6 @@
 ghost use Rattle.std.specs.Prelude.{◌≡◌, IfErr, IfOk, IsTrue, false};
 ghost use Rattle.icn_code.specs.CodeTables.{tables_of};
 ghost use Rattle.icn_vars.specs.Outcomes.{IsLiveHalt};
-ghost use Rattle.icn_streams.specs.Handed.{call_streams};
 ghost use Rattle.icn_control.specs.Machines.{world_reach};
 ghost use Rattle.icn_control.specs.declared.machine.RunState.TheVariants as RunStates;
 ghost use Rattle.icn_machine.specs.Stepping.{Advances, GoesOn, IsAny, IsReady};
@@ -12,8 +11,8 @@ ghost use Rattle.icn_running.specs.DueInstructions.{is_on, is_within};
 
 use icn_control::Machine;
 use icn_frames::{Cell, Stack};
-use icn_host::{Sink, Source};
 use icn_machine::{AfterStep, Rooms, step};
+use icn_streams::Streams;
 use icn_vars::Halt;
 use icn_verify::Verified;
 
@@ -40,19 +39,17 @@ fn is_within(stepped: AfterStep, now: u64, turns: u64) -> bool
 }
 
 /// Does instructions until the run stops. The errors are those of `step`.
-pub fn run_on<K: Stack<Cell> + Drop, I: Source, O: Sink, E: Sink>(
+pub fn run_on<K: Stack<Cell> + Drop, S: Streams>(
     m: &mut Machine<K>,
     code: &Verified,
     rooms: &mut Rooms,
-    input: &mut I,
-    out: &mut O,
-    err: &mut E,
+    streams: &mut S,
 ) -> Result<AfterStep, Halt>
     requires ready { IsReady (tables_of code.now.code) m.old RunStates.Running }
     requires lasts { Lasts (tables_of code.now.code) m.old }
     ensures steps { Advances IsAny (tables_of code.now.code) m.old RunStates.Running
-        (call_streams (I.left input.old) (I.counts input.old) (O.state out.old) (E.state err.old)) m.new
-        (call_streams (I.left input.new) (I.counts input.new) (O.state out.new) (E.state err.new))
+        (S.state streams.old) m.new
+        (S.state streams.new)
         (stage_result result) }
     ensures stops { IfOk result (λ stepped. is_on stepped ≡ false) }
     ensures halt { IfErr result (IsLiveHalt (world_reach m.new)) }
@@ -60,25 +57,23 @@ pub fn run_on<K: Stack<Cell> + Drop, I: Source, O: Sink, E: Sink>(
 {
     let mut stepped = AfterStep::Running;
     while is_on(stepped) {
-        stepped = run_to_turn(m, code, rooms, input, out, err)?;
+        stepped = run_to_turn(m, code, rooms, streams)?;
     }
     Ok(stepped)
 }
 
 // Does instructions until a turn was made or the run stops, one at least.
-fn run_to_turn<K: Stack<Cell> + Drop, I: Source, O: Sink, E: Sink>(
+fn run_to_turn<K: Stack<Cell> + Drop, S: Streams>(
     m: &mut Machine<K>,
     code: &Verified,
     rooms: &mut Rooms,
-    input: &mut I,
-    out: &mut O,
-    err: &mut E,
+    streams: &mut S,
 ) -> Result<AfterStep, Halt>
     requires ready { IsReady (tables_of code.now.code) m.old RunStates.Running }
     requires lasts { Lasts (tables_of code.now.code) m.old }
     ensures steps { GoesOn IsAny (tables_of code.now.code) m.old RunStates.Running
-        (call_streams (I.left input.old) (I.counts input.old) (O.state out.old) (E.state err.old)) m.new
-        (call_streams (I.left input.new) (I.counts input.new) (O.state out.new) (E.state err.new))
+        (S.state streams.old) m.new
+        (S.state streams.new)
         (stage_result result) }
     ensures ready { IfOk result (λ stepped. IsReady (tables_of code.now.code) m.new (stage_of stepped)) }
     ensures lasts { IfOk result (λ stepped. IsTrue (is_on stepped) → Lasts (tables_of code.now.code) m.new) }
@@ -89,7 +84,7 @@ fn run_to_turn<K: Stack<Cell> + Drop, I: Source, O: Sink, E: Sink>(
     let turns = m.turns;
     let mut stepped = AfterStep::Running;
     while is_within(stepped, m.turns, turns) {
-        stepped = step(m, code, rooms, input, out, err)?;
+        stepped = step(m, code, rooms, streams)?;
     }
     Ok(stepped)
 }

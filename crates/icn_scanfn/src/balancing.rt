@@ -21,14 +21,14 @@ use icn_heap::{Heap, short_text};
 use icn_value::{Cset, Item, Residual, Span, Val};
 use icn_vars::{Halt, Locals, Outcome, Stop, World};
 
-// The csets of a search for balanced places.
+/// The csets of a search for balanced places.
 #[derive(Clone, Copy, Debug, PartialEq, Eq)]
 pub struct Sets {
-    // The bytes to stand before.
+    /// The bytes to stand before.
     pub wanted: Cset,
-    // The bytes that open.
+    /// The bytes that open.
     pub opening: Cset,
-    // The bytes that close.
+    /// The bytes that close.
     pub closing: Cset,
 }
 

@@ -6,8 +6,10 @@ mod filling;
 mod lines;
 mod reading;
 mod settling;
+mod streams;
 
 pub use ask::Ask;
 pub use lines::{lines_again, lines_row};
 pub use reading::read_text;
 pub use settling::settle;
+pub use streams::Streams;

@@ -7,6 +7,7 @@ use Rattle.std.proofs.lemmas.Bool.{lt-ltb, le-ltb}
 use Rattle.icn_value.specs.Values.{Value, Text, Chars}
 use Rattle.icn_value.specs.Store.{Setting}
 use Rattle.icn_defs.specs.Arguments.{arg, arg_or}
+use Rattle.icn_defs.specs.Calls.{Passes}
 use Rattle.icn_defs.specs.Conversions.{contains, cset_of, integer_of, text_of}
 use Rattle.icn_defs.specs.Rows.{Error, Fails, builds, check, costs_text, costs_texts, gives_value, natural}
 use Rattle.icn_defs.specs.Strings.{char_row, field_row, gives_integer, map_row, map_byte, one, ord_row, repl_row, reverse_row, string_row, trim_row}
@@ -230,3 +231,43 @@ module _ (args : List Value) (code : Value) (setting : Setting) (first : code �
       let whole : integer_of (arg args 0) ≡ Some (pos byte) = ap integer_of (sym first) ∙ (is ∙ ap Some (natural_some n byte natural)) in
       let test : nat_lt byte 256 ≡ true = lt-ltb byte 256 low in
       rw (whole, test) refl
+
+-- What is left once the texts are made
+
+pub reverse_made : (args : List Value) (text : Value) (made : List ℕ) (before between : Setting) → text ≡ arg args 0 → HasText text
+    → Passes (costs_text text) before between → made ≡ the_text text → reverse_row args before ≡ builds (reverse made) between
+reverse_made args text made before between first has passes same =
+    reverse_left args text before first has
+    ∙ (passes (builds (reverse (the_text text))) ∙ ap (λ (bytes : List ℕ). builds (reverse bytes) between) (sym same))
+
+pub repl_made : (args : List Value) (text times : Value) (n : ℤ) (count : ℕ) (made : List ℕ) (before between : Setting) → text ≡ arg args 0
+    → times ≡ arg args 1 → HasText text → integer_of times ≡ Some n → n ≡ pos count → Passes (costs_text text) before between → made ≡ the_text text
+    → repl_row args before ≡ builds (concat (replicate count made)) between
+repl_made args text times n count made before between first second has is natural passes same =
+    repl_left args text times n count before first second has is natural
+    ∙ (passes (builds (concat (replicate count (the_text text))))
+    ∙ ap (λ (bytes : List ℕ). builds (concat (replicate count bytes)) between) (sym same))
+
+pub field_made : (args : List Value) (text fill : Value) (laid : List ℕ → ℕ → List ℕ → List ℕ) (width : ℕ) (made filled : List ℕ) (before between : Setting)
+    → text ≡ arg args 0 → fill ≡ arg args 2 → IsField args width → Passes (costs_texts (text ∷ fill ∷ [])) before between → made ≡ the_text text
+    → filled ≡ the_text (or_default Blank fill) → field_row laid args before ≡ builds (laid made width filled) between
+field_made args text fill laid width made filled before between first third is passes same same_fill =
+    field_left args text fill laid width before first third is
+    ∙ (passes (builds (laid (the_text text) width (the_text (or_default Blank fill))))
+    ∙ ap (λ (bytes : List ℕ). builds bytes between)
+    (ap (λ (bytes : List ℕ). laid bytes width (the_text (or_default Blank fill))) (sym same) ∙ ap (laid made width) (sym same_fill)))
+
+pub map_made : (args : List Value) (text from to : Value) (made made_from made_to : List ℕ) (before middle between : Setting) → text ≡ arg args 0
+    → from ≡ arg args 1 → to ≡ arg args 2 → IsMapping args → Passes (costs_texts (text ∷ from ∷ [])) before middle → Passes (costs_text to) middle between
+    → made ≡ the_text text → made_from ≡ the_text (or_default Upper from) → made_to ≡ the_text (or_default Lower to)
+    → map_row args before ≡ builds (map (map_byte made_from made_to) made) between
+map_made args text from to made made_from made_to before middle between first second third is passes passes_then same same_from same_to =
+    let source : List ℕ = the_text (or_default Upper from) in
+    let target : List ℕ = the_text (or_default Lower to) in
+    map_left args text from to before first second third is
+    ∙ (passes (costs_text to (builds (map (map_byte source target) (the_text text))))
+    ∙ (passes_then (builds (map (map_byte source target) (the_text text)))
+    ∙ ap (λ (bytes : List ℕ). builds bytes between)
+    (ap (λ (bytes : List ℕ). map (map_byte source target) bytes) (sym same)
+    ∙ (ap (λ (bytes : List ℕ). map (map_byte bytes target) made) (sym same_from)
+    ∙ ap (λ (bytes : List ℕ). map (map_byte made_from bytes) made) (sym same_to)))))

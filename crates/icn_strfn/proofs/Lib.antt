@@ -6,3 +6,4 @@ mod Trims
 mod KeptArguments
 mod NamedRecords
 mod TooLong
+mod RowLimits

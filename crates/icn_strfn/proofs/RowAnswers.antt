@@ -12,12 +12,10 @@ use Rattle.icn_heap.specs.Extents.{Extent, IsLive, KeepsValues}
 use Rattle.icn_heap.specs.Heaps.{extent_of, heap_of}
 use Rattle.icn_vars.specs.declared.words.Words.{Words}
 use Rattle.icn_vars.specs.WorldFacts.{IsSoundWorld}
-use Rattle.icn_vars.specs.declared.outcome.Halt.{Halt}
 use Rattle.icn_vars.specs.declared.outcome.Outcome.{Outcome}
 use Rattle.icn_vars.specs.declared.stop.Stop.{Stop}
 use Rattle.icn_vars.specs.declared.stop.Stop.TheVariants.{Error, NoMemory}
-use Rattle.icn_vars.specs.Outcomes.{ComesToAnswer, HaltsRow}
-use Rattle.icn_vars.specs.Stops.{StopsPassing, halt_of}
+use Rattle.icn_vars.specs.Stops.{StopsPassing}
 use Rattle.icn_vars.proofs.GrowingWorlds.{heap_changed, setting_over}
 use Rattle.icn_strfn.specs.Checks.{StopsRow}
 use Rattle.icn_strfn.specs.Stopping.{ComesToOutcome}
@@ -72,10 +70,3 @@ pub stops_so : (all : Extent) (row : Row) (setting : Setting) (stop : Stop) (res
     → StopsRow all row setting stop
     → ComesToOutcome all row setting setting result
 stops_so all row setting stop result same is = comes_same all row setting setting stop result same (so_stopped all row setting stop is)
-
--- what stopped the row is the answer
-pub halted_by : (all : Extent) (row : Row) (before after : Setting) (stop : Stop) (result : Result Outcome Halt) → IsErrAnd result (λ halt. halt ≡ halt_of stop)
-    → (let r : Result Outcome Stop = Err stop in ComesToOutcome all row before after r) → ComesToAnswer all row before after result
-halted_by all row before after stop (Ok outcome) same is = absurd same
-halted_by all row before after (Error number offending) (Err halt) same is = subst (HaltsRow all row before after) (sym same) is
-halted_by all row before after NoMemory (Err halt) same is = subst (HaltsRow all row before after) (sym same) tt

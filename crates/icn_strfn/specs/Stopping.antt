@@ -1,5 +1,5 @@
 -- What a row comes to, as a call answers it that neither ends the program nor meets a fault.
-use Rattle.std.specs.Prelude.{◌≡◌, ◌+◌, ◌<◌, ℕ, List, length, None, Result, Ok, Err, MatchResult, ⊤}
+use Rattle.std.specs.Prelude.{◌≡◌, ◌≢◌, ◌+◌, ◌<◌, ℕ, List, length, None, Result, Ok, Err, MatchResult, ⊤}
 use Rattle.std.specs.Option.{option_map}
 use Rattle.icn_value.specs.declared.val.Val.{Val}
 use Rattle.icn_value.specs.Store.{Heap, Outside, Setting}
@@ -32,6 +32,12 @@ Gives old new locals row result =
 abbrev pub RefusesFirst : Heap → List ℕ → Result Outcome Stop → Type 0
 RefusesFirst heap text result =
     heap.bounds.strings < heap.strings + length text → result ≡ Err (Error 306 None)
+
+-- want of memory is answered only where the row does not come to error 306
+abbrev pub LimitsRow : World → List Val → Row → Result Outcome Stop → Type 0
+LimitsRow old locals row result =
+    result ≡ Err NoMemory → (outside : Outside) (at : Setting)
+    → row (setting_of outside old locals) ≢ ErrorOutcome 306 None at
 
 -- what was answered is of the world
 abbrev pub IsLiveGiven : Reach → Result Outcome Stop → Type 0

@@ -2,14 +2,17 @@
 ghost use Rattle.std.specs.Prelude.{IfErr, IfOk, OnOk, map};
 ghost use Rattle.std.specs.List.{All};
 ghost use Rattle.icn_value.specs.Store.{Setting};
+ghost use Rattle.icn_convert.specs.TextCharges.{MakesNoText};
+ghost use Rattle.icn_defs.specs.Arguments.{arg};
 ghost use Rattle.icn_defs.specs.Strings.{field_row, map_row};
 ghost use Rattle.icn_heap.specs.Extents.{IsLive, value_in};
 ghost use Rattle.icn_heap.specs.Heaps.{extent_of};
+ghost use Rattle.icn_vars.specs.Assignments.{IsError};
 ghost use Rattle.icn_vars.specs.Stops.{IsLiveStop};
 ghost use Rattle.icn_vars.specs.Worlds.{KeepsItems, reach_of};
 ghost use Rattle.icn_strfn.specs.Checks.{IsField, IsMapping, StopsRow};
 ghost use Rattle.icn_strfn.specs.Layouts.{laid_out};
-ghost use Rattle.icn_strfn.specs.Stopping.{Gives, IsLiveGiven};
+ghost use Rattle.icn_strfn.specs.Stopping.{Gives, IsLiveGiven, LimitsRow};
 ghost use Rattle.icn_strfn.specs.declared.layouts.Layout.{Layout as LayoutData};
 
 use crate::defaults::or_one;
@@ -38,6 +41,10 @@ pub fn field_row<L: Locals>(
     requires args { All (IsLive (extent_of w.old.heap)) args.now }
     ensures row { Gives w.old w.new (L.items l.now)
         (field_row (laid_out layout) (map (value_in (extent_of w.old.heap)) args.now)) result }
+    ensures limits { MakesNoText (arg (map (value_in (extent_of w.old.heap)) args.now) 0)
+        → MakesNoText (arg (map (value_in (extent_of w.old.heap)) args.now) 2)
+        → LimitsRow w.old (L.items l.now)
+        (field_row (laid_out layout) (map (value_in (extent_of w.old.heap)) args.now)) result }
     ensures live { IsLiveGiven (reach_of w.new (L.items l.now)) result }
     ensures locals { All (IsLive (extent_of w.new.heap)) (L.items l.now) }
     ensures kept { KeepsItems (reach_of w.old (L.items l.now)) (reach_of w.new (L.items l.now)) }
@@ -57,6 +64,7 @@ fn checked_width(heap: &Heap, args: &[Val]) -> Result<u64, Stop>
         (λ stop. (layout : LayoutData) (setting : Setting) → StopsRow (extent_of heap.now)
         (field_row (laid_out layout) (map (value_in (extent_of heap.now)) args.now)) setting stop) }
     ensures live { IfErr result (IsLiveStop (extent_of heap.now)) }
+    ensures error { IfErr result IsError }
 {
     let val = arg(args, 0);
     let given = arg(args, 1);
@@ -85,6 +93,10 @@ pub fn map_row<L: Locals>(w: &mut World, l: &L, args: &[Val]) -> Result<Outcome,
     requires args { All (IsLive (extent_of w.old.heap)) args.now }
     ensures row { Gives w.old w.new (L.items l.now)
         (map_row (map (value_in (extent_of w.old.heap)) args.now)) result }
+    ensures limits { MakesNoText (arg (map (value_in (extent_of w.old.heap)) args.now) 0)
+        → MakesNoText (arg (map (value_in (extent_of w.old.heap)) args.now) 1)
+        → MakesNoText (arg (map (value_in (extent_of w.old.heap)) args.now) 2)
+        → LimitsRow w.old (L.items l.now) (map_row (map (value_in (extent_of w.old.heap)) args.now)) result }
     ensures live { IsLiveGiven (reach_of w.new (L.items l.now)) result }
     ensures locals { All (IsLive (extent_of w.new.heap)) (L.items l.now) }
     ensures kept { KeepsItems (reach_of w.old (L.items l.now)) (reach_of w.new (L.items l.now)) }
@@ -105,6 +117,7 @@ fn checked_mapping(heap: &Heap, args: &[Val]) -> Result<(), Stop>
     ensures stops { IfErr result (λ stop. (setting : Setting) → StopsRow (extent_of heap.now)
         (map_row (map (value_in (extent_of heap.now)) args.now)) setting stop) }
     ensures live { IfErr result (IsLiveStop (extent_of heap.now)) }
+    ensures error { IfErr result IsError }
 {
     let val = arg(args, 0);
     let from = arg(args, 1);

@@ -5,14 +5,14 @@ ghost use Rattle.icn_strfn.specs.Layouts.{laid_out};
 use crate::fields::{center, left, right};
 use std::alloc::{AllocError, Global};
 
-// Where a text stands in a field.
+/// Where a text stands in a field.
 #[derive(Clone, Copy, Debug, PartialEq, Eq)]
 pub enum Layout {
-    // At its left end.
+    /// At its left end.
     Left,
-    // At its right end.
+    /// At its right end.
     Right,
-    // In its middle.
+    /// In its middle.
     Center,
 }
 

@@ -1,7 +1,6 @@
 //! The functions over integers, texts and csets.
 #![tactic(auto)]
 
-mod applying;
 mod defaults;
 mod endings;
 mod fields;
@@ -17,4 +16,11 @@ mod text_rows;
 mod trimming;
 mod value_rows;
 
-pub use applying::{again, first};
+pub use integer_rows::{
+    abs_row, iand_row, icom_row, integer_row, ior_row, ishift_row, ixor_row, seq_row,
+    sequence_again,
+};
+pub use laid_rows::{field_row, map_row};
+pub use layouts::Layout;
+pub use text_rows::{ord_row, repl_row, reverse_row, string_row, trim_row};
+pub use value_rows::{char_row, cset_row, image_row, type_row};

@@ -1,9 +1,10 @@
 // Arguments that are texts, and what stands for those that are null.
-ghost use Rattle.std.specs.Prelude.{◌≡◌, ◌∷◌, [], IfErr, IfOk, MatchBool, None, length, ⊤};
+ghost use Rattle.std.specs.Prelude.{◌≡◌, ◌∷◌, [], IfErr, IfOk, MatchBool, None, OnErr, length, ⊤};
 ghost use Rattle.std.specs.List.{All};
 ghost use Rattle.icn_value.specs.Store.{Outside};
 ghost use Rattle.icn_defs.specs.Conversions.{text_of};
 ghost use Rattle.icn_defs.specs.Rows.{costs_text, costs_texts};
+ghost use Rattle.icn_convert.specs.TextCharges.{MakesNoText};
 ghost use Rattle.icn_heap.specs.Extents.{Extent, IsLive, IsText, text_in, value_in};
 ghost use Rattle.icn_heap.specs.Heaps.{extent_of};
 ghost use Rattle.icn_vars.specs.Stops.{IsLiveStop};
@@ -111,7 +112,8 @@ pub fn argument_len(heap: &Heap, val: Val, default: DefaultText) -> usize
     }
 }
 
-/// The text of an argument that has one. A text that is made is charged. The errors are 306 and want of memory.
+/// The text of an argument that has one. A text that is made is charged. The errors are 306 and want of memory, and there is none
+/// where no text is made.
 #[tactic(auto, using(icn_vars::proofs::KeptItems::keeps_items_refl))]
 pub fn text_argument<L: Locals>(
     w: &mut World,
@@ -129,6 +131,7 @@ pub fn text_argument<L: Locals>(
     ensures step { (outside : Outside)
         → IsPassed (extent_of w.new.heap) (costs_text (value_in (extent_of w.old.heap) val))
         (setting_of outside w.old (L.items l.now)) (setting_of outside w.new (L.items l.now)) result }
+    ensures held { MakesNoText (value_in (extent_of w.old.heap) val) → OnErr result ⊥ }
     ensures locals { All (IsLive (extent_of w.new.heap)) (L.items l.now) }
     ensures kept { KeepsItems (reach_of w.old (L.items l.now)) (reach_of w.new (L.items l.now)) }
 {
@@ -141,7 +144,8 @@ pub fn text_argument<L: Locals>(
     }
 }
 
-/// The text of a value and that of an argument, which both have one. The errors are 306 and want of memory.
+/// The text of a value and that of an argument, which both have one. The errors are 306 and want of memory, and there is none where
+/// no text is made.
 pub fn two_texts<L: Locals>(
     w: &mut World,
     l: &L,
@@ -164,6 +168,8 @@ pub fn two_texts<L: Locals>(
     ensures step { (outside : Outside) → IsPassed (extent_of w.new.heap)
         (costs_texts (value_in (extent_of w.old.heap) val ∷ value_in (extent_of w.old.heap) other ∷ []))
         (setting_of outside w.old (L.items l.now)) (setting_of outside w.new (L.items l.now)) result }
+    ensures held { MakesNoText (value_in (extent_of w.old.heap) val)
+        → MakesNoText (value_in (extent_of w.old.heap) other) → OnErr result ⊥ }
     ensures locals { All (IsLive (extent_of w.new.heap)) (L.items l.now) }
     ensures kept { KeepsItems (reach_of w.old (L.items l.now)) (reach_of w.new (L.items l.now)) }
 {

@@ -1,11 +1,13 @@
 // The functions over texts.
 ghost use Rattle.std.specs.Prelude.{◌≡◌, map};
 ghost use Rattle.std.specs.List.{All};
+ghost use Rattle.icn_convert.specs.TextCharges.{MakesNoText};
+ghost use Rattle.icn_defs.specs.Arguments.{arg};
 ghost use Rattle.icn_defs.specs.Strings.{ord_row, repl_row, reverse_row, string_row, trim_row};
 ghost use Rattle.icn_heap.specs.Extents.{IsLive, value_in};
 ghost use Rattle.icn_heap.specs.Heaps.{extent_of};
 ghost use Rattle.icn_vars.specs.Worlds.{KeepsItems, reach_of};
-ghost use Rattle.icn_strfn.specs.Stopping.{Gives, IsLiveGiven};
+ghost use Rattle.icn_strfn.specs.Stopping.{Gives, IsLiveGiven, LimitsRow};
 
 use crate::defaults::or_blank;
 use crate::endings::{byte_given, text};
@@ -68,6 +70,9 @@ pub fn reverse_row<L: Locals>(w: &mut World, l: &L, args: &[Val]) -> Result<Outc
     requires args { All (IsLive (extent_of w.old.heap)) args.now }
     ensures row { Gives w.old w.new (L.items l.now)
         (reverse_row (map (value_in (extent_of w.old.heap)) args.now)) result }
+    ensures limits { MakesNoText (arg (map (value_in (extent_of w.old.heap)) args.now) 0)
+        → LimitsRow w.old (L.items l.now)
+        (reverse_row (map (value_in (extent_of w.old.heap)) args.now)) result }
     ensures live { IsLiveGiven (reach_of w.new (L.items l.now)) result }
     ensures locals { All (IsLive (extent_of w.new.heap)) (L.items l.now) }
     ensures kept { KeepsItems (reach_of w.old (L.items l.now)) (reach_of w.new (L.items l.now)) }
@@ -87,6 +92,8 @@ pub fn repl_row<L: Locals>(w: &mut World, l: &L, args: &[Val]) -> Result<Outcome
     requires args { All (IsLive (extent_of w.old.heap)) args.now }
     ensures row { Gives w.old w.new (L.items l.now)
         (repl_row (map (value_in (extent_of w.old.heap)) args.now)) result }
+    ensures limits { MakesNoText (arg (map (value_in (extent_of w.old.heap)) args.now) 0)
+        → LimitsRow w.old (L.items l.now) (repl_row (map (value_in (extent_of w.old.heap)) args.now)) result }
     ensures live { IsLiveGiven (reach_of w.new (L.items l.now)) result }
     ensures locals { All (IsLive (extent_of w.new.heap)) (L.items l.now) }
     ensures kept { KeepsItems (reach_of w.old (L.items l.now)) (reach_of w.new (L.items l.now)) }

@@ -1,5 +1,4 @@
 pub mod AddedElements
 pub mod Copies
 pub mod SetsAndTables
-pub mod Functions
 pub mod Sorting

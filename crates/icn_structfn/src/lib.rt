@@ -2,7 +2,6 @@
 #![tactic(auto)]
 
 mod adding;
-mod applying;
 mod ends;
 mod keys;
 mod making;
@@ -11,7 +10,6 @@ mod ordering;
 mod sorting;
 
 pub use adding::{push, put};
-pub use applying::first;
 pub use ends::{get, pull};
 pub use keys::{delete, insert, key, key_again, member};
 pub use making::new_record;

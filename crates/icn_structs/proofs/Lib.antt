@@ -1,1 +1,10 @@
 pub mod KeptValues
+pub mod RaisedCounts
+pub mod SoughtLeaf
+pub mod LeafSums
+pub mod GapSums
+pub mod StandingNumbers
+pub mod MovedNumbers
+pub mod OrderedPairs
+pub mod ChangedPairs
+pub mod PairedSteps

@@ -1,9 +1,12 @@
 //! The lists and the pair lists of a program's heap.
 #![tactic(auto)]
 
+mod counts;
 mod deque;
+mod gaps;
 mod pairs;
 mod structure_laws;
+mod turns;
 
 pub use deque::Deque;
 pub use pairs::Pairs;

@@ -3,6 +3,7 @@ ghost use Rattle.std.specs.Prelude.{◌≡◌, ◌<◌, ◌^◌, [], length, is_
 ghost use Rattle.std.specs.Option.{option_map};
 ghost use Rattle.icn_structs.specs.PairLists.{value_of, with_value_of, without, KeysDiffer};
 
+use crate::turns::Turns;
 use indexmap::IndexMap;
 use std::alloc::{AllocError, Global};
 use std::hash::Hash;
@@ -14,14 +15,19 @@ use std::marker::Model;
 #[derive(Drop)]
 pub struct Pairs<K: Eq + Hash, V> {
     entries: IndexMap<K, V>,
+    turns: Turns,
 }
 
 impl<K: Eq + Hash, V> Model for Pairs<K, V> {
     ghost use Rattle.std.specs.Prelude.{List};
+    ghost use Rattle.icn_structs.specs.Turns.{in_order};
+    ghost use Rattle.icn_structs.specs.TurnedPairs.{ArePaired};
 
     ghost Value = { List (K × V) };
 
-    ghost view = { λ p. p.entries.entries };
+    ghost view = { λ p. in_order p.entries.entries p.turns };
+
+    ghost invariant = { λ p. ArePaired K.eq p.entries.entries p.turns };
 }
 
 impl<K: Eq + Hash + Drop, V: Copy> Pairs<K, V> {
@@ -31,6 +37,7 @@ impl<K: Eq + Hash + Drop, V: Copy> Pairs<K, V> {
     {
         Pairs {
             entries: IndexMap::new(alloc),
+            turns: Turns::new(alloc),
         }
     }
 
@@ -50,8 +57,16 @@ impl<K: Eq + Hash + Drop, V: Copy> Pairs<K, V> {
         ensures keys_differ { KeysDiffer K.eq self.new }
         ensures unchanged { OnErr result (self.new ≡ self.old) }
     {
-        let old = self.entries.insert(k, v)?;
-        Ok(old.is_none())
+        if self.entries.insert(k, v)?.is_some() {
+            return Ok(false);
+        }
+        match self.turns.add() {
+            Ok(()) => Ok(true),
+            Err(want) => {
+                self.entries.pop();
+                Err(want)
+            }
+        }
     }
 
     /// Removes the pair of this key, and answers whether there was one. The others keep their order.
@@ -60,7 +75,14 @@ impl<K: Eq + Hash + Drop, V: Copy> Pairs<K, V> {
         ensures pairs { self.new ≡ without K.eq self.old k.now }
         ensures keys_differ { KeysDiffer K.eq self.new }
     {
-        self.entries.shift_remove(k).is_some()
+        match self.entries.get_index_of(k) {
+            Some(number) => {
+                self.entries.swap_remove_index(number);
+                self.turns.remove(number);
+                true
+            }
+            None => false,
+        }
     }
 
     /// The pair at this place, counted from 0 in the order in which the keys came. `None` comes exactly where there is
@@ -68,7 +90,8 @@ impl<K: Eq + Hash + Drop, V: Copy> Pairs<K, V> {
     pub fn pair_at(&self, place: u64) -> Option<(&K, V)>
         ensures pair { option_map (λ pair. (pair.0.now, pair.1)) result ≡ slice_get self.now place }
     {
-        let (key, value) = self.entries.get_index(place as usize)?;
+        let number = self.turns.at(place as usize)?;
+        let (key, value) = self.entries.get_index(number)?;
         Some((key, *value))
     }
 
@@ -78,6 +101,6 @@ impl<K: Eq + Hash + Drop, V: Copy> Pairs<K, V> {
         ensures small { length self.now < 2 ^ 63 }
         ensures keys_differ { KeysDiffer K.eq self.now }
     {
-        self.entries.len() as u64
+        self.turns.len() as u64
     }
 }

@@ -4,7 +4,7 @@ use Rattle.std.specs.Prelude.{IsErrAnd, ◌%◌, ◌^◌, ℤ, is_some}
 use Rattle.std.specs.Int.{cast_unsigned, w64}
 use Rattle.icn_value.specs.Values.{Value, Text, Root, Variable, Whole, Part, Random, ErrorCount, Subject}
 use Rattle.icn_value.specs.Store.{Setting, having_random, having_error, having_subject}
-use Rattle.icn_defs.specs.Calls.{ComesTo, GoesOn, Passes}
+use Rattle.icn_defs.specs.Calls.{GoesOn, Passes}
 use Rattle.icn_defs.specs.Conversions.{integer_of, text_of}
 use Rattle.icn_defs.specs.ReadAndAssign.{assigns_keyword, assigns_or, assigns_root, reads_text, with_part, undoes}
 use Rattle.icn_defs.specs.Rows.{Row, Finds, changes, costs_bytes, costs_text, present, wrong}

@@ -9,12 +9,10 @@ use Rattle.icn_heap.specs.HeapParts.{list_in}
 use Rattle.icn_heap.proofs.ListChanges.{get_live}
 use Rattle.std.specs.Prelude.{ℤ, pos, negsuc, ◌-ℤ◌, IfSome, unwrap_or, slice_index, IsErrAnd, MatchResult}
 use Rattle.icn_value.specs.declared.val.Val.{Val as HeldVal}
-use Rattle.icn_value.specs.Values.{Value, Text, Root, Global, Static, Local, Element, Field, Key, Keyword, Subject, Position, Random, ErrorCount, Part}
-use Rattle.icn_value.specs.Store.{Outside, Record, Setting, value_at}
-use Rattle.icn_defs.specs.Calls.{ComesTo, GoesOn}
-use Rattle.icn_defs.specs.Conversions.{held_text}
-use Rattle.icn_defs.specs.ReadAndAssign.{reads, reads_root, reads_text, root_value}
-use Rattle.icn_defs.specs.Rows.{Row, Error, check, present}
+use Rattle.icn_value.specs.Values.{Value, Text, Root, Part}
+use Rattle.icn_value.specs.Store.{Record, Setting, value_at}
+use Rattle.icn_defs.specs.Calls.{GoesOn}
+use Rattle.icn_defs.specs.ReadAndAssign.{reads, reads_text}
 use Rattle.icn_heap.specs.Extents.{Extent, IsLive, value_in}
 use Rattle.icn_vars.specs.declared.stop.Stop.{Stop}
 use Rattle.icn_vars.specs.declared.stop.Stop.TheVariants.{Error as StopError, NoMemory}

@@ -1,12 +1,13 @@
 -- Which answers the parts of the call give.
-use Rattle.std.proofs.Common.{◌≡◌, ◌⊎◌, ◌≤◌, inl, inr, ℕ, List, [], Option, None, Some, Result, Ok, Err, Bor, refl, ap, ◌∙◌, subst, arith}
+use Rattle.std.proofs.Common.{◌≡◌, ◌⊎◌, ◌≤◌, inl, inr, ℕ, List, [], Option, None, Some, Result, Ok, Err, Bor, refl, sym, ap, ◌∙◌, subst, arith}
 use Rattle.std.specs.Prelude.{unwrap_or}
 use Rattle.std.specs.Option.{option_map}
 use Rattle.icn_host.specs.Counts.{Rose}
 use Rattle.icn_host.specs.FileMaps.{FileMap}
 use Rattle.icn_host.specs.Sinks.{SinkState}
+use Rattle.icn_tree.specs.declared.rule.Rule.TheVariants as Rules
 use Rattle.icn_answer.specs.declared.answer.Answer.{Answer}
-use Rattle.icn_answer.specs.declared.answer.Answer.TheVariants.{Wrote, Ran, Command, FileFault, ReadFault, WriteFault, NoMemory}
+use Rattle.icn_answer.specs.declared.answer.Answer.TheVariants.{Wrote, Ran, Refused, Command, Missing, BadUcode, FileFault, ReadFault, WriteFault, NoMemory}
 use Rattle.icn_answer.specs.Answers.{IsFault, IsRefusal, IsAbsence, IsCommand}
 use Rattle.icn_answer.specs.Refusing.{PutsItsLine as PutsRefusal, put, own, write_fault, want}
 use Rattle.icn_defs.specs.declared.ending.Ending.{Ending}
@@ -21,36 +22,46 @@ use Rattle.icont_units.specs.Units.{Load, Member}
 use Rattle.icont_units.proofs.EqualResults.{ok_injective, ok_is_not_err}
 use Rattle.icont_units.proofs.OneLoading.{one_load}
 use Rattle.icont_top.specs.declared.loading.LoadedProgram.{LoadedProgram}
-use Rattle.icont_top.specs.Answered.{IsCommanded}
+use Rattle.icont_top.specs.Answered.{IsCommanded, TellsLink}
 use Rattle.icont_top.specs.Asking.{IsProgramOf, IsTold, words_answer}
 use Rattle.icont_top.specs.Job.{first_base, wrong_words}
+use Rattle.icont_top.specs.MadeUnits.{IsOfProgram}
 use Rattle.icont_top.specs.Outcomes.{HasWritten}
 use Rattle.icont_top.specs.Usage.{usage}
 use Rattle.icont_top.proofs.CallOutcomes.{Asked, fault_given, given_none}
 
 -- Files and units
 
-pub loading_no_image : (answer : Answer) → IsOfLoading answer → HasWritten answer → ⊥
+-- what refuses a source or a unit is no program
+pub of_loading : (answer : Answer) → IsOfLoading answer → IsOfProgram answer
+of_loading (Refused file line rule) is = tt
+of_loading (Missing name) is = tt
+of_loading (BadUcode name rule) is = tt
+of_loading FileFault is = tt
+of_loading NoMemory is = tt
+of_loading _ is = absurd is
+
+pub loading_no_image : (answer : Answer) → IsOfProgram answer → HasWritten answer → ⊥
 loading_no_image Wrote is w = is
 loading_no_image (Ran ending) is w = is
 loading_no_image _ is w = w
 
-pub loading_no_command : (answer : Answer) → IsOfLoading answer → IsCommand answer → ⊥
+pub loading_no_command : (answer : Answer) → IsOfProgram answer → IsCommand answer → ⊥
 loading_no_command (Command kind) is w = is
 loading_no_command _ is w = w
 
-pub loading_no_run : (answer : Answer) → IsOfLoading answer → (ending : Ending) → answer ≡ Ran ending → ⊥
+pub loading_no_run : (answer : Answer) → IsOfProgram answer → (ending : Ending) → answer ≡ Ran ending → ⊥
 loading_no_run answer is ending e = rw e at is
 
-pub loading_no_read : (answer : Answer) → IsOfLoading answer → answer ≡ ReadFault → ⊥
+pub loading_no_read : (answer : Answer) → IsOfProgram answer → answer ≡ ReadFault → ⊥
 loading_no_read answer is e = rw e at is
 
-pub loading_no_write : (answer : Answer) → IsOfLoading answer → answer ≡ WriteFault → ⊥
+pub loading_no_write : (answer : Answer) → IsOfProgram answer → answer ≡ WriteFault → ⊥
 loading_no_write answer is e = rw e at is
 
 -- what is given in place of an answer
 
-pub no_command : {before after : SinkState} (answer given : Answer) → IsOfLoading answer → PutsRefusal usage [] answer before after given
+pub no_command : {before after : SinkState} (answer given : Answer) → IsOfProgram answer → PutsRefusal usage [] answer before after given
     → IsCommand given → ⊥
 no_command answer given is line = given_none IsCommand answer given (loading_no_command answer is) (λ x. x) (λ x. x) line
 
@@ -165,3 +176,19 @@ pub given_or_told : {T : Type 0} {before after : SinkState} (answer given : Answ
     → IsFault answer ⊎ T → IsFault given ⊎ T
 given_or_told answer given line (inl f) = inl (fault_given answer given f line)
 given_or_told answer given line (inr t) = inr t
+
+-- an answer that is no refusal tells of no linked file
+pub refusal_unlinked : {before now : ℕ} (answer : Answer) → (IsRefusal answer → ⊥) → TellsLink answer before now
+refusal_unlinked answer none = λ file line is. absurd (none (subst IsRefusal (sym is) tt))
+
+-- where a line is put, what the answer tells is told, or a fault
+pub given_link : {before now : ℕ} {was is : SinkState} (answer given : Answer) → PutsRefusal usage [] answer was is given → TellsLink answer before now
+    → TellsLink given before now
+given_link answer _ (put n h) told = told
+given_link answer _ (own f puts) told = told
+given_link answer _ (write_fault n stops) told = refusal_unlinked WriteFault (λ refused. refused)
+given_link answer _ (want n between leads puts) told = refusal_unlinked NoMemory (λ refused. refused)
+
+pub words_unlinked : {before now : ℕ} (fault : WordsFault) → TellsLink (words_answer fault) before now
+words_unlinked (WordsFaults.Faulty kind) = λ file line same. absurd (let clash : Command kind ≡ Refused file line Rules.K2 = same in cc)
+words_unlinked WordsFaults.NoMemory = refusal_unlinked NoMemory (λ refused. refused)

@@ -1,17 +1,19 @@
 -- What the words, the files and the input ask for, and what became of it.
-use Rattle.std.proofs.Common.{◌≡◌, ◌⊎◌, ◌↔◌, inl, inr, ℕ, List, [], ◌∷◌, Option, None, Some, IfSome, Ok, Err, Result, refl, ap, ◌∙◌, subst}
+use Rattle.std.proofs.Common.{◌≡◌, ◌⊎◌, ◌↔◌, inl, inr, ℕ, List, [], ◌∷◌, Option, None, Some, IfSome, Ok, Err, IsErrOf, Result, refl, ap, ◌∙◌, subst}
 use Rattle.std.specs.Prelude.{All, true}
 use Rattle.std.specs.Option.{option_map}
 use Rattle.std.specs.Str.{bytes_eq}
 use Rattle.std.proofs.lemmas.Bool.{cond-true}
 use Rattle.std.proofs.lemmas.Slice.Eq.{bytes_eq-Decides}
+use Rattle.icn_host.specs.Counts.{CountsOnce}
 use Rattle.icn_host.specs.FileMaps.{FileMap, SetsFile, SetsPart}
 use Rattle.icn_host.proofs.ToldPuts.{puts_nothing}
 use Rattle.icn_host.proofs.SinkSteps.{gains_nothing}
 use Rattle.icn_host.specs.Puts.{all, LeadsBy}
 use Rattle.icn_host.specs.Sinks.{SinkState}
 use Rattle.icn_host.specs.Sources.{SourceCounts}
-use Rattle.icn_host.specs.declared.fault.Fault.TheVariants.{NoMemory as Wants}
+use Rattle.icn_host.specs.declared.fault.Fault.{Fault}
+use Rattle.icn_host.specs.declared.fault.Fault.TheVariants as Faults
 use Rattle.icn_tree.specs.Trees.{Declaration}
 use Rattle.icn_code.specs.Codes.{Tables}
 use Rattle.icn_code.specs.Rules.{keeps_rules}
@@ -27,10 +29,11 @@ use Rattle.icn_running.specs.Reported.{ending_seen}
 use Rattle.icn_answer.specs.declared.answer.Answer.{Answer}
 use Rattle.icn_answer.specs.declared.answer.Answer.TheVariants.{Wrote, Ran, Refused, Command, Missing, BadUcode, BadImage, FileFault, ReadFault, WriteFault, NoMemory}
 use Rattle.icn_answer.specs.Answers.{IsFault}
+use Rattle.icn_answer.specs.FilesRead.{FilesState}
 use Rattle.icn_run_answer.specs.FaultAnswers.{IsOfRun}
 use Rattle.icn_answer.specs.Lines.{line_of}
 use Rattle.icn_answer.specs.Refusing.{PutsOwn, PutsItsLine as PutsRefusal, put, own, write_fault, want}
-use Rattle.icn_run_answer.specs.ToldObjects.{CallObjects, call_objects}
+use Rattle.icn_run_answer.specs.ToldObjects.{call_objects}
 use Rattle.icn_answer.proofs.NoFaults.{no_fault}
 use Rattle.icn_answer.proofs.TornAnswers.{is_torn, torn_fault}
 use Rattle.icn_run_answer.proofs.Reports.{is_run_fault, puts_own}
@@ -75,20 +78,20 @@ idle_of IsJobOf NoMemory before f no_write no_read = inl refl
 
 -- memory was wanting as a refusal's line was put
 idle_short : {words : List (List ℕ)} {files : FileMap} {left : List ℕ} (answer : Answer) (before between : SinkState)
-    → RefusesCommand words files answer → LeadsBy Wants before between (line_of usage [] answer)
+    → RefusesCommand words files answer → LeadsBy Faults.NoMemory before between (line_of usage [] answer)
     → IsIdleFault (IsJob words files left) NoMemory before between
 idle_short answer before between is (inl same) = inl same
 idle_short {left = left} answer before between is (inr short) = inr (refusal left answer, refuses answer is, refl, short)
 
 -- nothing was done but to put a line
-refused : {words : List (List ℕ)} {files : FileMap} {left : List ℕ} (answer given : Answer) (held held' : Option FileMap) (left' : Option (List ℕ))
+refused : {words : List (List ℕ)} {files : FileMap} {left : List ℕ} (answer given : Answer) (held held' : FilesState) (left' : Option (List ℕ))
     (input : SourceCounts) (out before after : SinkState) → Asked words files answer → (answer ≡ WriteFault → ⊥) → (answer ≡ ReadFault → ⊥)
-    → held' ≡ held → left' ≡ Some left → PutsRefusal usage [] answer before after given
+    → held'.held ≡ held.held → left' ≡ Some left → PutsRefusal usage [] answer before after given
     → AnswersCommand words files left given (call_objects held (call_streams left' input out before)) (call_objects held' (call_streams left' input out after))
 refused answer given held held' left' input out before after (inl f) no_write no_read same d (put n h) = absurd (n f)
 refused {left = left} answer given held held' left' input out before after (inr is) no_write no_read same d (put n h) =
     done (refusal left answer) (refuses answer is)
-    (record { answered = refl; files = writes_none held held' same; left = d; calls = refl; output = gains_nothing out.held; errors = h.gains })
+    (record { answered = refl; files = writes_none held.held held'.held same; left = d; calls = refl; output = gains_nothing out.held; errors = h.gains })
 refused {words} {files} {left} answer given held held' left' input out before after asks no_write no_read same d (own f puts) =
     fault f (idle (record {
       between = before;
@@ -177,9 +180,9 @@ runs_unless words files before after ReadFault none = tt
 runs_unless words files before after WriteFault none = tt
 runs_unless words files before after NoMemory none = tt
 
-pub refused_done : {words : List (List ℕ)} {files : FileMap} (answer given : Answer) (held held' : Option FileMap) (left : Option (List ℕ))
+pub refused_done : {words : List (List ℕ)} {files : FileMap} (answer given : Answer) (held held' : FilesState) (left : Option (List ℕ))
     (input : SourceCounts) (out before after : SinkState) → (HasWritten answer → ⊥) → (answer ≡ WriteFault → ⊥) → (answer ≡ ReadFault → ⊥)
-    → Asked words files answer → held' ≡ held → PutsRefusal usage [] answer before after given
+    → Asked words files answer → held'.held ≡ held.held → PutsRefusal usage [] answer before after given
     → IsDone words files given (call_objects held (call_streams left input out before)) (call_objects held' (call_streams left input out after))
 refused_done answer given held held' left input out before after none no_write no_read asks same line = record {
   outcome = if_some_intro left _ (λ bytes d. refused answer given held held' left input out before after asks no_write no_read same d line);
@@ -188,13 +191,6 @@ refused_done answer given held held' left input out before after none no_write n
   answered = answer_put answer given (asked_answer answer asks) line;
   ran = runs_unless _ _ _ _ given (given_none HasWritten answer given none (λ x. x) (λ x. x) line);
 }
-
--- the files as they were before they were read
-pub held_as : {words : List (List ℕ)} {files : FileMap} {answer : Answer} {streams : CallStreams} {after : CallObjects} (held held' : Option FileMap)
-    → held' ≡ held
-    → IsDone words files answer (call_objects held' streams) after → IsDone words files answer (call_objects held streams) after
-held_as {words} {files} {answer} {streams} {after} held held' e is =
-    subst (λ (h : Option FileMap). IsDone words files answer (call_objects h streams) after) e is
 
 -- where a fault is answered, a fault is given
 pub fault_given : {before after : SinkState} (answer given : Answer) → IsFault answer → PutsRefusal usage [] answer before after given → IsFault given
@@ -292,10 +288,11 @@ holds_image {files = files} members plan program back alike ready e sets =
 
 -- Outcomes of a program
 
-pub wrote_done : {words : List (List ℕ)} {files : FileMap} {held held' : Option FileMap} (members : List Member) (plan : PlanHeld) (program : LoadedProgram)
-    (streams : CallStreams) → ReadBack → EndsAlike → IsReadyProgram words files members plan program → held ≡ Some files
-    → WritesAll held held' (plan_file plan members ∷ []) → plan.run ≡ None → IsDone words files Wrote (call_objects held streams) (call_objects held' streams)
-wrote_done members plan program streams back alike ready e sets no_run =
+pub wrote_done : {words : List (List ℕ)} {files : FileMap} (held held' : FilesState) (members : List Member) (plan : PlanHeld) (program : LoadedProgram)
+    (streams : CallStreams) → ReadBack → EndsAlike → IsReadyProgram words files members plan program → held.held ≡ Some files
+    → WritesAll held.held held'.held (plan_file plan members ∷ []) → plan.run ≡ None
+    → IsDone words files Wrote (call_objects held streams) (call_objects held' streams)
+wrote_done held held' members plan program streams back alike ready e sets no_run =
     let none : (plan_seen plan).run ≡ None = ap (option_map run_seen) no_run in
     record {
       outcome = if_some_intro streams.left _ (λ left d. done (files_job (plan_file plan members ∷ []) left)
@@ -344,9 +341,9 @@ behind_files (BadUcode other rule) o = absurd o
 behind_files (BadImage rule) o = absurd o
 behind_files FileFault o = absurd o
 
-ran_outcome : {words : List (List ℕ)} {files : FileMap} {held held' : Option FileMap} (left : List ℕ) (members : List Member) (plan : PlanHeld)
+ran_outcome : {words : List (List ℕ)} {files : FileMap} {held held' : FilesState} (left : List ℕ) (members : List Member) (plan : PlanHeld)
     (program : LoadedProgram) (run : Run) (answer : Answer) (before after : CallStreams) → EndsAlike → IsReadyProgram words files members plan program
-    → WritesAll held held' (plan_file plan members ∷ []) → (plan_seen plan).run ≡ Some run
+    → WritesAll held.held held'.held (plan_file plan members ∷ []) → (plan_seen plan).run ≡ Some run
     → HasRun (tables_of program.made.code.code) (run_launch run left) (plan_seen plan).number answer before after
     → AnswersCommand words files left answer (call_objects held before) (call_objects held' after)
 ran_outcome left members plan program run answer before after alike ready sets e (has_ended seen flat same left' calls out err) =
@@ -427,13 +424,13 @@ runs_asked members plan program run ReadFault before after ready asks over = tt
 runs_asked members plan program run WriteFault before after ready asks over = tt
 runs_asked members plan program run NoMemory before after ready asks over = tt
 
-pub ran_done : {words : List (List ℕ)} {files : FileMap} {held held' : Option FileMap} (members : List Member) (plan : PlanHeld) (program : LoadedProgram)
-    (run : Run) (answer : Answer) (before after : CallStreams) → ReadBack → EndsAlike → IsReadyProgram words files members plan program → held ≡ Some files
-    → WritesAll held held' (plan_file plan members ∷ []) → (plan_seen plan).run ≡ Some run → IsOfRun answer
+pub ran_done : {words : List (List ℕ)} {files : FileMap} (held held' : FilesState) (members : List Member) (plan : PlanHeld) (program : LoadedProgram)
+    (run : Run) (answer : Answer) (before after : CallStreams) → ReadBack → EndsAlike → IsReadyProgram words files members plan program
+    → held.held ≡ Some files → WritesAll held.held held'.held (plan_file plan members ∷ []) → (plan_seen plan).run ≡ Some run → IsOfRun answer
     → IfSome before.left (λ left. HasRun (tables_of program.made.code.code) (run_launch run left) (plan_seen plan).number answer before after)
     → IsOver (tables_of program.made.code.code) (run_launch run []) (plan_seen plan).number answer before after
     → IsDone words files answer (call_objects held before) (call_objects held' after)
-ran_done members plan program run answer before after back alike ready e sets asks o has over = record {
+ran_done held held' members plan program run answer before after back alike ready e sets asks o has over = record {
   outcome = if_some_intro before.left _ (λ left d. ran_outcome left members plan program run answer before after alike ready sets asks
       (if_some_elim _ before.left left d has));
   headline = λ w. holds_image members plan program back alike ready e sets;
@@ -448,14 +445,16 @@ torn_no_image : (answer : Answer) → (answer ≡ FileFault) ⊎ (answer ≡ NoM
 torn_no_image answer (inl e) w = rw e at w
 torn_no_image answer (inr e) w = rw e at w
 
-torn_done : {words : List (List ℕ)} {files : FileMap} {held held' : Option FileMap} (written : List WrittenFile) (answer : Answer)
-    (left : Option (List ℕ)) (input : SourceCounts) (out before after : SinkState) → AreWritten words files written → WritesPart held held' written
-    → (answer ≡ FileFault) ⊎ (answer ≡ NoMemory) → PutsOwn answer before after
+torn_done : {A : Type 0} {words : List (List ℕ)} {files : FileMap} (held held' : FilesState) (written : List WrittenFile) (stopped : Fault)
+    (answer : Answer) (left : Option (List ℕ)) (input : SourceCounts) (out before after : SinkState) → AreWritten words files written
+    → WritesPart held.held held'.held written → (answer ≡ FileFault) ↔ (stopped ≡ Faults.Failed) → (answer ≡ NoMemory) ↔ (stopped ≡ Faults.NoMemory)
+    → (answer ≡ FileFault) ⊎ (answer ≡ NoMemory) → CountsOnce held.faults held'.faults (IsErrOf {T = A} (Err stopped) Faults.Failed)
+    → CountsOnce held.wants held'.wants (IsErrOf {T = A} (Err stopped) Faults.NoMemory) → PutsOwn answer before after
     → IsDone words files answer (call_objects held (call_streams left input out before)) (call_objects held' (call_streams left input out after))
-torn_done written answer left input out before after are part is puts = record {
+torn_done held held' written stopped answer left input out before after are part failed wanted is cause memory puts = record {
   outcome = if_some_intro left _ (λ bytes d. fault (is_torn answer is) (torn (record {
     written = written;
-    answers_torn = torn_fault answer is;
+    cause = torn_fault held held' stopped answer failed wanted is cause memory;
     asked = are;
     part = part;
     input_stays = refl;
@@ -464,26 +463,29 @@ torn_done written answer left input out before after are part is puts = record {
     line = puts_own _ _ answer puts;
   })));
   headline = λ w. absurd (torn_no_image answer is w);
-  leaves = part_written written are (torn_fault answer is) part;
+  leaves = part_written written are (torn_fault held held' stopped answer failed wanted is cause memory) part;
   answered = answered_fault answer (is_torn answer is);
   ran = runs_unless _ _ _ _ answer (torn_no_image answer is);
 }
 
-pub image_torn : {words : List (List ℕ)} {files : FileMap} {held held' : Option FileMap} (members : List Member) (plan : PlanHeld) (program : LoadedProgram)
-    (answer : Answer) (left : Option (List ℕ)) (input : SourceCounts) (out before after : SinkState) → IsReadyProgram words files members plan program
-    → WritesPart held held' (plan_file plan members ∷ []) → (answer ≡ FileFault) ⊎ (answer ≡ NoMemory) → PutsOwn answer before after
+pub image_torn : {A : Type 0} {words : List (List ℕ)} {files : FileMap} (held held' : FilesState) (members : List Member) (plan : PlanHeld)
+    (program : LoadedProgram) (stopped : Fault) (answer : Answer) (left : Option (List ℕ)) (input : SourceCounts) (out before after : SinkState)
+    → IsReadyProgram words files members plan program → WritesPart held.held held'.held (plan_file plan members ∷ [])
+    → (answer ≡ FileFault) ↔ (stopped ≡ Faults.Failed) → (answer ≡ NoMemory) ↔ (stopped ≡ Faults.NoMemory)
+    → (answer ≡ FileFault) ⊎ (answer ≡ NoMemory) → CountsOnce held.faults held'.faults (IsErrOf {T = A} (Err stopped) Faults.Failed)
+    → CountsOnce held.wants held'.wants (IsErrOf {T = A} (Err stopped) Faults.NoMemory) → PutsOwn answer before after
     → IsDone words files answer (call_objects held (call_streams left input out before)) (call_objects held' (call_streams left input out after))
-image_torn members plan program answer left input out before after ready part is puts =
-    torn_done (plan_file plan members ∷ []) answer left input out before after
-    (AreWritten.image (plan_seen plan) members (linked_code members) (planned ready)) part is puts
+image_torn held held' members plan program stopped answer left input out before after ready part failed wanted is cause memory puts =
+    torn_done held held' (plan_file plan members ∷ []) stopped answer left input out before after
+    (AreWritten.image (plan_seen plan) members (linked_code members) (planned ready)) part failed wanted is cause memory puts
 
 -- Units
 
-pub units_done : {words : List (List ℕ)} {files : FileMap} {held held' : Option FileMap} (members : List Member) (texts : List WrittenFile)
-    (streams : CallStreams) → AsksForUnits words files (Ok members) → texts ≡ ucode_files members → All IsReadBack members → held ≡ Some files
-    → WritesAll held held' texts → IsDone words files Wrote (call_objects held streams) (call_objects held' streams)
-units_done {held = held} {held'} members texts streams is e read h sets =
-    let there : WritesAll held held' (ucode_files members) = subst (WritesAll held held') e sets in
+pub units_done : {words : List (List ℕ)} {files : FileMap} (held held' : FilesState) (members : List Member) (texts : List WrittenFile)
+    (streams : CallStreams) → AsksForUnits words files (Ok members) → texts ≡ ucode_files members → All IsReadBack members → held.held ≡ Some files
+    → WritesAll held.held held'.held texts → IsDone words files Wrote (call_objects held streams) (call_objects held' streams)
+units_done held held' members texts streams is e read h sets =
+    let there : WritesAll held.held held'.held (ucode_files members) = subst (WritesAll held.held held'.held) e sets in
     record {
       outcome = if_some_intro streams.left _ (λ left d. done (files_job (ucode_files members) left) (translates members is)
           (record {
@@ -495,19 +497,22 @@ units_done {held = held} {held'} members texts streams is e read h sets =
             errors = gains_nothing
                 streams.errors.held;
           }));
-      headline = λ w. HoldsWritten.ucode members is (subst (λ (was : Option FileMap). WritesAll was held' (ucode_files members)) h there) read;
+      headline = λ w. HoldsWritten.ucode members is (subst (λ (was : Option FileMap). WritesAll was held'.held (ucode_files members)) h there) read;
       leaves = all_written (ucode_files members) (AreWritten.ucode members is) tt there;
       answered = answered_translated members is;
       ran = tt;
     }
 
-pub units_torn : {words : List (List ℕ)} {files : FileMap} {held held' : Option FileMap} (members : List Member) (texts : List WrittenFile)
-    (answer : Answer) (left : Option (List ℕ)) (input : SourceCounts) (out before after : SinkState) → AsksForUnits words files (Ok members)
-    → texts ≡ ucode_files members → WritesPart held held' texts → (answer ≡ FileFault) ⊎ (answer ≡ NoMemory) → PutsOwn answer before after
+pub units_torn : {A : Type 0} {words : List (List ℕ)} {files : FileMap} (held held' : FilesState) (members : List Member) (texts : List WrittenFile)
+    (stopped : Fault) (answer : Answer) (left : Option (List ℕ)) (input : SourceCounts) (out before after : SinkState)
+    → AsksForUnits words files (Ok members) → texts ≡ ucode_files members → WritesPart held.held held'.held texts
+    → (answer ≡ FileFault) ↔ (stopped ≡ Faults.Failed) → (answer ≡ NoMemory) ↔ (stopped ≡ Faults.NoMemory)
+    → (answer ≡ FileFault) ⊎ (answer ≡ NoMemory) → CountsOnce held.faults held'.faults (IsErrOf {T = A} (Err stopped) Faults.Failed)
+    → CountsOnce held.wants held'.wants (IsErrOf {T = A} (Err stopped) Faults.NoMemory) → PutsOwn answer before after
     → IsDone words files answer (call_objects held (call_streams left input out before)) (call_objects held' (call_streams left input out after))
-units_torn {held = held} {held'} members texts answer left input out before after is e part t puts =
-    torn_done (ucode_files members) answer left input out before after (AreWritten.ucode members is)
-    (subst (WritesPart held held') e part) t puts
+units_torn held held' members texts stopped answer left input out before after asks e part failed wanted is cause memory puts =
+    torn_done held held' (ucode_files members) stopped answer left input out before after (AreWritten.ucode members asks)
+    (subst (WritesPart held.held held'.held) e part) failed wanted is cause memory puts
 
 -- what refuses the sources refuses the words that ask for their units
 pub units_asked : {words : List (List ℕ)} {files : FileMap} (names : List (List ℕ)) (answer : Answer) → ComeTo words (Asks (Translate names))

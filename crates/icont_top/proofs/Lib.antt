@@ -13,6 +13,7 @@ mod SomeJob
 mod SoundSources
 mod SourceUnits
 mod CallOutcomes
+mod ReadBefore
 mod UnitsAgain
 mod WrittenUnits
 mod WrittenTexts

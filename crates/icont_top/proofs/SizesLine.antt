@@ -1,6 +1,6 @@
 -- The line of the sizes of the program of a number, behind its run.
 use Rattle.std.proofs.Common.{◌≡◌, inl, inr, ℕ, true, false, List, [], ◌++◌, take, Option, None, Some, Err, refl, sym, ap, ◌∙◌, subst, append-nil}
-use Rattle.icn_host.specs.Counts.{one_more, raised}
+use Rattle.icn_host.specs.Counts.{one_more, raised_count}
 use Rattle.icn_host.specs.declared.fault.Fault.{Fault}
 use Rattle.icn_host.specs.declared.fault.Fault.TheVariants as Faults
 use Rattle.icn_host.proofs.SinkSteps.{gains_nothing, gains_then}
@@ -98,7 +98,7 @@ record HasDone (tables : Tables) (launch : Launch) (before after : CallStreams) 
   pub flat : RunsFlat tables launch seen
   pub done : seen.ending ≡ Done
   pub left : after.left ≡ Some seen.outside.left
-  pub calls : after.counts.calls ≡ raised before.counts.calls (readings_in seen.outside.history)
+  pub calls : after.counts.calls ≡ raised_count before.counts.calls (readings_in seen.outside.history)
   pub output : Gains before.output.held after.output.held (output_in seen.outside.history)
   pub errors : Gains before.errors.held after.errors.held (errors_in seen.outside.history)
 

@@ -7,11 +7,13 @@ use Rattle.icn_host.specs.Sources.{SourceCounts}
 use Rattle.icn_answer.specs.declared.answer.Answer.{Answer}
 use Rattle.icn_answer.specs.declared.answer.Answer.TheVariants.{NoMemory}
 use Rattle.icn_answer.specs.Answers.{IsFault, IsAbsence}
-use Rattle.icn_run_answer.specs.CountCauses.{EndsAtFirst, outside}
+use Rattle.icn_answer.specs.FilesRead.{FilesState, files_state}
+use Rattle.icn_run_answer.specs.CountCauses.{EndsAtFirst}
 use Rattle.icn_answer.specs.Refusing.{PutsItsLine as PutsRefusal}
 use Rattle.icn_run_answer.specs.Reporting.{Reports}
 use Rattle.icn_run_answer.specs.ToldObjects.{CallObjects, call_objects}
-use Rattle.icn_answer.proofs.FaultCounts.{no_cause, unmoved}
+use Rattle.icn_answer.proofs.FaultCounts.{no_cause, unmoved, unwanted}
+use Rattle.icn_answer.proofs.ToldContent.{if_some_intro}
 use Rattle.icn_run_answer.proofs.CountCauses.{refused_ends, absence_of}
 use Rattle.icn_run_answer.proofs.Reports.{reports_of}
 use Rattle.icn_streams.specs.Handed.{call_streams}
@@ -24,12 +26,12 @@ use Rattle.icont_words.specs.Words.{Asks, ComeTo, Generate, Link, WordsReading, 
 use Rattle.icont_units.specs.Files.{files_named}
 use Rattle.icn_text.specs.WordTexts.{texts}
 use Rattle.icont_units.specs.Units.{Load, Member}
-use Rattle.icont_top.specs.Answered.{IsAnswered, IsCommanded, MissesText}
+use Rattle.icont_top.specs.Answered.{IsAnswered, IsCommanded, MissesText, TellsLink}
 use Rattle.icont_top.specs.Answering.{IsDone, RunsAsAsked}
 use Rattle.icont_top.specs.Asking.{IsTold, words_answer}
 use Rattle.icont_top.specs.Outcomes.{HasWritten, HoldsWritten, IsComplete, LeavesFiles, AnswersCommand}
 use Rattle.icont_top.specs.Usage.{usage}
-use Rattle.icont_top.proofs.AnswersGiven.{OneReading, words_asked, words_commanded, words_no_absence, words_no_file, words_no_image, words_no_read, words_no_run, words_no_write}
+use Rattle.icont_top.proofs.AnswersGiven.{OneReading, given_link, words_asked, words_commanded, words_no_absence, words_no_file, words_no_image, words_no_read, words_no_run, words_no_write, words_unlinked}
 use Rattle.icont_top.proofs.RefusedJobs.{complete_of}
 use Rattle.icont_top.proofs.CallOutcomes.{fault_given, refused_done}
 
@@ -57,7 +59,7 @@ module _ (words : List (List ℕ)) (answer : Answer) (before after : CallObjects
   outcome_of None is = tt
   outcome_of (Some files) is = is.outcome
 
-  pub headline_of : (held : Option FileMap) → DoneBy held → HasWritten answer → IfSome held (λ files. HoldsWritten words files after.files)
+  pub headline_of : (held : Option FileMap) → DoneBy held → HasWritten answer → IfSome held (λ files. HoldsWritten words files after.files.held)
   headline_of None is written = tt
   headline_of (Some files) is written = is.headline written
 
@@ -128,21 +130,20 @@ module _ (words : List (List ℕ)) (fault : WordsFault) (answer given : Answer) 
   line_again : PutsRefusal usage [] (words_answer fault) before after given
   line_again = subst (λ (a : Answer). PutsRefusal usage [] a before after given) same line
 
-  pub words_done : (held : Option FileMap) (left : Option (List ℕ)) (input : SourceCounts) (out : SinkState)
+  pub words_done : (held : FilesState) (left : Option (List ℕ)) (input : SourceCounts) (out : SinkState)
       → (let found : Result TaskHeld WordsFault = Err fault in IsReading words found)
-      → IfSome held (λ files. IsDone words files given (call_objects held (call_streams left input out before))
+      → IfSome held.held (λ files. IsDone words files given (call_objects held (call_streams left input out before))
       (call_objects held (call_streams left input out after)))
-  words_done None left input out is = tt
-  words_done (Some files) left input out is =
-      refused_done (words_answer fault) given (Some files) (Some files) left input out before after
-      (words_no_image fault) (words_no_write fault) (words_no_read fault) (words_asked fault is) refl line_again
+  words_done held left input out is =
+      if_some_intro held.held _ (λ files told. refused_done (words_answer fault) given held held left input out before after
+      (words_no_image fault) (words_no_write fault) (words_no_read fault) (words_asked fault is) refl line_again)
 
-  pub words_end : (files absences : ℕ) (input : SourceCounts) (left : Option (List ℕ)) (out : SinkState)
-      → EndsAtFirst given (IsAbsence given) (outside files absences (call_streams left input out before))
-      (outside files absences (call_streams left input out after))
-  words_end files absences input left out =
-      refused_ends (words_answer fault) given (words_no_write fault) (words_no_read fault) (unmoved (words_no_file fault)) (no_cause (words_no_absence fault))
-      (absence_of (words_answer fault) given line_again) line_again
+  pub words_end : (held : Option FileMap) (faults wants absences : ℕ) (input : SourceCounts) (left : Option (List ℕ)) (out : SinkState)
+      → EndsAtFirst given (IsAbsence given) (call_objects (files_state held faults wants absences) (call_streams left input out before))
+      (call_objects (files_state held faults wants absences) (call_streams left input out after))
+  words_end held faults wants absences input left out =
+      refused_ends (words_answer fault) given (words_no_write fault) (words_no_read fault) (unmoved (words_no_file fault)) unwanted
+      (no_cause (words_no_absence fault)) (absence_of (words_answer fault) given line_again) line_again
 
   pub words_reported : Reports usage [] before after given
   words_reported = reports_of (words_no_run fault) line_again
@@ -153,3 +154,6 @@ module _ (words : List (List ℕ)) (fault : WordsFault) (answer given : Answer) 
   pub words_miss : {T : Type 0} → OneReading → (files : FileMap) → (let found : Result TaskHeld WordsFault = Err fault in IsReading words found)
       → MissesText words files → IsFault given ⊎ T
   words_miss one files is misses = by_fault one words fault given files is misses line_again
+
+  pub words_tell : {was now : ℕ} → TellsLink given was now
+  words_tell = given_link (words_answer fault) given line_again (words_unlinked fault)

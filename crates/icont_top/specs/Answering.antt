@@ -35,7 +35,7 @@ RunsAsAsked words files NoMemory before after = ⊤
 pub record IsDone (words : List (List ℕ)) (files : FileMap) (answer : Answer)
     (before after : CallObjects) : Type 0 where
   pub outcome : IfSome before.streams.left (λ left. AnswersCommand words files left answer before after)
-  pub headline : HasWritten answer → HoldsWritten words files after.files
+  pub headline : HasWritten answer → HoldsWritten words files after.files.held
   pub leaves : LeavesFiles words files answer before.files after.files
   pub answered : IsAnswered words files answer
   pub ran : RunsAsAsked words files answer before.streams after.streams

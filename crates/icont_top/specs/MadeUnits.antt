@@ -12,7 +12,7 @@ use Rattle.icn_link.specs.LinkFaults.{first_fault}
 use Rattle.icn_verify.specs.Faults.{IsFirstFault}
 use Rattle.law_simulation.specs.FirstLaw.{IsLinked}
 use Rattle.icn_answer.specs.declared.answer.Answer.{Answer}
-use Rattle.icn_answer.specs.declared.answer.Answer.TheVariants.{Refused, BadUcode, NoMemory}
+use Rattle.icn_answer.specs.declared.answer.Answer.TheVariants.{Refused, Missing, BadUcode, FileFault, NoMemory}
 use Rattle.icont_units.specs.Files.{first_name}
 use Rattle.icont_units.specs.Units.{Member, link_answer, unit_named}
 use Rattle.icont_top.specs.declared.programs.MadeProgram.{MadeProgram}
@@ -50,3 +50,12 @@ IsOfLink (Refused file line rule) = rule ≢ P6
 IsOfLink (BadUcode name rule) = Unit {0}
 IsOfLink NoMemory = Unit {0}
 IsOfLink _ = ⊥
+
+-- what refuses the files of a program, or what they come to, or a fault
+abbrev pub IsOfProgram : Answer → Type 0
+IsOfProgram (Refused file line rule) = Unit {0}
+IsOfProgram (Missing name) = Unit {0}
+IsOfProgram (BadUcode name rule) = Unit {0}
+IsOfProgram FileFault = Unit {0}
+IsOfProgram NoMemory = Unit {0}
+IsOfProgram _ = ⊥

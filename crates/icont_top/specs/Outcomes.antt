@@ -3,7 +3,7 @@ use Rattle.std.specs.Prelude.{◌≡◌, ◌⊎◌, ◌≤◌, ℕ, List, [], �
 use Rattle.std.specs.Map.{update}
 use Rattle.std.specs.Str.{bytes_eq}
 use Rattle.icn_profile.specs.Numbers.{most_bytes_of_image}
-use Rattle.icn_host.specs.Counts.{raised}
+use Rattle.icn_host.specs.Counts.{raised_count}
 use Rattle.icn_host.specs.FileMaps.{FileMap, Follows, IsLeftBehind}
 use Rattle.icn_host.specs.Puts.{FailsPutting, Puts, RunsShort}
 use Rattle.icn_host.specs.Sinks.{Gains, SinkState}
@@ -22,7 +22,9 @@ use Rattle.icn_running.specs.declared.fault.RunFault.TheVariants as RunFaults
 use Rattle.icn_running.specs.Runs.{EndsAtFirst, LeavesBy}
 use Rattle.icn_answer.specs.declared.answer.Answer.{Answer}
 use Rattle.icn_answer.specs.declared.answer.Answer.TheVariants.{Wrote, Ran, Refused, Command, Missing, BadUcode, BadImage, FileFault, ReadFault, WriteFault, NoMemory}
-use Rattle.icn_answer.specs.Answers.{IsFault, IsTornFault}
+use Rattle.icn_answer.specs.Answers.{IsFault}
+use Rattle.icn_answer.specs.FilesRead.{FilesState}
+use Rattle.icn_answer.specs.TornFiles.{IsTornFault}
 use Rattle.icn_run_answer.specs.CountCauses.{EndsBehind}
 use Rattle.icn_run_answer.specs.FaultAnswers.{of_run}
 use Rattle.icn_answer.specs.Lines.{fault_line}
@@ -57,9 +59,9 @@ pub record WritesPart (before after : Option FileMap) (written : List WrittenFil
 -- the job was done
 pub record Completes (job : Job) (answer : Answer) (before after : CallObjects) : Type 0 where
   pub answered : answer ≡ job.answer
-  pub files : WritesAll before.files after.files job.written
+  pub files : WritesAll before.files.held after.files.held job.written
   pub left : after.streams.left ≡ Some job.left
-  pub calls : after.streams.counts.calls ≡ raised before.streams.counts.calls job.readings
+  pub calls : after.streams.counts.calls ≡ raised_count before.streams.counts.calls job.readings
   pub output : Gains before.streams.output.held after.streams.output.held job.output
   pub errors : Gains before.streams.errors.held after.streams.errors.held job.errors
 
@@ -105,7 +107,7 @@ StopsPut RunFaults.NoMemory = Unit {0}
 pub record LeavesBehind (number : ℕ) (seen : Observation) (before after : CallStreams) : Type 0 where
   pub done : seen.ending ≡ Done
   pub input : after.left ≡ Some seen.outside.left
-  pub calls : after.counts.calls ≡ raised before.counts.calls (readings_in seen.outside.history)
+  pub calls : after.counts.calls ≡ raised_count before.counts.calls (readings_in seen.outside.history)
   pub count : ℕ
   pub output : Gains before.output.held after.output.held
       (output_in seen.outside.history ++ take count (sizes_line number))
@@ -122,20 +124,20 @@ pub record BrokenBehind (members : List Member) (run : Run) (number : ℕ) (left
 pub record EndsIdle (words : List (List ℕ)) (files : FileMap) (left : List ℕ) (answer : Answer)
     (before after : CallObjects) : Type 0 where
   pub between : SinkState
-  pub files_stay : after.files ≡ before.files
+  pub files_stay : after.files.held ≡ before.files.held
   pub input_stays : after.streams.left ≡ before.streams.left
   pub counts_stay : after.streams.counts ≡ before.streams.counts
   pub output_stays : after.streams.output.held ≡ before.streams.output.held
   pub cause : IsIdleFault (IsJob words files left) answer before.streams.errors between
   pub line : Puts between after.streams.errors (fault_line answer)
 
--- a file could not be written whole
+-- a file could not be written whole, since the store failed or wanted memory
 pub record EndsTorn (words : List (List ℕ)) (files : FileMap) (left : List ℕ) (answer : Answer)
     (before after : CallObjects) : Type 0 where
   pub written : List WrittenFile
-  pub answers_torn : IsTornFault answer
+  pub cause : IsTornFault answer before.files after.files
   pub asked : AreWritten words files written
-  pub part : WritesPart before.files after.files written
+  pub part : WritesPart before.files.held after.files.held written
   pub input_stays : after.streams.left ≡ before.streams.left
   pub counts_stay : after.streams.counts ≡ before.streams.counts
   pub output_stays : after.streams.output.held ≡ before.streams.output.held
@@ -152,7 +154,7 @@ pub record EndsBroken (words : List (List ℕ)) (files : FileMap) (left : List �
   pub between : CallStreams
   pub asked : IsPlanned words files plan members tables
   pub runs : plan.run ≡ Some run
-  pub image : WritesAll before.files after.files (image_file plan.image members tables ∷ [])
+  pub image : WritesAll before.files.held after.files.held (image_file plan.image members tables ∷ [])
   pub answered : answer ≡ of_run stopped
   pub first : EndsAtFirst {A = Ending} (Err stopped) before.streams between
   pub broken : ProgramBrokenOff members run left stopped before.streams between
@@ -171,7 +173,7 @@ pub record EndsBrokenBehind (words : List (List ℕ)) (files : FileMap) (left : 
   pub asked : IsPlanned words files plan members tables
   pub runs : plan.run ≡ Some run
   pub numbered : plan.number ≡ Some number
-  pub image : WritesAll before.files after.files (image_file plan.image members tables ∷ [])
+  pub image : WritesAll before.files.held after.files.held (image_file plan.image members tables ∷ [])
   pub stops : StopsPut stopped
   pub answered : answer ≡ of_run stopped
   pub first : EndsAtFirst {A = Ending} (Err stopped) before.streams (with_errors between after.streams)
@@ -179,7 +181,7 @@ pub record EndsBrokenBehind (words : List (List ℕ)) (files : FileMap) (left : 
   pub line : Puts between after.streams.errors (fault_line answer)
 
 -- What a fault leaves, told apart by the answer, with its own line behind, as far as the error output took it. Nothing was done but that a
--- refusal's line may be begun; or a file could not be written whole; or the image was written, and the program was broken off as it ran,
+-- refusal's line may be begun; or a file could not be written whole, since the store failed or wanted memory; or the image was written, and the program was broken off as it ran,
 -- or the line behind its output was.
 pub data EndsByFault (words : List (List ℕ)) (files : FileMap) (left : List ℕ) (answer : Answer)
     (before after : CallObjects) : Type 0 where
@@ -232,15 +234,15 @@ IsBehindFiles WriteFault = Unit {0}
 IsBehindFiles NoMemory = Unit {0}
 
 -- What a call leaves of the files, whatever the input tells, told apart by the answer: they are as they were; or all that is asked for was
--- written; or some first ones were, and perhaps a part of the next.
+-- written; or some first ones were, and perhaps a part of the next, since the store failed or wanted memory.
 pub data LeavesFiles (words : List (List ℕ)) (files : FileMap) (answer : Answer)
-    (before after : Option FileMap) : Type 0 where
-  left_alone : IsUnwritten answer → after ≡ before → LeavesFiles words files answer before after
+    (before after : FilesState) : Type 0 where
+  left_alone : IsUnwritten answer → after.held ≡ before.held → LeavesFiles words files answer before after
   all_written : (written : List WrittenFile) → AreWritten words files written → IsBehindFiles answer
-      → WritesAll before after written
+      → WritesAll before.held after.held written
       → LeavesFiles words files answer before after
-  part_written : (written : List WrittenFile) → AreWritten words files written → IsTornFault answer
-      → WritesPart before after written
+  part_written : (written : List WrittenFile) → AreWritten words files written
+      → IsTornFault answer before after → WritesPart before.held after.held written
       → LeavesFiles words files answer before after
 
 -- where the words and the files ask for files to be written, they were, or a fault is answered

@@ -1,6 +1,6 @@
 -- What a run leaves, as the code tells it.
 use Rattle.std.specs.Prelude.{◌≡◌, ℕ, Bool, true, false, ◌++◌, Option, Some, Err, ⊤}
-use Rattle.icn_host.specs.Counts.{raised}
+use Rattle.icn_host.specs.Counts.{raised_count}
 use Rattle.icn_host.specs.declared.fault.Fault.{Fault}
 use Rattle.icn_host.specs.declared.fault.Fault.TheVariants as Faults
 use Rattle.icn_host.specs.Puts.{LeadsBy, Puts, PutsAll}
@@ -74,7 +74,7 @@ pub data HasRun (tables : Tables) (launch : Launch) (number : Option ℕ) (answe
     (before after : CallStreams) : Type 0 where
   has_ended : (seen : Observation) → RunsFlat tables launch seen → answer ≡ Ran (ending_held seen.ending)
       → after.left ≡ Some seen.outside.left
-      → after.counts.calls ≡ raised before.counts.calls (readings_in seen.outside.history)
+      → after.counts.calls ≡ raised_count before.counts.calls (readings_in seen.outside.history)
       → Gains before.output.held after.output.held
       (output_in seen.outside.history ++ behind number seen.ending)
       → Gains before.errors.held after.errors.held (errors_in seen.outside.history)
@@ -95,7 +95,7 @@ pub data HasRun (tables : Tables) (launch : Launch) (number : Option ℕ) (answe
 pub record WasOver (tables : Tables) (launch : Launch) (number : Option ℕ) (ending : SeenEnding)
     (before after : CallStreams) : Type 0 where
   pub report : PutsReport tables launch ending before.errors after.errors
-  pub calls : after.counts.calls ≡ raised before.counts.calls (readings_in report.now.history)
+  pub calls : after.counts.calls ≡ raised_count before.counts.calls (readings_in report.now.history)
   pub output : Gains before.output.held after.output.held
       (output_in report.now.history ++ behind number ending)
 

@@ -8,8 +8,10 @@ ghost use Rattle.icont_units.specs.Files.{files_named, sources_in};
 ghost use Rattle.icont_units.specs.Generated.{GeneratedComes};
 ghost use Rattle.icn_text.specs.WordTexts.{texts};
 ghost use Rattle.icont_units.specs.Units.{Load};
+ghost use Rattle.icont_top.specs.Answered.{TellsLink};
 ghost use Rattle.icont_top.specs.Asking.{AreTranslated, IsProgramOf};
 ghost use Rattle.icont_top.specs.BaseNames.{first_named};
+ghost use Rattle.icont_top.specs.MadeUnits.{IsOfProgram};
 
 use crate::programs::{MadeProgram, make};
 use crate::writing::{FileToWrite, ucode_texts};
@@ -39,8 +41,8 @@ pub fn translate_sources<F: Files>(
     ensures translated { IfSome (F.held files.old) (λ held. AreTranslated held (texts names.now) result) }
     ensures others { IfErr result IsOfLoading }
     ensures reads { ReadsFiles result (IsErrOfAbsence result)
-        (files_state (F.held files.old) (F.faults files.old) (F.absences files.old))
-        (files_state (F.held files.new) (F.faults files.new) (F.absences files.new)) }
+        (files_state (F.held files.old) (F.faults files.old) (F.wants files.old) (F.absences files.old))
+        (files_state (F.held files.new) (F.faults files.new) (F.wants files.new) (F.absences files.new)) }
 {
     one_spelling();
     let Ok(sources) = named_sources(alloc, names) else {
@@ -77,10 +79,12 @@ pub fn linked_program<'a, F: Files>(
     ensures program { IfSome (F.held files.old)
         (λ held. IsProgramOf (Load held (files_named (texts names.now)))
         (Rose (F.absences files.old) (F.absences files.new)) result) }
-    ensures others { IfErr result IsOfLoading }
+    ensures missed { IfErr result
+        (λ answer. TellsLink answer (F.absences files.old) (F.absences files.new)) }
+    ensures others { IfErr result IsOfProgram }
     ensures reads { ReadsFiles result (IsErrOfAbsence result)
-        (files_state (F.held files.old) (F.faults files.old) (F.absences files.old))
-        (files_state (F.held files.new) (F.faults files.new) (F.absences files.new)) }
+        (files_state (F.held files.old) (F.faults files.old) (F.wants files.old) (F.absences files.old))
+        (files_state (F.held files.new) (F.faults files.new) (F.wants files.new) (F.absences files.new)) }
 {
     one_spelling();
     let Ok(named) = files_named(alloc, names) else {
@@ -115,7 +119,7 @@ fn first_base<'a>(named: &[CommandFile<'a>]) -> &'a str
 /// A rule that it breaks, or `NoMemory`.
 pub fn numbered_program(alloc: Global, number: u16) -> Result<LoadedProgram<'static>, Answer>
     ensures program { IsProgramOf (GeneratedComes number) ⊤ result }
-    ensures others { IfErr result IsOfLoading }
+    ensures others { IfErr result IsOfProgram }
     ensures no_file { IsErrOf result Answer.FileFault → ⊥ }
     ensures no_absence { IsErrOfAbsence result → ⊥ }
 {

@@ -6,8 +6,9 @@ ghost use Rattle.icn_streams.specs.Handed.{call_streams};
 ghost use Rattle.icn_answer.specs.declared.answer.Answer.TheVariants.{NoMemory};
 ghost use Rattle.icn_answer.specs.Answers.{status_of};
 ghost use Rattle.icn_answer.specs.Lines.{fault_line};
-ghost use Rattle.icn_run_answer.specs.CountCauses.{outside};
+ghost use Rattle.icn_answer.specs.FilesRead.{files_state};
 ghost use Rattle.icn_run_answer.specs.PendingBytes.{pending_bytes};
+ghost use Rattle.icn_run_answer.specs.ToldObjects.{call_objects};
 ghost use Rattle.icont_top.specs.WholeCall.{EndsBy};
 
 use crate::top::icont_main;
@@ -28,10 +29,12 @@ pub fn program_status<F: Files, I: Source, O: Sink, E: Sink>(
 ) -> ExitCode
     // The status is that of an answer, of which all is so that `icont_main` says.
     ensures status { IfOk words
-        (λ words. EndsBy (map string_bytes words.items) (F.held files.old) (F.held files.new)
-        (outside (F.faults files.old) (F.absences files.old)
+        (λ words. EndsBy (map string_bytes words.items)
+        (call_objects
+        (files_state (F.held files.old) (F.faults files.old) (F.wants files.old) (F.absences files.old))
         (call_streams (I.left input.old) (I.counts input.old) (O.state out.old) (E.state err.old)))
-        (outside (F.faults files.new) (F.absences files.new)
+        (call_objects
+        (files_state (F.held files.new) (F.faults files.new) (F.wants files.new) (F.absences files.new))
         (call_streams (I.left input.new) (I.counts input.new) (O.state out.new) (E.state err.new)))
         (pending_bytes (O.pending out.old) (E.pending err.old))
         (pending_bytes (O.pending out.new) (E.pending err.new)) result) }
@@ -58,10 +61,12 @@ fn call_status<F: Files, I: Source, O: Sink, E: Sink>(
     out: &mut O,
     err: &mut E,
 ) -> ExitCode
-    ensures { EndsBy (map string_bytes words.now) (F.held files.old) (F.held files.new)
-        (outside (F.faults files.old) (F.absences files.old)
+    ensures { EndsBy (map string_bytes words.now)
+        (call_objects
+        (files_state (F.held files.old) (F.faults files.old) (F.wants files.old) (F.absences files.old))
         (call_streams (I.left input.old) (I.counts input.old) (O.state out.old) (E.state err.old)))
-        (outside (F.faults files.new) (F.absences files.new)
+        (call_objects
+        (files_state (F.held files.new) (F.faults files.new) (F.wants files.new) (F.absences files.new))
         (call_streams (I.left input.new) (I.counts input.new) (O.state out.new) (E.state err.new)))
         (pending_bytes (O.pending out.old) (E.pending err.old))
         (pending_bytes (O.pending out.new) (E.pending err.new)) result }

@@ -9,7 +9,8 @@ ghost use Rattle.icn_host.specs.Sources.{SourceCounts};
 ghost use Rattle.icn_code.specs.CodeTables.{tables_of};
 ghost use Rattle.icn_streams.specs.Handed.{call_streams};
 ghost use Rattle.icn_answer.specs.Answers.{IsFault, IsRefusal, IsAbsence, IsCommand};
-ghost use Rattle.icn_run_answer.specs.CountCauses.{EndsAtFirst, RunEndsAtFirst, outside};
+ghost use Rattle.icn_answer.specs.FilesRead.{files_state};
+ghost use Rattle.icn_run_answer.specs.CountCauses.{EndsAtFirst, RunEndsAtFirst};
 ghost use Rattle.icn_run_answer.specs.FaultAnswers.{IsOfRun};
 ghost use Rattle.icn_run_answer.specs.Reporting.{LineStands, Reports};
 ghost use Rattle.icn_run_answer.specs.ToldObjects.{call_objects};
@@ -22,7 +23,7 @@ ghost use Rattle.icn_run_answer.specs.InputLeft.{LosesSome};
 ghost use Rattle.icn_run_answer.specs.OutsideLeft.{LeavesOutside};
 ghost use Rattle.icn_run_answer.specs.PendingBytes.{LeavesSettled, pending_bytes};
 ghost use Rattle.icont_units.specs.Units.{Load, Member};
-ghost use Rattle.icont_top.specs.Answered.{IsAnswered, IsCommanded, MissesText};
+ghost use Rattle.icont_top.specs.Answered.{AsksForNumber, IsAnswered, IsCommanded, MissesText, TellsLink};
 ghost use Rattle.icont_top.specs.Answering.{IsDone, RunsAsAsked};
 ghost use Rattle.icont_top.specs.Asking.{IsReadyProgram, IsTold, words_answer};
 ghost use Rattle.icont_top.specs.Job.{AsksForUnits, run_launch, ucode_files};
@@ -76,9 +77,11 @@ pub fn icont_main<F: Files, I: Source, O: Sink, E: Sink>(
     ensures outcome { IfSome (F.held files.old)
         (λ held. IfSome (I.left input.old)
         (λ left. AnswersCommand (map string_bytes words.now) held left result
-        (call_objects (F.held files.old)
+        (call_objects
+        (files_state (F.held files.old) (F.faults files.old) (F.wants files.old) (F.absences files.old))
         (call_streams (I.left input.old) (I.counts input.old) (O.state out.old) (E.state err.old)))
-        (call_objects (F.held files.new)
+        (call_objects
+        (files_state (F.held files.new) (F.faults files.new) (F.wants files.new) (F.absences files.new))
         (call_streams (I.left input.new) (I.counts input.new) (O.state out.new) (E.state err.new))))) }
 
     // Where no count of faults rose, no fault is answered but want of memory.
@@ -94,9 +97,12 @@ pub fn icont_main<F: Files, I: Source, O: Sink, E: Sink>(
         → IfSome (F.held files.old)
         (λ held. HoldsWritten (map string_bytes words.now) held (F.held files.new)) }
 
-    // Where the files tell their content, it is said which of them changed, whatever the input tells.
+    // Where the files tell their content, it is said which of them changed, whatever the input tells; one is in part only where the
+    // store failed or wanted memory.
     ensures written { IfSome (F.held files.old)
-        (λ held. LeavesFiles (map string_bytes words.now) held result (F.held files.old) (F.held files.new)) }
+        (λ held. LeavesFiles (map string_bytes words.now) held result
+        (files_state (F.held files.old) (F.faults files.old) (F.wants files.old) (F.absences files.old))
+        (files_state (F.held files.new) (F.faults files.new) (F.wants files.new) (F.absences files.new))) }
 
     // Every other answer's line was put, whatever the files and the input tell; of a run, its report behind what it put.
     ensures line { IsFault result
@@ -121,6 +127,11 @@ pub fn icont_main<F: Files, I: Source, O: Sink, E: Sink>(
     ensures links { IfSome (F.held files.old) (λ held. MissesText (map string_bytes words.now) held
         → IsFault result ⊎ Rose (F.absences files.old) (F.absences files.new)) }
 
+    // Where it is told that a linked file is not there, whatever the files tell, there are members that are refused so: for the first
+    // file that they miss the count of absences rose, or its name is no text. Nothing is said of the program of a number.
+    ensures missed { (AsksForNumber (map string_bytes words.now) → ⊥)
+        → TellsLink result (F.absences files.old) (F.absences files.new) }
+
     // Where the input tells what it has left, some first bytes of it were taken, whatever the files tell.
     ensures input { IfSome (I.left input.old) (λ left. LosesSome left (I.left input.new)) }
 
@@ -132,11 +143,13 @@ pub fn icont_main<F: Files, I: Source, O: Sink, E: Sink>(
 
     // The first fault ends the call: its object's count rose once, and no other count of faults did but of the output as it is
     // settled at want of memory, and at the put of the fault's own line. An absence (also of an included file) is answered only
-    // where that count rose.
+    // where that count rose. The store wanted memory once at most, and only where that is answered and nothing else was counted.
     ensures causes { EndsAtFirst result (IsAbsence result)
-        (outside (F.faults files.old) (F.absences files.old)
+        (call_objects
+        (files_state (F.held files.old) (F.faults files.old) (F.wants files.old) (F.absences files.old))
         (call_streams (I.left input.old) (I.counts input.old) (O.state out.old) (E.state err.old)))
-        (outside (F.faults files.new) (F.absences files.new)
+        (call_objects
+        (files_state (F.held files.new) (F.faults files.new) (F.wants files.new) (F.absences files.new))
         (call_streams (I.left input.new) (I.counts input.new) (O.state out.new) (E.state err.new))) }
 
     // Where the files tell their content, and a run is answered, it is the run that words and files ask for, whatever the input tells.
@@ -184,15 +197,23 @@ fn translate_answer<F: Files, E: Sink>(
         → ComeTo words (Asks (Translate (texts names.now)))
         → IfSome (F.held files.old) (λ held.
         IsDone words held result
-        (call_objects (F.held files.old) (call_streams left input out (E.state err.old)))
-        (call_objects (F.held files.new) (call_streams left input out (E.state err.new)))) }
+        (call_objects
+        (files_state (F.held files.old) (F.faults files.old) (F.wants files.old) (F.absences files.old))
+        (call_streams left input out (E.state err.old)))
+        (call_objects
+        (files_state (F.held files.new) (F.faults files.new) (F.wants files.new) (F.absences files.new))
+        (call_streams left input out (E.state err.new)))) }
     ensures reported { Reports usage [] (E.state err.old) (E.state err.new) result }
+    ensures missed { TellsLink result (F.absences files.old) (F.absences files.new) }
     ensures command { IsCommand result → ⊥ }
     ensures untouched { IsRefusal result → F.held files.new ≡ F.held files.old }
     ensures causes { (left : Option (List ℕ)) (input : SourceCounts) (out : SinkState)
         → EndsAtFirst result (IsAbsence result)
-        (outside (F.faults files.old) (F.absences files.old) (call_streams left input out (E.state err.old)))
-        (outside (F.faults files.new) (F.absences files.new)
+        (call_objects
+        (files_state (F.held files.old) (F.faults files.old) (F.wants files.old) (F.absences files.old))
+        (call_streams left input out (E.state err.old)))
+        (call_objects
+        (files_state (F.held files.new) (F.faults files.new) (F.wants files.new) (F.absences files.new))
         (call_streams left input out (E.state err.new))) }
     ensures settled { (out : ℕ) → LeavesSettled result (pending_bytes out (E.pending err.old))
         (pending_bytes out (E.pending err.new)) }
@@ -210,14 +231,21 @@ fn texts_answer<F: Files, E: Sink>(texts: &[FileToWrite], files: &mut F, err: &m
         → AsksForUnits words held (Ok members)
         → texts_seen texts.now ≡ ucode_files members → All IsReadBack members → F.held files.old ≡ Some held
         → IsDone words held result
-        (call_objects (F.held files.old) (call_streams left input out (E.state err.old)))
-        (call_objects (F.held files.new) (call_streams left input out (E.state err.new))) }
+        (call_objects
+        (files_state (F.held files.old) (F.faults files.old) (F.wants files.old) (F.absences files.old))
+        (call_streams left input out (E.state err.old)))
+        (call_objects
+        (files_state (F.held files.new) (F.faults files.new) (F.wants files.new) (F.absences files.new))
+        (call_streams left input out (E.state err.new))) }
     ensures reported { Reports usage [] (E.state err.old) (E.state err.new) result }
     ensures no_refusal { IsRefusal result → ⊥ }
     ensures causes { (left : Option (List ℕ)) (input : SourceCounts) (out : SinkState)
         → EndsAtFirst result (IsAbsence result)
-        (outside (F.faults files.old) (F.absences files.old) (call_streams left input out (E.state err.old)))
-        (outside (F.faults files.new) (F.absences files.new)
+        (call_objects
+        (files_state (F.held files.old) (F.faults files.old) (F.wants files.old) (F.absences files.old))
+        (call_streams left input out (E.state err.old)))
+        (call_objects
+        (files_state (F.held files.new) (F.faults files.new) (F.wants files.new) (F.absences files.new))
         (call_streams left input out (E.state err.new))) }
     ensures settled { (out : ℕ) → LeavesSettled result (pending_bytes out (E.pending err.old))
         (pending_bytes out (E.pending err.new)) }
@@ -243,20 +271,25 @@ fn link_answer<F: Files, I: Source, O: Sink, E: Sink>(
         → ComeTo words (Asks (Link (texts names.now) (option_map (λ name. name.now) image.entry)
         (option_map run_seen run.entry)))
         → IfSome (F.held files.old) (λ held. IsDone words held result
-        (call_objects (F.held files.old)
+        (call_objects
+        (files_state (F.held files.old) (F.faults files.old) (F.wants files.old) (F.absences files.old))
         (call_streams (I.left input.old) (I.counts input.old) (O.state out.old) (E.state err.old)))
-        (call_objects (F.held files.new)
+        (call_objects
+        (files_state (F.held files.new) (F.faults files.new) (F.wants files.new) (F.absences files.new))
         (call_streams (I.left input.new) (I.counts input.new) (O.state out.new) (E.state err.new)))) }
     ensures reported { Reports usage [] (E.state err.old) (E.state err.new) result }
     ensures links { IfSome (F.held files.old)
         (λ held. (members : List Member) → Load held (files_named (texts names.now)) (Ok members)
         → IsFault result ⊎ IsTold (Rose (F.absences files.old) (F.absences files.new)) members) }
+    ensures missed { TellsLink result (F.absences files.old) (F.absences files.new) }
     ensures command { IsCommand result → ⊥ }
     ensures untouched { IsRefusal result → F.held files.new ≡ F.held files.old }
     ensures leaves { LeavesOutside result
-        (outside (F.faults files.old) (F.absences files.old)
+        (call_objects
+        (files_state (F.held files.old) (F.faults files.old) (F.wants files.old) (F.absences files.old))
         (call_streams (I.left input.old) (I.counts input.old) (O.state out.old) (E.state err.old)))
-        (outside (F.faults files.new) (F.absences files.new)
+        (call_objects
+        (files_state (F.held files.new) (F.faults files.new) (F.wants files.new) (F.absences files.new))
         (call_streams (I.left input.new) (I.counts input.new) (O.state out.new) (E.state err.new))) }
     ensures settled { LeavesSettled result (pending_bytes (O.pending out.old) (E.pending err.old))
         (pending_bytes (O.pending out.new) (E.pending err.new)) }
@@ -286,17 +319,21 @@ fn generate_answer<F: Files, I: Source, O: Sink, E: Sink>(
 ) -> Answer
     ensures done { (words : List (List ℕ)) → ComeTo words (Asks (Generate number turns))
         → IfSome (F.held files.old) (λ held. IsDone words held result
-        (call_objects (F.held files.old)
+        (call_objects
+        (files_state (F.held files.old) (F.faults files.old) (F.wants files.old) (F.absences files.old))
         (call_streams (I.left input.old) (I.counts input.old) (O.state out.old) (E.state err.old)))
-        (call_objects (F.held files.new)
+        (call_objects
+        (files_state (F.held files.new) (F.faults files.new) (F.wants files.new) (F.absences files.new))
         (call_streams (I.left input.new) (I.counts input.new) (O.state out.new) (E.state err.new)))) }
     ensures reported { Reports usage [] (E.state err.old) (E.state err.new) result }
     ensures command { IsCommand result → ⊥ }
     ensures untouched { IsRefusal result → F.held files.new ≡ F.held files.old }
     ensures leaves { LeavesOutside result
-        (outside (F.faults files.old) (F.absences files.old)
+        (call_objects
+        (files_state (F.held files.old) (F.faults files.old) (F.wants files.old) (F.absences files.old))
         (call_streams (I.left input.old) (I.counts input.old) (O.state out.old) (E.state err.old)))
-        (outside (F.faults files.new) (F.absences files.new)
+        (call_objects
+        (files_state (F.held files.new) (F.faults files.new) (F.wants files.new) (F.absences files.new))
         (call_streams (I.left input.new) (I.counts input.new) (O.state out.new) (E.state err.new))) }
     ensures settled { LeavesSettled result (pending_bytes (O.pending out.old) (E.pending err.old))
         (pending_bytes (O.pending out.new) (E.pending err.new)) }
@@ -330,16 +367,20 @@ fn image_answer<F: Files, I: Source, O: Sink, E: Sink>(
     ensures done { (words : List (List ℕ)) (held : FileMap) (members : List Member)
         → IsReadyProgram words held members plan.entry program.now
         → F.held files.old ≡ Some held → IsDone words held result
-        (call_objects (F.held files.old)
+        (call_objects
+        (files_state (F.held files.old) (F.faults files.old) (F.wants files.old) (F.absences files.old))
         (call_streams (I.left input.old) (I.counts input.old) (O.state out.old) (E.state err.old)))
-        (call_objects (F.held files.new)
+        (call_objects
+        (files_state (F.held files.new) (F.faults files.new) (F.wants files.new) (F.absences files.new))
         (call_streams (I.left input.new) (I.counts input.new) (O.state out.new) (E.state err.new))) }
     ensures reported { Reports usage [] (E.state err.old) (E.state err.new) result }
     ensures no_refusal { IsRefusal result → ⊥ }
     ensures leaves { LeavesOutside result
-        (outside (F.faults files.old) (F.absences files.old)
+        (call_objects
+        (files_state (F.held files.old) (F.faults files.old) (F.wants files.old) (F.absences files.old))
         (call_streams (I.left input.old) (I.counts input.old) (O.state out.old) (E.state err.old)))
-        (outside (F.faults files.new) (F.absences files.new)
+        (call_objects
+        (files_state (F.held files.new) (F.faults files.new) (F.wants files.new) (F.absences files.new))
         (call_streams (I.left input.new) (I.counts input.new) (O.state out.new) (E.state err.new))) }
     ensures settled { LeavesSettled result (pending_bytes (O.pending out.old) (E.pending err.old))
         (pending_bytes (O.pending out.new) (E.pending err.new)) }

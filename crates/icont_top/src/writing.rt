@@ -81,6 +81,7 @@ pub fn write_all<F: Files>(files: &mut F, texts: &[FileToWrite]) -> Result<(), F
     ensures all { OnOk result (WritesAll (F.held files.old) (F.held files.new) (texts_seen texts.now)) }
     ensures part { OnErr result (WritesPart (F.held files.old) (F.held files.new) (texts_seen texts.now)) }
     ensures cause { CountsOnce (F.faults files.old) (F.faults files.new) (IsErrOf result Fault.Failed) }
+    ensures want { CountsOnce (F.wants files.old) (F.wants files.new) (IsErrOf result Fault.NoMemory) }
     ensures absences { F.absences files.new ≡ F.absences files.old }
 {
     let mut rest = texts;

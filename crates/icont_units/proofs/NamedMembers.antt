@@ -208,7 +208,7 @@ files_from named i other l = ap files_seen (drop_more named i other l)
 -- Which answers there are
 
 pub of_read : (answer : Answer) → IsOfRead answer → IsOfLoading answer
-of_read (Refused file line rule) h = tt
+of_read (Refused file line rule) h = h
 of_read (Missing name) h = tt
 of_read FileFault h = tt
 of_read NoMemory h = tt

@@ -1,7 +1,7 @@
 -- What is read of a named file.
 use Rattle.std.proofs.Common.{◌≡◌, ◌⊎◌, inl, inr, ℕ, ◌≤◌, true, false, List, Result, Ok, Err, refl, sym, subst, ◌∙◌, arith}
 use Rattle.icn_tree.specs.declared.rule.Rule.{Rule}
-use Rattle.icn_tree.specs.declared.rule.Rule.TheVariants.{P6}
+use Rattle.icn_tree.specs.declared.rule.Rule.TheVariants.{K2, P6}
 use Rattle.icn_host.specs.FileMaps.{FileMap}
 use Rattle.icn_tree.specs.declared.lines.SourceLine.{SourceLine}
 use Rattle.icn_tree.specs.declared.token.Token.{Token}
@@ -13,12 +13,13 @@ use Rattle.icn_tree.specs.Tokens.{Tokenized, Scanned, Fault, tokens_of}
 use Rattle.icn_prep.specs.declared.fault.PrepFault.{PrepFault}
 use Rattle.icn_prep.specs.declared.fault.PrepFault.TheVariants as Prep
 use Rattle.icn_prep.specs.Answers.{IsAbsent, IsTextFault}
+use Rattle.icn_prep.specs.Refusals.{IsOfPrep, IsPrepRule}
 use Rattle.icn_prep.specs.SourceLines.{PreprocessedSource, source_lines}
 use Rattle.icn_prep.proofs.Faults.{fault_of_text}
 use Rattle.icn_answer.specs.declared.answer.Answer.{Answer}
 use Rattle.icn_answer.specs.declared.answer.Answer.TheVariants.{Refused, FileFault, NoMemory}
 use Rattle.icn_answer.specs.Answers.{IsFault, IsAbsence}
-use Rattle.icont_units.specs.Sources.{refused_at, tokens_read, fault_answer, lines_read}
+use Rattle.icont_units.specs.Sources.{IsOfRead, refused_at, tokens_read, fault_answer, lines_read}
 use Rattle.icont_units.proofs.EqualResults.{err_injective, ok_is_not_err}
 
 no_scan_rule : (rule : Rule) → IsScanRule rule → rule ≡ P6 → ⊥
@@ -29,6 +30,29 @@ pub not_absent : (rule : Rule) (name : List ℕ) (line : ℕ) (answer : Answer) 
     → IsAbsence answer → ⊥
 not_absent rule name line answer scan (inl e) is = no_scan_rule rule scan (rw e at is)
 not_absent rule name line answer scan (inr e) is = rw e at is
+
+-- and none of a file that is linked
+scan_unlinked : (rule : Rule) → IsScanRule rule → rule ≡ K2 → ⊥
+scan_unlinked rule scan is = rw is at scan
+
+pub scan_read : (rule : Rule) (name : List ℕ) (line : ℕ) (answer : Answer) → IsScanRule rule → (answer ≡ Refused name line rule) ⊎ (answer ≡ NoMemory)
+    → IsOfRead answer
+scan_read rule name line answer scan (inl e) = rw e (scan_unlinked rule scan)
+scan_read rule name line answer scan (inr e) = rw e tt
+
+-- nor does one of preprocessing
+prep_unlinked : (rule : Rule) → IsPrepRule rule → rule ≡ K2 → ⊥
+prep_unlinked rule prep is = rw is at prep
+
+pub prep_read : (name : List ℕ) (fault : PrepFault) (answer : Answer) → IsOfPrep fault → (answer ≡ fault_answer name fault) ⊎ (answer ≡ NoMemory)
+    → IsOfRead answer
+prep_read name fault answer prep (inr none) = rw none tt
+prep_read name fault answer prep (inl is) = rw is (of_fault name fault prep) where
+  of_fault : (name : List ℕ) (fault : PrepFault) → IsOfPrep fault → IsOfRead (fault_answer name fault)
+  of_fault name Prep.Missing prep = tt
+  of_fault name (Prep.Broken rule file line) prep = prep_unlinked rule prep
+  of_fault name Prep.FileFault prep = tt
+  of_fault name Prep.NoMemory prep = tt
 
 -- tokens of lines are as the scanner gives them
 pub are_scanned : (lines : List SourceLine) (tokens : List Token) → joined_len lines ≤ 16777216 → tokens_of lines ≡ Scanned tokens → AreScanned tokens

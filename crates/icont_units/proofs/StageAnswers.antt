@@ -1,7 +1,8 @@
 -- What the stages behind the tokens answer.
-use Rattle.std.proofs.Common.{◌≡◌, ◌⊎◌, inl, inr, ℕ, List, Option, Some, Result, Err, refl, sym, ap, subst, ◌∙◌}
+use Rattle.std.proofs.Common.{◌≡◌, ◌⊎◌, inl, inr, ℕ, List, Option, Some, Result, Ok, Err, IfErr, refl, sym, ap, subst, ◌∙◌}
 use Rattle.std.proofs.lemmas.Option.{none-some, same_Some}
 use Rattle.icn_tree.specs.declared.rule.Rule.{Rule}
+use Rattle.icn_tree.specs.declared.rule.Rule.TheVariants.{K2}
 use Rattle.icn_tree.specs.declared.token.Token.{Token}
 use Rattle.icn_tree.specs.declared.tree.Place.{Place}
 use Rattle.icn_tree.specs.Trees.{Declaration}
@@ -14,9 +15,9 @@ use Rattle.icn_decls.specs.declared.fault.ContextFault.TheVariants as Context
 use Rattle.icn_decls.specs.Faults.{context_faults}
 use Rattle.icn_decls.specs.Views.{Checks}
 use Rattle.icn_answer.specs.declared.answer.Answer.{Answer}
-use Rattle.icn_answer.specs.declared.answer.Answer.TheVariants.{NoMemory}
+use Rattle.icn_answer.specs.declared.answer.Answer.TheVariants.{Refused, NoMemory}
 use Rattle.icont_units.specs.Faults.{of_parse, of_context}
-use Rattle.icont_units.specs.Sources.{refused_at, IsTreeRule, IsOfTokens}
+use Rattle.icont_units.specs.Sources.{refused_at, IsTreeRule, IsOfRead, IsOfTokens}
 use Rattle.icont_units.specs.Stages.{Stops}
 use Rattle.icont_units.specs.Translating.{TokensGive, not_parsed, out_of_context, is_file}
 use Rattle.icont_units.proofs.ContextRules.{context_rules}
@@ -56,3 +57,17 @@ pub refused_rules : (names : List (List ℕ)) (tokens : List Token) (rule : Rule
     → (answer ≡ refused_at names rule place) ⊎ (answer ≡ NoMemory) → IsOfTokens answer
 refused_rules names tokens rule place answer are (inl e) = rw e (found_rules (Err (rule, place)) are rule place refl)
 refused_rules names tokens rule place answer are (inr e) = rw e tt
+
+-- no rule of trees and contexts speaks of a file that is linked
+tree_unlinked : (rule : Rule) → IsTreeRule rule → rule ≡ K2 → ⊥
+tree_unlinked rule is same = rw same at is
+
+of_tokens : (answer : Answer) → IsOfTokens answer → IsOfRead answer
+of_tokens (Refused file line rule) is = tree_unlinked rule is
+of_tokens NoMemory is = tt
+of_tokens _ is = absurd is
+
+-- what tokens come to is what is read
+pub tokens_others : {A : Type 0} (result : Result A Answer) → IfErr result IsOfTokens → IfErr result IsOfRead
+tokens_others (Ok a) is = tt
+tokens_others (Err answer) is = of_tokens answer is

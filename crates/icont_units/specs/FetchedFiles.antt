@@ -1,11 +1,12 @@
 -- How the code tells which files are named, and what it made of one.
-use Rattle.std.specs.Prelude.{◌≡◌, ◌⊎◌, ℕ, ◌+◌, true, List, [], ◌∷◌, ◌++◌, map, take, if◌then◌else◌, Option, Some, None, Result, Ok, Err, IfOk, Vec}
+use Rattle.std.specs.Prelude.{◌≡◌, ◌≢◌, ◌⊎◌, ℕ, ◌+◌, true, List, [], ◌∷◌, ◌++◌, map, take, if◌then◌else◌, Option, Some, None, Result, Ok, Err, IfOk, Vec}
 use Rattle.std.specs.List.{list_any}
 use Rattle.std.specs.Str.{bytes_eq, is_utf8}
 use Rattle.icn_profile.specs.Numbers.{most_bytes_of_ucode}
 use Rattle.icn_host.specs.FileMaps.{FileMap}
 use Rattle.icn_tree.specs.TreeOf.{declarations_of}
 use Rattle.icn_tree.specs.declared.rule.Rule.{Rule}
+use Rattle.icn_tree.specs.declared.rule.Rule.TheVariants.{K2}
 use Rattle.icn_tree.specs.declared.tree.Place.{Place}
 use Rattle.icn_decls.specs.declared.checked.Checked.{Checked}
 use Rattle.icn_unit.specs.declared.unit.Unit.{Unit as HeldUnit}
@@ -141,9 +142,9 @@ IsOfNamed FileFault = Unit {0}
 IsOfNamed NoMemory = Unit {0}
 IsOfNamed _ = ⊥
 
--- what refuses a source or a unit, or a fault
+-- What refuses a source or a unit, or a fault. It is no missing file that is linked.
 abbrev pub IsOfLoading : Answer → Type 0
-IsOfLoading (Refused file line rule) = Unit {0}
+IsOfLoading (Refused file line rule) = rule ≢ K2
 IsOfLoading (Missing name) = Unit {0}
 IsOfLoading (BadUcode name rule) = Unit {0}
 IsOfLoading FileFault = Unit {0}

@@ -1,8 +1,8 @@
 -- What a named file has as tokens, or the answer that refuses it.
-use Rattle.std.specs.Prelude.{◌≡◌, ◌⊎◌, ℕ, List, [], slice_index_or, Result, Ok, Err}
+use Rattle.std.specs.Prelude.{◌≡◌, ◌≢◌, ◌⊎◌, ℕ, List, [], slice_index_or, Result, Ok, Err}
 use Rattle.icn_host.specs.FileMaps.{FileMap}
 use Rattle.icn_tree.specs.declared.rule.Rule.{Rule}
-use Rattle.icn_tree.specs.declared.rule.Rule.TheVariants.{S1, S2, S3, S4, C1, C2, C3, C4, C5, C6, C7, C8}
+use Rattle.icn_tree.specs.declared.rule.Rule.TheVariants.{S1, S2, S3, S4, C1, C2, C3, C4, C5, C6, C7, C8, K2}
 use Rattle.icn_tree.specs.declared.token.Token.{Token}
 use Rattle.icn_tree.specs.declared.tree.Place.{Place}
 use Rattle.icn_tree.specs.Tokens.{Tokenized, Scanned, Fault, tokens_of}
@@ -57,9 +57,9 @@ abbrev pub IsRead : Result ScannedSource Answer → Result SourceTokens Answer �
 IsRead read (Ok source) = read ≡ Ok (scan_of source)
 IsRead read (Err answer) = IsFault answer ⊎ (read ≡ Err answer)
 
--- an answer that no program ran for, and that the words have no part in
+-- An answer that no program ran for, and that the words have no part in. It speaks of no file that is linked.
 abbrev pub IsOfRead : Answer → Type 0
-IsOfRead (Refused file line rule) = Unit {0}
+IsOfRead (Refused file line rule) = rule ≢ K2
 IsOfRead (Missing name) = Unit {0}
 IsOfRead FileFault = Unit {0}
 IsOfRead NoMemory = Unit {0}

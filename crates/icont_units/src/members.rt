@@ -44,8 +44,8 @@ pub fn load<F: Files>(
         (λ members. AreSought (F.absences files.old) (F.absences files.new) (kept_of members).units) }
     ensures others { IfErr result IsOfLoading }
     ensures reads { ReadsFiles result (IsErrOfAbsence result)
-        (files_state (F.held files.old) (F.faults files.old) (F.absences files.old))
-        (files_state (F.held files.new) (F.faults files.new) (F.absences files.new)) }
+        (files_state (F.held files.old) (F.faults files.old) (F.wants files.old) (F.absences files.old))
+        (files_state (F.held files.new) (F.faults files.new) (F.wants files.new) (F.absences files.new)) }
 {
     let mut members = load_named(alloc, named, files)?;
     gather(alloc, &mut members, files)?;
@@ -66,8 +66,8 @@ pub fn load_named<F: Files>(
     ensures sound { IfOk result AreSoundMembers }
     ensures others { IfErr result IsOfLoading }
     ensures reads { ReadsFiles result (IsErrOfAbsence result)
-        (files_state (F.held files.old) (F.faults files.old) (F.absences files.old))
-        (files_state (F.held files.new) (F.faults files.new) (F.absences files.new)) }
+        (files_state (F.held files.old) (F.faults files.old) (F.wants files.old) (F.absences files.old))
+        (files_state (F.held files.new) (F.faults files.new) (F.wants files.new) (F.absences files.new)) }
 {
     let mut members = Members {
         units: Vec::new(alloc),
@@ -91,8 +91,8 @@ fn add_file<F: Files>(
     ensures sound { AreSoundMembers members.old → OnOk result (AreSoundMembers members.new) }
     ensures others { IfErr result IsOfLoading }
     ensures reads { ReadsFiles result (IsErrOfAbsence result)
-        (files_state (F.held files.old) (F.faults files.old) (F.absences files.old))
-        (files_state (F.held files.new) (F.faults files.new) (F.absences files.new)) }
+        (files_state (F.held files.old) (F.faults files.old) (F.wants files.old) (F.absences files.old))
+        (files_state (F.held files.new) (F.faults files.new) (F.wants files.new) (F.absences files.new)) }
 {
     match file.kind {
         FileKind::Source => add_source(alloc, file.base, members, files),
@@ -112,8 +112,8 @@ fn add_source<F: Files>(
     ensures sound { AreSoundMembers members.old → OnOk result (AreSoundMembers members.new) }
     ensures others { IfErr result IsOfLoading }
     ensures reads { ReadsFiles result (IsErrOfAbsence result)
-        (files_state (F.held files.old) (F.faults files.old) (F.absences files.old))
-        (files_state (F.held files.new) (F.faults files.new) (F.absences files.new)) }
+        (files_state (F.held files.old) (F.faults files.old) (F.wants files.old) (F.absences files.old))
+        (files_state (F.held files.new) (F.faults files.new) (F.wants files.new) (F.absences files.new)) }
 {
     let checked = checked_source(alloc, base, files)?;
     match unit(alloc, base.as_bytes(), &checked) {
@@ -134,8 +134,8 @@ fn add_named<F: Files>(
     ensures sound { AreSoundMembers members.old → OnOk result (AreSoundMembers members.new) }
     ensures others { IfErr result IsOfLoading }
     ensures reads { ReadsFiles result (IsErrOfAbsence result)
-        (files_state (F.held files.old) (F.faults files.old) (F.absences files.old))
-        (files_state (F.held files.new) (F.faults files.new) (F.absences files.new)) }
+        (files_state (F.held files.old) (F.faults files.old) (F.wants files.old) (F.absences files.old))
+        (files_state (F.held files.new) (F.faults files.new) (F.wants files.new) (F.absences files.new)) }
 {
     let unit = named_unit(alloc, base, files)?;
     push_ucode(members, unit)

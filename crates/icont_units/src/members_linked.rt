@@ -35,8 +35,8 @@ pub fn gather<F: Files>(alloc: Global, members: &mut Members, files: &mut F) -> 
         (AreSought (F.absences files.old) (F.absences files.new) (kept_of members.new).units) }
     ensures others { IfErr result IsOfLinked }
     ensures reads { ReadsFiles result ⊥
-        (files_state (F.held files.old) (F.faults files.old) (F.absences files.old))
-        (files_state (F.held files.new) (F.faults files.new) (F.absences files.new)) }
+        (files_state (F.held files.old) (F.faults files.old) (F.wants files.old) (F.absences files.old))
+        (files_state (F.held files.new) (F.faults files.new) (F.wants files.new) (F.absences files.new)) }
 {
     let Ok(mut known) = names_of(alloc, &members.units) else {
         return Err(Answer::NoMemory);
@@ -89,8 +89,8 @@ fn gather_unit<F: Files>(
         (texts_in known.old.keys) (texts_in known.new.keys) (links_at (kept_of members.old).units place)) }
     ensures others { IfErr result IsOfLinked }
     ensures reads { ReadsFiles result ⊥
-        (files_state (F.held files.old) (F.faults files.old) (F.absences files.old))
-        (files_state (F.held files.new) (F.faults files.new) (F.absences files.new)) }
+        (files_state (F.held files.old) (F.faults files.old) (F.wants files.old) (F.absences files.old))
+        (files_state (F.held files.new) (F.faults files.new) (F.wants files.new) (F.absences files.new)) }
 {
     let Ok(bases) = linked_bases(alloc, &members.units[place].decls) else {
         return Err(Answer::NoMemory);
@@ -144,8 +144,8 @@ fn gather_bases<F: Files>(
         (texts_in known.old.keys) (texts_in known.new.keys) (texts_in bases.now)) }
     ensures others { IfErr result IsOfLinked }
     ensures reads { ReadsFiles result ⊥
-        (files_state (F.held files.old) (F.faults files.old) (F.absences files.old))
-        (files_state (F.held files.new) (F.faults files.new) (F.absences files.new)) }
+        (files_state (F.held files.old) (F.faults files.old) (F.wants files.old) (F.absences files.old))
+        (files_state (F.held files.new) (F.faults files.new) (F.wants files.new) (F.absences files.new)) }
 {
     for base in bases {
         gather_base(alloc, base, members, known, files)?;
@@ -169,8 +169,8 @@ fn gather_base<F: Files>(
         (texts_in known.old.keys) (texts_in known.new.keys) (base.now ∷ [])) }
     ensures others { IfErr result IsOfLinked }
     ensures reads { ReadsFiles result ⊥
-        (files_state (F.held files.old) (F.faults files.old) (F.absences files.old))
-        (files_state (F.held files.new) (F.faults files.new) (F.absences files.new)) }
+        (files_state (F.held files.old) (F.faults files.old) (F.wants files.old) (F.absences files.old))
+        (files_state (F.held files.new) (F.faults files.new) (F.wants files.new) (F.absences files.new)) }
 {
     match enter(alloc, known, base) {
         Ok(true) => add_linked(alloc, base, members, files),
@@ -195,8 +195,8 @@ fn add_linked<F: Files>(
         known (known ++ base.now ∷ []) (base.now ∷ [])) }
     ensures others { IfErr result IsOfLinked }
     ensures reads { ReadsFiles result ⊥
-        (files_state (F.held files.old) (F.faults files.old) (F.absences files.old))
-        (files_state (F.held files.new) (F.faults files.new) (F.absences files.new)) }
+        (files_state (F.held files.old) (F.faults files.old) (F.wants files.old) (F.absences files.old))
+        (files_state (F.held files.new) (F.faults files.new) (F.wants files.new) (F.absences files.new)) }
 {
     match linked_unit(alloc, base, files)? {
         Some(unit) => push_ucode(members, unit),

@@ -38,8 +38,8 @@ pub fn checked_source<F: Files>(alloc: Global, base: &str, files: &mut F) -> Res
     ensures comes { IfSome (F.held files.old) (λ held. IsSource held base.now result) }
     ensures others { IfErr result IsOfRead }
     ensures reads { ReadsFiles result (IsErrOfAbsence result)
-        (files_state (F.held files.old) (F.faults files.old) (F.absences files.old))
-        (files_state (F.held files.new) (F.faults files.new) (F.absences files.new)) }
+        (files_state (F.held files.old) (F.faults files.old) (F.wants files.old) (F.absences files.old))
+        (files_state (F.held files.new) (F.faults files.new) (F.wants files.new) (F.absences files.new)) }
 {
     let Ok(name) = name_with(alloc, base, ".icn") else {
         return Err(Answer::NoMemory);
@@ -77,8 +77,8 @@ pub fn source_tokens<F: Files>(
     ensures scanned { IfOk result (λ source. AreScanned source.tokens.items) }
     ensures others { IfErr result IsOfRead }
     ensures reads { ReadsFiles result (IsErrOfAbsence result)
-        (files_state (F.held files.old) (F.faults files.old) (F.absences files.old))
-        (files_state (F.held files.new) (F.faults files.new) (F.absences files.new)) }
+        (files_state (F.held files.old) (F.faults files.old) (F.wants files.old) (F.absences files.old))
+        (files_state (F.held files.new) (F.faults files.new) (F.wants files.new) (F.absences files.new)) }
 {
     match preprocess(alloc, name, files) {
         Ok(lines) => line_tokens(alloc, lines),
@@ -111,6 +111,7 @@ pub fn line_tokens(alloc: Global, lines: Lines) -> Result<SourceTokens, Answer>
 fn fault_answer(alloc: Global, name: &str, fault: PrepFault) -> Answer
     ensures given { (result ≡ fault_answer name.now fault) ⊎ (result ≡ Answer.NoMemory) }
     ensures file_fault { fault ≡ PrepFault.FileFault → result ≡ Answer.FileFault }
+    ensures wanted { fault ≡ PrepFault.NoMemory → result ≡ Answer.NoMemory }
 {
     match fault {
         PrepFault::Missing => missing_source(alloc, name),

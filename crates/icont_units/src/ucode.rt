@@ -36,8 +36,8 @@ pub fn named_unit<F: Files>(alloc: Global, base: &str, files: &mut F) -> Result<
     ensures name { IsUnitOf base.now result }
     ensures others { IfErr result IsOfNamed }
     ensures reads { ReadsFiles result (IsErrOfAbsence result)
-        (files_state (F.held files.old) (F.faults files.old) (F.absences files.old))
-        (files_state (F.held files.new) (F.faults files.new) (F.absences files.new)) }
+        (files_state (F.held files.old) (F.faults files.old) (F.wants files.old) (F.absences files.old))
+        (files_state (F.held files.new) (F.faults files.new) (F.wants files.new) (F.absences files.new)) }
 {
     match both_texts(alloc, base, files) {
         Ok(texts) => unit_read(alloc, base, &texts),
@@ -59,8 +59,8 @@ pub fn linked_unit<F: Files>(
     ensures name { IsUnitOfSome base.now result }
     ensures others { IfErr result IsOfLinked }
     ensures reads { ReadsFiles result (IsLost base.now result)
-        (files_state (F.held files.old) (F.faults files.old) (F.absences files.old))
-        (files_state (F.held files.new) (F.faults files.new) (F.absences files.new)) }
+        (files_state (F.held files.old) (F.faults files.old) (F.wants files.old) (F.absences files.old))
+        (files_state (F.held files.new) (F.faults files.new) (F.wants files.new) (F.absences files.new)) }
 {
     let Ok(base) = str::from_utf8(base) else {
         return Ok(None);
@@ -119,8 +119,8 @@ fn both_texts<F: Files>(alloc: Global, base: &str, files: &mut F) -> Result<Unit
     ensures texts { IfSome (F.held files.old) (λ held. AreTexts (texts_held held base.now) result) }
     ensures others { IfErr result IsOfTexts }
     ensures reads { ReadsFiles result (IsErrOfAbsence result)
-        (files_state (F.held files.old) (F.faults files.old) (F.absences files.old))
-        (files_state (F.held files.new) (F.faults files.new) (F.absences files.new)) }
+        (files_state (F.held files.old) (F.faults files.old) (F.wants files.old) (F.absences files.old))
+        (files_state (F.held files.new) (F.faults files.new) (F.wants files.new) (F.absences files.new)) }
 {
     let first = text(alloc, base, ".u1", files)?;
     let second = text(alloc, base, ".u2", files)?;
@@ -133,8 +133,8 @@ fn text<F: Files>(alloc: Global, base: &str, suffix: &str, files: &mut F) -> Res
         (λ held. IsText (held (base.now ++ suffix.now)) (base.now ++ suffix.now) result) }
     ensures others { IfErr result IsOfTexts }
     ensures reads { ReadsFiles result (IsErrOfAbsence result)
-        (files_state (F.held files.old) (F.faults files.old) (F.absences files.old))
-        (files_state (F.held files.new) (F.faults files.new) (F.absences files.new)) }
+        (files_state (F.held files.old) (F.faults files.old) (F.wants files.old) (F.absences files.old))
+        (files_state (F.held files.new) (F.faults files.new) (F.wants files.new) (F.absences files.new)) }
 {
     let Ok(name) = name_with(alloc, base, suffix) else {
         return Err(Answer::NoMemory);

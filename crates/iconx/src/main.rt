@@ -16,13 +16,13 @@ fn main(rt: HostRuntime) -> ExitCode {
         words(&rt),
         &mut DiskFiles::new(alloc, RuntimeFiles::new(&rt)),
         &mut StdSource::new(rt.stdin()),
-        &mut StdSink::new(alloc, rt.stdout(), settling(rt.stdout().is_terminal())),
-        &mut StdSink::new(alloc, rt.stderr(), settling(rt.stderr().is_terminal())),
+        &mut StdSink::new(alloc, rt.stdout(), settling_for(rt.stdout().is_terminal())),
+        &mut StdSink::new(alloc, rt.stderr(), settling_for(rt.stderr().is_terminal())),
     )
 }
 
 // A terminal sees each line as it is put.
-fn settling(is_terminal: bool) -> Settling {
+fn settling_for(is_terminal: bool) -> Settling {
     if is_terminal {
         Settling::EachLine
     } else {

@@ -20,13 +20,14 @@ use Rattle.icn_running.specs.Runs.{EndsAtFirst as RunEnds, IsBrokenOff, RunsTo}
 use Rattle.icn_answer.specs.declared.answer.Answer.{Answer}
 use Rattle.icn_answer.specs.declared.answer.Answer.TheVariants.{Wrote, Ran, Refused, Command, Missing, BadUcode, BadImage, FileFault, ReadFault, WriteFault, NoMemory}
 use Rattle.icn_answer.specs.Answers.{IsFault, IsAbsence}
-use Rattle.icn_run_answer.specs.CountCauses.{EndsAtFirst, EndsBehind, outside}
+use Rattle.icn_answer.specs.FilesRead.{FilesState, files_state}
+use Rattle.icn_run_answer.specs.CountCauses.{EndsAtFirst, EndsBehind}
 use Rattle.icn_answer.specs.Endings.{ending_held}
 use Rattle.icn_run_answer.specs.FaultAnswers.{of_run}
 use Rattle.icn_answer.specs.Lines.{line_of}
 use Rattle.icn_answer.specs.Refusing.{PutsItsLine, own, put, want, write_fault}
-use Rattle.icn_run_answer.specs.ToldObjects.{CallObjects, call_objects}
-use Rattle.icn_answer.proofs.FaultCounts.{no_cause, unmoved}
+use Rattle.icn_run_answer.specs.ToldObjects.{call_objects}
+use Rattle.icn_answer.proofs.FaultCounts.{no_cause, unmoved, unwanted}
 use Rattle.icn_run_answer.proofs.CountCauses.{absence_of, broken_first, refused_ends}
 use Rattle.icn_run_answer.proofs.Endings.{held_seen}
 use Rattle.icn_answer.proofs.NoFaults.{no_fault}
@@ -70,8 +71,8 @@ files_stay files e e' = rw (e, e') (files, refl, λ name. refl)
 
 -- nothing was done but to put a line
 pub refused : {words : List (List ℕ)} {files : FileMap} {left : List ℕ} (name : List ℕ) (answer given : Answer)
-    (held held' : Option FileMap) (left' : Option (List ℕ)) (input : SourceCounts) (out before after : SinkState)
-    → Asked words files left name answer → (answer ≡ WriteFault → ⊥) → (answer ≡ ReadFault → ⊥) → held' ≡ held → held ≡ Some files
+    (held held' : FilesState) (left' : Option (List ℕ)) (input : SourceCounts) (out before after : SinkState)
+    → Asked words files left name answer → (answer ≡ WriteFault → ⊥) → (answer ≡ ReadFault → ⊥) → held'.held ≡ held.held → held.held ≡ Some files
     → left' ≡ Some left → PutsItsLine usage name answer before after given
     → AnswersCommand words files left given (call_objects held (call_streams left' input out before)) (call_objects held' (call_streams left' input out after))
 refused name answer given held held' left' input out before after (inl f) no_write no_read same e d (put n h) = absurd (n f)
@@ -138,13 +139,14 @@ pub run_asked : {words : List (List ℕ)} {files : FileMap} (left : List ℕ) (l
 run_asked left launch name verified e input is = record { name = name; bytes = is.0; asks = e; there = is.1.0; judged = is.1.1; input = input }
 
 pub ran_outcome : {words : List (List ℕ)} {files : FileMap} {left : List ℕ} {before after : CallStreams} (tables : Tables) (launch : Launch) (ending : Ending)
-    (held : Option FileMap) → held ≡ Some files → IsRun words files left tables launch → RunsTo tables launch (ending_seen ending) before after
-    → AnswersCommand words files left (Ran ending) (call_objects held before) (call_objects held after)
-ran_outcome {files = files} tables launch ending held e is (seen, (ended, (runs, ends))) =
+    (held held' : FilesState) → held.held ≡ Some files → held'.held ≡ held.held → IsRun words files left tables launch
+    → RunsTo tables launch (ending_seen ending) before after
+    → AnswersCommand words files left (Ran ending) (call_objects held before) (call_objects held' after)
+ran_outcome {files = files} tables launch ending held held' e same is (seen, (ended, (runs, ends))) =
     done (observation files seen) (ran tables launch seen is runs)
     (record {
       answered = ap (λ x. Ran x) (sym (held_seen ending) ∙ ap ending_held (sym ended));
-      files = files_stay files e e;
+      files = files_stay files e (same ∙ e);
       left = ends.left;
       calls = ends.calls;
       output = ends.output;
@@ -152,10 +154,10 @@ ran_outcome {files = files} tables launch ending held e is (seen, (ended, (runs,
     })
 
 pub broke_outcome : {words : List (List ℕ)} {files : FileMap} {left : List ℕ} {before between after : CallStreams} (tables : Tables) (launch : Launch)
-    (stopped : RunFault) (held : Option FileMap) → IsRun words files left tables launch → RunEnds {A = Ending} (Err stopped) before between
-    → IsBrokenOff tables launch stopped before between → EndsBehind (of_run stopped) between after
-    → AnswersCommand words files left (of_run stopped) (call_objects held before) (call_objects held after)
-broke_outcome {before = before} {between} tables launch stopped held is first broken behind =
+    (stopped : RunFault) (held held' : FilesState) → held'.held ≡ held.held → IsRun words files left tables launch
+    → RunEnds {A = Ending} (Err stopped) before between → IsBrokenOff tables launch stopped before between → EndsBehind (of_run stopped) between after
+    → AnswersCommand words files left (of_run stopped) (call_objects held before) (call_objects held' after)
+broke_outcome {before = before} {between} tables launch stopped held held' same is first broken behind =
     fault (is_run_fault stopped) (broke (record {
       stopped = stopped;
       between = between;
@@ -163,17 +165,11 @@ broke_outcome {before = before} {between} tables launch stopped held is first br
       launch = launch;
       answered = refl;
       asked = is;
-      files_stay = refl;
+      files_stay = same;
       first = broken_first before between stopped first;
       broken = broken;
       line = behind;
     }))
-
--- the files that are told behind a call
-pub held_as : {words : List (List ℕ)} {files : FileMap} {left : List ℕ} {answer : Answer} {before : CallObjects} {after : CallStreams}
-    (held held' : Option FileMap) → held' ≡ held
-    → AnswersCommand words files left answer before (call_objects held after) → AnswersCommand words files left answer before (call_objects held' after)
-held_as held held' e outcome = rw e outcome
 
 -- which answers a loading can give
 
@@ -194,12 +190,12 @@ command_no_read kind e = cc
 command_no_file : (kind : ℕ) → Command kind ≡ FileFault → ⊥
 command_no_file kind e = cc
 
-pub command_ends : {files absences : ℕ} {input : SourceCounts} {left : Option (List ℕ)} {out before after : SinkState} (kind : ℕ) (given : Answer)
-    → PutsItsLine usage [] (Command kind) before after given
-    → EndsAtFirst given (IsAbsence given) (outside files absences (call_streams left input out before))
-    (outside files absences (call_streams left input out after))
+pub command_ends : {held : Option FileMap} {faults wants absences : ℕ} {input : SourceCounts} {left : Option (List ℕ)} {out before after : SinkState}
+    (kind : ℕ) (given : Answer) → PutsItsLine usage [] (Command kind) before after given
+    → EndsAtFirst given (IsAbsence given) (call_objects (files_state held faults wants absences) (call_streams left input out before))
+    (call_objects (files_state held faults wants absences) (call_streams left input out after))
 command_ends kind given refuses =
-    refused_ends (Command kind) given (command_no_write kind) (command_no_read kind) (unmoved (command_no_file kind))
+    refused_ends (Command kind) given (command_no_write kind) (command_no_read kind) (unmoved (command_no_file kind)) unwanted
     (no_cause (λ (a : IsAbsence (Command kind)). a)) (absence_of (Command kind) given refuses) refuses
 
 pub command_unrun : (kind : ℕ) (ending : Ending) → Command kind ≡ Ran ending → ⊥

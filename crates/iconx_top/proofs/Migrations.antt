@@ -1,12 +1,14 @@
 -- What the words ask for where they ask for a new image, and what became of it.
-use Rattle.std.proofs.Common.{◌≡◌, ◌⊎◌, ◌∙◌, inl, inr, ℕ, List, Option, Some, Result, Ok, Err, refl, sym, ap, subst}
+use Rattle.std.proofs.Common.{◌≡◌, ◌⊎◌, ◌↔◌, ◌∙◌, inl, inr, ℕ, List, Option, Some, Ok, Err, IsErrOf, refl, sym, ap, subst}
 use Rattle.std.specs.Str.{bytes_eq}
 use Rattle.std.specs.Map.{update}
 use Rattle.icn_host.proofs.SinkSteps.{gains_nothing}
+use Rattle.icn_host.specs.Counts.{CountsOnce}
 use Rattle.icn_host.specs.FileMaps.{FileMap, Follows, SetsFile, SetsPart}
 use Rattle.icn_host.specs.Sinks.{SinkState}
 use Rattle.icn_host.specs.Sources.{SourceCounts}
 use Rattle.icn_host.specs.declared.fault.Fault.{Fault}
+use Rattle.icn_host.specs.declared.fault.Fault.TheVariants as Faults
 use Rattle.icn_tree.specs.declared.rule.Rule.TheVariants.{I7}
 use Rattle.icn_code.specs.Codes.{Tables}
 use Rattle.icn_code.specs.CodeTables.{tables_of}
@@ -15,9 +17,10 @@ use Rattle.icn_verify.specs.declared.verified.Verified.{Verified}
 use Rattle.icn_answer.specs.declared.answer.Answer.{Answer}
 use Rattle.icn_answer.specs.declared.answer.Answer.TheVariants.{Wrote, BadImage, FileFault, NoMemory}
 use Rattle.icn_answer.specs.Answers.{IsAbsence}
+use Rattle.icn_answer.specs.FilesRead.{FilesState}
 use Rattle.icn_answer.specs.Refusing.{PutsItsLine, PutsOwn, own, put, want, write_fault}
 use Rattle.icn_answer.proofs.NoFaults.{wrote_no_fault}
-use Rattle.icn_answer.proofs.TornAnswers.{is_torn, torn_fault}
+use Rattle.icn_answer.proofs.TornAnswers.{OnlyRead, is_torn, torn_fault, torn_since}
 use Rattle.icn_run_answer.proofs.Reports.{puts_own}
 use Rattle.icn_run_answer.specs.ToldObjects.{CallObjects, call_objects}
 use Rattle.icn_streams.specs.Handed.{CallStreams, call_streams}
@@ -27,9 +30,9 @@ use Rattle.iconx_top.specs.declared.words.MigrationAsked.{MigrationAsked}
 use Rattle.iconx_top.specs.declared.words.RunAsked.{RunAsked}
 use Rattle.iconx_top.specs.Answered.{IsAnswered, fault as answered_fault, wrong_words, missing, bad, ran, writes as answered_writes, grows as answered_grows}
 use Rattle.iconx_top.specs.Asking.{migration_reading, reading_of, run_reading}
-use Rattle.iconx_top.specs.Job.{IsJob, IsMigration, IsShort, grows, migrated, refusal, writes}
+use Rattle.iconx_top.specs.Job.{IsJob, IsMigration, IsShort, Job, grows, migration_job, refusal, writes}
 use Rattle.iconx_top.specs.Loading.{IsLoaded, IsNoSecondImage, IsOfImage, IsOfLoading}
-use Rattle.iconx_top.specs.Outcomes.{AnswersCommand, HoldsMigration, LeavesFiles, all_written, done, fault, left_alone, part_written, torn}
+use Rattle.iconx_top.specs.Outcomes.{AnswersCommand, Completes, EndsBroken, EndsByFault, EndsIdle, EndsTorn, HoldsMigration, LeavesFiles, all_written, broke, done, fault, idle, left_alone, part_written, torn}
 use Rattle.iconx_top.specs.Words.{AsksToWrite, WordsReading, words_reading}
 use Rattle.iconx_top.proofs.CallOutcomes.{Asked}
 
@@ -85,31 +88,92 @@ of_image_no_absence (BadImage rule) is a = a
 of_image_no_absence NoMemory is a = a
 of_image_no_absence _ is a = is
 
--- equal failures of a write have equal faults
-pub fault_injective : {A : Type 0} (a b : Fault) → ◌≡◌ {A = Result A Fault} (Err a) (Err b) → a ≡ b
-fault_injective a b e = ap (λ r. elim r [ Ok x ↦ a | Err f ↦ f ]) e
-
 -- What is told
 
--- the files that were told before a call that leaves them alone
-pub held_before : {words : List (List ℕ)} {files : FileMap} {left : List ℕ} {answer : Answer} {before : CallStreams} {after : CallObjects}
-    (held held' : Option FileMap) → held' ≡ held
-    → AnswersCommand words files left answer (call_objects held' before) after → AnswersCommand words files left answer (call_objects held before) after
-held_before held held' e outcome = rw e at outcome
+module _ (words : List (List ℕ)) (files : FileMap) (left : List ℕ) (was now : FilesState) (read : OnlyRead was now) (answer : Answer)
+    (streams : CallStreams) (after : CallObjects) where
+  completes_since : (job : Job) → Completes job answer (call_objects now streams) after → Completes job answer (call_objects was streams) after
+  completes_since job ends = record {
+    answered = ends.answered;
+    files = subst (λ (held : Option FileMap). Follows held after.files.held (λ old new. (name : List ℕ) → new name ≡ job.files name)) read.held ends.files;
+    left = ends.left;
+    calls = ends.calls;
+    output = ends.output;
+    errors = ends.errors;
+  }
 
-pub leaves_before : {words : List (List ℕ)} {files : FileMap} {answer : Answer} {after : Option FileMap} (held held' : Option FileMap) → held' ≡ held
-    → LeavesFiles words files answer held' after → LeavesFiles words files answer held after
-leaves_before held held' e leaves = rw e at leaves
+  idle_since : EndsIdle words files left answer (call_objects now streams) after → EndsIdle words files left answer (call_objects was streams) after
+  idle_since ends = record {
+    between = ends.between;
+    files_stay = ends.files_stay ∙ read.held;
+    input_stays = ends.input_stays;
+    counts_stay = ends.counts_stay;
+    output_stays = ends.output_stays;
+    cause = ends.cause;
+    line = ends.line;
+  }
+
+  part_since : EndsTorn words files left answer (call_objects now streams) after → EndsTorn words files left answer (call_objects was streams) after
+  part_since ends = record {
+    new = ends.new;
+    tables = ends.tables;
+    cause = torn_since was now after.files answer read ends.cause;
+    asked = ends.asked;
+    short = ends.short;
+    part = subst (λ (held : Option FileMap). SetsPart held after.files.held ends.new (image_of ends.tables)) read.held ends.part;
+    input_stays = ends.input_stays;
+    counts_stay = ends.counts_stay;
+    output_stays = ends.output_stays;
+    line = ends.line;
+  }
+
+  broken_since : EndsBroken words files left answer (call_objects now streams) after → EndsBroken words files left answer (call_objects was streams) after
+  broken_since ends = record {
+    stopped = ends.stopped;
+    between = ends.between;
+    tables = ends.tables;
+    launch = ends.launch;
+    answered = ends.answered;
+    asked = ends.asked;
+    files_stay = ends.files_stay ∙ read.held;
+    first = ends.first;
+    broken = ends.broken;
+    line = ends.line;
+  }
+
+  fault_since : EndsByFault words files left answer (call_objects now streams) after → EndsByFault words files left answer (call_objects was streams) after
+  fault_since (idle ends) = idle (idle_since ends)
+  fault_since (torn ends) = torn (part_since ends)
+  fault_since (broke ends) = broke (broken_since ends)
+
+  outcome_since : AnswersCommand words files left answer (call_objects now streams) after
+      → AnswersCommand words files left answer (call_objects was streams) after
+  outcome_since (done job is ends) = done job is (completes_since job ends)
+  outcome_since (fault is ends) = fault is (fault_since ends)
+
+-- the files that were told before they were read
+pub held_before : {words : List (List ℕ)} {files : FileMap} {left : List ℕ} {answer : Answer} {before : CallStreams} {after : CallObjects}
+    (was now : FilesState) → OnlyRead was now
+    → AnswersCommand words files left answer (call_objects now before) after → AnswersCommand words files left answer (call_objects was before) after
+held_before {answer = answer} {before} {after} was now read outcome = outcome_since _ _ _ was now read answer before after outcome
+
+pub leaves_before : {words : List (List ℕ)} {files : FileMap} {answer : Answer} {after : FilesState} (was now : FilesState) → OnlyRead was now
+    → LeavesFiles words files answer now after → LeavesFiles words files answer was after
+leaves_before was now read (left_alone none same) = left_alone none (same ∙ read.held)
+leaves_before was now read (all_written wrote holds) = all_written wrote holds
+leaves_before {answer = answer} {after} was now read (part_written new tables tears asked short part) =
+    part_written new tables (torn_since was now after answer read tears) asked short
+    (subst (λ (held : Option FileMap). SetsPart held after.held new (image_of tables)) read.held part)
 
 -- of all that may become of the files, that the new image was written
-pub written_of : {words : List (List ℕ)} {files : FileMap} {answer : Answer} {before after : Option FileMap}
-    → LeavesFiles words files answer before after → answer ≡ Wrote → HoldsMigration words files after
+pub written_of : {words : List (List ℕ)} {files : FileMap} {answer : Answer} {before after : FilesState}
+    → LeavesFiles words files answer before after → answer ≡ Wrote → HoldsMigration words files after.held
 written_of (left_alone none same) e = absurd (none e)
 written_of (all_written wrote holds) e = holds
 written_of (part_written new tables broken asked short part) e = absurd (rw e at broken)
 
 -- an input that tells what it has left, and stays as it is
-pub told_input : {words : List (List ℕ)} {files : FileMap} {left : List ℕ} {answer : Answer} {held held' : Option FileMap} {input : SourceCounts}
+pub told_input : {words : List (List ℕ)} {files : FileMap} {left : List ℕ} {answer : Answer} {held held' : FilesState} {input : SourceCounts}
     {out before after : SinkState} (told : Option (List ℕ)) → told ≡ Some left
     → AnswersCommand words files left answer (call_objects held (call_streams (Some left) input out before))
     (call_objects held' (call_streams (Some left) input out after))
@@ -139,31 +203,34 @@ written_files : (files : FileMap) (held held' : Option FileMap) (name image : Li
     → Follows held held' (λ old new. (q : List ℕ) → new q ≡ update bytes_eq files name (Some image) q)
 written_files files held held' name image e sets = rw e sets.follows
 
-pub image_done : {words : List (List ℕ)} {files : FileMap} {left : List ℕ} (new : List ℕ) (tables : Tables) (held held' : Option FileMap)
-    (input : SourceCounts) (out errors : SinkState) → IsMigration words files new tables → IsShort tables → held ≡ Some files
-    → SetsFile (Some files) held' new (image_of tables)
+pub image_done : {words : List (List ℕ)} {files : FileMap} {left : List ℕ} (new : List ℕ) (tables : Tables) (held held' : FilesState)
+    (input : SourceCounts) (out errors : SinkState) → IsMigration words files new tables → IsShort tables → held.held ≡ Some files
+    → SetsFile (Some files) held'.held new (image_of tables)
     → AnswersCommand words files left Wrote (call_objects held (call_streams (Some left) input out errors))
     (call_objects held' (call_streams (Some left) input out errors))
 image_done {files = files} {left} new tables held held' input out errors asked short e sets =
-    done (migrated files left new tables) (writes new tables asked short) (record {
+    done (migration_job files left new tables) (writes new tables asked short) (record {
       answered = refl;
-      files = written_files files held held' new (image_of tables) e sets;
+      files = written_files files held.held held'.held new (image_of tables) e sets;
       left = refl;
       calls = refl;
       output = gains_nothing out.held;
       errors = gains_nothing errors.held;
     })
 
-pub image_torn : {words : List (List ℕ)} {files : FileMap} {left : List ℕ} (new : List ℕ) (tables : Tables) (answer : Answer)
-    (held held' : Option FileMap) (input : SourceCounts) (out before after : SinkState) → IsMigration words files new tables → IsShort tables
-    → SetsPart held held' new (image_of tables) → (answer ≡ FileFault) ⊎ (answer ≡ NoMemory) → PutsOwn answer before after
+pub image_torn : {A : Type 0} {words : List (List ℕ)} {files : FileMap} {left : List ℕ} (new : List ℕ) (tables : Tables) (stopped : Fault)
+    (answer : Answer) (held held' : FilesState) (input : SourceCounts) (out before after : SinkState) → IsMigration words files new tables
+    → IsShort tables → SetsPart held.held held'.held new (image_of tables) → (answer ≡ FileFault) ↔ (stopped ≡ Faults.Failed)
+    → (answer ≡ NoMemory) ↔ (stopped ≡ Faults.NoMemory) → (answer ≡ FileFault) ⊎ (answer ≡ NoMemory)
+    → CountsOnce held.faults held'.faults (IsErrOf {T = A} (Err stopped) Faults.Failed)
+    → CountsOnce held.wants held'.wants (IsErrOf {T = A} (Err stopped) Faults.NoMemory) → PutsOwn answer before after
     → AnswersCommand words files left answer (call_objects held (call_streams (Some left) input out before))
     (call_objects held' (call_streams (Some left) input out after))
-image_torn new tables answer held held' input out before after asked short part is puts =
+image_torn new tables stopped answer held held' input out before after asked short part failed wanted is cause memory puts =
     fault (is_torn answer is) (torn (record {
       new = new;
       tables = tables;
-      answers_torn = torn_fault answer is;
+      cause = torn_fault held held' stopped answer failed wanted is cause memory;
       asked = asked;
       short = short;
       part = part;
@@ -172,6 +239,15 @@ image_torn new tables answer held held' input out before after asked short part 
       output_stays = refl;
       line = puts_own _ _ answer puts;
     }))
+
+-- what that leaves of the files
+pub part_leaves : {A : Type 0} {words : List (List ℕ)} {files : FileMap} (new : List ℕ) (tables : Tables) (stopped : Fault) (answer : Answer)
+    (held held' : FilesState) → IsMigration words files new tables → IsShort tables → SetsPart held.held held'.held new (image_of tables)
+    → (answer ≡ FileFault) ↔ (stopped ≡ Faults.Failed) → (answer ≡ NoMemory) ↔ (stopped ≡ Faults.NoMemory)
+    → (answer ≡ FileFault) ⊎ (answer ≡ NoMemory) → CountsOnce held.faults held'.faults (IsErrOf {T = A} (Err stopped) Faults.Failed)
+    → CountsOnce held.wants held'.wants (IsErrOf {T = A} (Err stopped) Faults.NoMemory) → LeavesFiles words files answer held held'
+part_leaves new tables stopped answer held held' asked short part failed wanted is cause memory =
+    part_written new tables (torn_fault held held' stopped answer failed wanted is cause memory) asked short part
 
 -- the image would be too long, or memory was wanting
 pub asked_too_long : {words : List (List ℕ)} {files : FileMap} {left : List ℕ} (new name : List ℕ) (tables : Tables) (answer : Answer)

@@ -16,7 +16,7 @@ use Rattle.icn_run.proofs.OneObservation.{flat_once}
 use Rattle.icn_answer.specs.Answers.{IsFault}
 use Rattle.icn_answer.specs.declared.answer.Answer.TheVariants.{Command, Missing, BadImage}
 use Rattle.iconx_top.specs.LoadedImages.{IsJudged, too_long, broken, unverified, runs}
-use Rattle.iconx_top.specs.Job.{Job, IsJob, IsMigration, IsRun, IsShort, wrong_words, missing, bad, ran, writes, grows, migrated, refusal, observation}
+use Rattle.iconx_top.specs.Job.{Job, IsJob, IsMigration, IsRun, IsShort, wrong_words, missing, bad, ran, writes, grows, migration_job, refusal, observation}
 use Rattle.iconx_top.specs.Words.{WordsReading, Asks, Migrates, Faulty, image_named, words_reading}
 
 -- Values of results that are equal
@@ -233,8 +233,8 @@ module _ (one : HaveOneFault) (none : HaveNoFault) where
   one_job words files left _ _ (ran s a _ x _) (grows new t y _) = absurd (run_or_new words files left s t a new x y)
   one_job words files left _ _ (grows new t y _) (ran s a _ x _) = absurd (run_or_new words files left s t a new x y)
   one_job words files left _ _ (writes p s x _) (writes q t y _) =
-      ap (λ new. migrated files left new s) (same_new p q x.name y.name (words_reading words) x.asks y.asks)
-      ∙ ap (λ tables. migrated files left q tables) (same_migrated words files left p q s t x y)
+      ap (λ new. migration_job files left new s) (same_new p q x.name y.name (words_reading words) x.asks y.asks)
+      ∙ ap (λ tables. migration_job files left q tables) (same_migrated words files left p q s t x y)
   one_job words files left _ _ (writes p s x short) (grows q t y long) = absurd (short_or_long words files left p q s t x y short long)
   one_job words files left _ _ (grows q t y long) (writes p s x short) = absurd (short_or_long words files left p q s t x y short long)
   one_job words files left _ _ (grows p s x _) (grows q t y _) =

@@ -17,7 +17,7 @@ use Rattle.icn_run.specs.FlatStep.{Runs}
 use Rattle.law_safe.specs.Ended.{AreOver}
 use Rattle.icn_answer.specs.declared.answer.Answer.TheVariants.{Command, Missing, BadImage}
 use Rattle.iconx_top.specs.LoadedImages.{IsJudged, too_long, broken, unverified, runs}
-use Rattle.iconx_top.specs.Job.{Job, IsJob, IsMigration, IsRun, wrong_words, missing, bad, ran, writes, grows, migrated, refusal, observation}
+use Rattle.iconx_top.specs.Job.{Job, IsJob, IsMigration, IsRun, wrong_words, missing, bad, ran, writes, grows, migration_job, refusal, observation}
 use Rattle.iconx_top.specs.Words.{WordsReading, Asks, Migrates, Faulty, image_named, words_reading}
 
 -- what the laws of the crates below say
@@ -72,7 +72,7 @@ module _ (laws : Laws) where
     written_job : (new : List ℕ) (tables : Tables) → IsMigration words files new tables
         → (1073741824 < length (image_of tables)) ⊎ (length (image_of tables) ≤ 1073741824) → (job : Job) × IsJob words files left job
     written_job new tables asked (inl long) = (refusal files left asked.name (BadImage I7), grows new tables asked long)
-    written_job new tables asked (inr short) = (migrated files left new tables, writes new tables asked short)
+    written_job new tables asked (inr short) = (migration_job files left new tables, writes new tables asked short)
 
     judged_new : (new name bytes : List ℕ) → words_reading words ≡ Migrates new name → files name ≡ Some bytes
         → Judges bytes → (job : Job) × IsJob words files left job

@@ -74,8 +74,8 @@ abbrev pub IsShort : Tables → Type 0
 IsShort tables = length (image_of tables) ≤ most_bytes_of_image
 
 -- the second version of this code is written under this name, and every other file stays
-abbrev pub migrated : FileMap → List ℕ → List ℕ → Tables → Job
-migrated files left new tables = record {
+abbrev pub migration_job : FileMap → List ℕ → List ℕ → Tables → Job
+migration_job files left new tables = record {
   answer = Wrote;
   files = update bytes_eq files new (Some (image_of tables));
   left = left;
@@ -97,7 +97,7 @@ pub data IsJob (words : List (List ℕ)) (files : FileMap) (left : List ℕ) : J
       → Runs tables launch observed
       → IsJob words files left (observation files observed)
   writes : (new : List ℕ) (tables : Tables) → IsMigration words files new tables → IsShort tables
-      → IsJob words files left (migrated files left new tables)
+      → IsJob words files left (migration_job files left new tables)
   grows : (new : List ℕ) (tables : Tables) (asked : IsMigration words files new tables)
       → most_bytes_of_image < length (image_of tables)
       → IsJob words files left (refusal files left asked.name (BadImage I7))

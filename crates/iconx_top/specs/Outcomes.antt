@@ -1,6 +1,6 @@
 -- What a call comes to, where the objects tell their content.
 use Rattle.std.specs.Prelude.{◌≡◌, ◌⊎◌, ℕ, List, [], Option, Some, ⊤}
-use Rattle.icn_host.specs.Counts.{raised}
+use Rattle.icn_host.specs.Counts.{raised_count}
 use Rattle.icn_host.specs.FileMaps.{FileMap, Follows, SetsFile, SetsPart}
 use Rattle.icn_host.specs.Sinks.{Gains, SinkState}
 use Rattle.icn_host.specs.Puts.{FailsPutting, Puts, RunsShort}
@@ -13,7 +13,9 @@ use Rattle.icn_running.specs.Reported.{ending_seen}
 use Rattle.icn_running.specs.Runs.{IsBrokenOff, RunsOver}
 use Rattle.icn_answer.specs.declared.answer.Answer.{Answer}
 use Rattle.icn_answer.specs.declared.answer.Answer.TheVariants.{Wrote, Ran, Refused, Command, Missing, BadUcode, BadImage, FileFault, ReadFault, WriteFault, NoMemory}
-use Rattle.icn_answer.specs.Answers.{IsFault, IsTornFault}
+use Rattle.icn_answer.specs.Answers.{IsFault}
+use Rattle.icn_answer.specs.FilesRead.{FilesState}
+use Rattle.icn_answer.specs.TornFiles.{IsTornFault}
 use Rattle.icn_run_answer.specs.CountCauses.{EndsBehind, IsFirstFaultOf}
 use Rattle.icn_run_answer.specs.FaultAnswers.{of_run}
 use Rattle.icn_answer.specs.Lines.{fault_line, line_of}
@@ -24,9 +26,10 @@ use Rattle.iconx_top.specs.Usage.{usage}
 -- the job was done
 pub record Completes (job : Job) (answer : Answer) (before after : CallObjects) : Type 0 where
   pub answered : answer ≡ job.answer
-  pub files : Follows before.files after.files (λ old new. (name : List ℕ) → new name ≡ job.files name)
+  pub files : Follows before.files.held after.files.held
+      (λ old new. (name : List ℕ) → new name ≡ job.files name)
   pub left : after.streams.left ≡ Some job.left
-  pub calls : after.streams.counts.calls ≡ raised before.streams.counts.calls job.readings
+  pub calls : after.streams.counts.calls ≡ raised_count before.streams.counts.calls job.readings
   pub output : Gains before.streams.output.held after.streams.output.held job.output
   pub errors : Gains before.streams.errors.held after.streams.errors.held job.errors
 
@@ -59,22 +62,22 @@ AsksForRefusal words files left name refused = IsJob words files left (refusal f
 pub record EndsIdle (words : List (List ℕ)) (files : FileMap) (left : List ℕ) (answer : Answer)
     (before after : CallObjects) : Type 0 where
   pub between : SinkState
-  pub files_stay : after.files ≡ before.files
+  pub files_stay : after.files.held ≡ before.files.held
   pub input_stays : after.streams.left ≡ before.streams.left
   pub counts_stay : after.streams.counts ≡ before.streams.counts
   pub output_stays : after.streams.output ≡ before.streams.output
   pub cause : IsIdleFault (AsksForRefusal words files left) answer before.streams.errors between
   pub line : Puts between after.streams.errors (fault_line answer)
 
--- the new image could not be written whole
+-- the new image could not be written whole, since the store failed or wanted memory
 pub record EndsTorn (words : List (List ℕ)) (files : FileMap) (left : List ℕ) (answer : Answer)
     (before after : CallObjects) : Type 0 where
   pub new : List ℕ
   pub tables : Tables
-  pub answers_torn : IsTornFault answer
+  pub cause : IsTornFault answer before.files after.files
   pub asked : IsMigration words files new tables
   pub short : IsShort tables
-  pub part : SetsPart before.files after.files new (image_of tables)
+  pub part : SetsPart before.files.held after.files.held new (image_of tables)
   pub input_stays : after.streams.left ≡ before.streams.left
   pub counts_stay : after.streams.counts ≡ before.streams.counts
   pub output_stays : after.streams.output ≡ before.streams.output
@@ -89,7 +92,7 @@ pub record EndsBroken (words : List (List ℕ)) (files : FileMap) (left : List �
   pub launch : Launch
   pub answered : answer ≡ of_run stopped
   pub asked : IsRun words files left tables launch
-  pub files_stay : after.files ≡ before.files
+  pub files_stay : after.files.held ≡ before.files.held
   pub first : IsFirstFaultOf answer before.streams between
   pub broken : IsBrokenOff tables launch stopped before.streams between
   pub line : EndsBehind answer between after.streams
@@ -121,14 +124,15 @@ pub record HoldsMigration (words : List (List ℕ)) (files : FileMap) (after : O
   pub written : SetsFile (Some files) after new (image_of tables)
 
 -- What a call leaves of the files, whatever the input tells, told apart by the answer: they are as they were; or the new image was written; or a
--- part of it may have been.
+-- part of it may have been, since the store failed or wanted memory.
 pub data LeavesFiles (words : List (List ℕ)) (files : FileMap) (answer : Answer)
-    (before after : Option FileMap) : Type 0 where
-  left_alone : (answer ≡ Wrote → ⊥) → after ≡ before → LeavesFiles words files answer before after
-  all_written : answer ≡ Wrote → HoldsMigration words files after
+    (before after : FilesState) : Type 0 where
+  left_alone : (answer ≡ Wrote → ⊥) → after.held ≡ before.held → LeavesFiles words files answer before after
+  all_written : answer ≡ Wrote → HoldsMigration words files after.held
       → LeavesFiles words files answer before after
-  part_written : (new : List ℕ) (tables : Tables) → IsTornFault answer → IsMigration words files new tables
-      → IsShort tables → SetsPart before after new (image_of tables)
+  part_written : (new : List ℕ) (tables : Tables) → IsTornFault answer before after
+      → IsMigration words files new tables → IsShort tables
+      → SetsPart before.held after.held new (image_of tables)
       → LeavesFiles words files answer before after
 
 -- Of a run that is answered, whatever the input tells: it is the run of the code of the image that the words name, with the words

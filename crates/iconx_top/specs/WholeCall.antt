@@ -1,18 +1,17 @@
 -- All that a call of the program says, from its words to its status.
-use Rattle.std.specs.Prelude.{◌≡◌, ◌⊎◌, ℕ, List, Option, IfSome}
+use Rattle.std.specs.Prelude.{◌≡◌, ◌⊎◌, ℕ, List, IfSome}
 use Rattle.std.specs.Process.{exit_status}
 use Rattle.std.specs.declared.process.ExitCode.{ExitCode}
 use Rattle.icn_host.specs.Counts.{Rose}
-use Rattle.icn_host.specs.FileMaps.{FileMap}
 use Rattle.icn_answer.specs.declared.answer.Answer.{Answer}
 use Rattle.icn_answer.specs.declared.answer.Answer.TheVariants.{Wrote, NoMemory}
 use Rattle.icn_answer.specs.Answers.{IsAbsence, IsFault, IsRefusal, status_of}
-use Rattle.icn_run_answer.specs.CountCauses.{EndsAtFirst, OutsideState}
+use Rattle.icn_run_answer.specs.CountCauses.{EndsAtFirst}
 use Rattle.icn_run_answer.specs.FaultAnswers.{IsOfRun}
 use Rattle.icn_run_answer.specs.InputLeft.{LosesSome}
 use Rattle.icn_run_answer.specs.PendingBytes.{LeavesSettled, PendingBytes}
 use Rattle.icn_run_answer.specs.Reporting.{LineStands, Reports}
-use Rattle.icn_run_answer.specs.ToldObjects.{call_objects}
+use Rattle.icn_run_answer.specs.ToldObjects.{CallObjects}
 use Rattle.iconx_top.specs.Answered.{IsAnswered}
 use Rattle.iconx_top.specs.Commanded.{IsCommanded}
 use Rattle.iconx_top.specs.Outcomes.{AnswersCommand, HoldsMigration, LeavesFiles, RunsAsAsked}
@@ -20,14 +19,12 @@ use Rattle.iconx_top.specs.Loading.{CountsAbsence}
 use Rattle.iconx_top.specs.Usage.{usage}
 use Rattle.iconx_top.specs.Words.{AsksToWrite, words_reading, image_name}
 
--- All that `iconx_main` says of its answer, by the clauses' names; what the files hold before and after is told
--- apart from the counts, and so are the bytes that are pending.
-pub record IsWholeCall (words : List (List ℕ)) (held now : Option FileMap) (before after : OutsideState)
+-- All that `iconx_main` says of its answer, by the clauses' names; the bytes that are pending are told apart.
+pub record IsWholeCall (words : List (List ℕ)) (before after : CallObjects)
     (kept keeps : PendingBytes) (answer : Answer) : Type 0 where
-  pub outcome : IfSome held (λ files. IfSome before.streams.left
-      (λ left. AnswersCommand words files left answer
-      (call_objects held before.streams) (call_objects now after.streams)))
-  pub faultless : ¬ Rose before.faults after.faults
+  pub outcome : IfSome before.files.held (λ files. IfSome before.streams.left
+      (λ left. AnswersCommand words files left answer before after))
+  pub faultless : ¬ Rose before.files.faults after.files.faults
       → ¬ Rose before.streams.counts.faults after.streams.counts.faults
       → ¬ Rose before.streams.output.faults after.streams.output.faults
       → ¬ Rose before.streams.errors.faults after.streams.errors.faults → IsFault answer → answer ≡ NoMemory
@@ -36,24 +33,26 @@ pub record IsWholeCall (words : List (List ℕ)) (held now : Option FileMap) (be
       before.streams.errors after.streams.errors
   pub fault_line : Reports usage (image_name (words_reading words))
       before.streams.errors after.streams.errors answer
-  pub answered : IfSome held (λ files. IsAnswered words files answer)
+  pub answered : IfSome before.files.held (λ files. IsAnswered words files answer)
   pub command : IsCommanded (words_reading words) answer
   pub input : IfSome before.streams.left (λ left. LosesSome left after.streams.left)
   pub refused : (IsOfRun answer → ⊥) → after.streams.output.held ≡ before.streams.output.held
   pub unread : (IsOfRun answer → ⊥) → after.streams.left ≡ before.streams.left
   pub uncalled : (IsOfRun answer → ⊥) → after.streams.counts ≡ before.streams.counts
-  pub files : (AsksToWrite (words_reading words) → ⊥) → now ≡ held
-  pub unwritten : IsRefusal answer → now ≡ held
-  pub written : IfSome held (λ files. answer ≡ Wrote → HoldsMigration words files now)
-  pub leaves : IfSome held (λ files. LeavesFiles words files answer held now)
+  pub files : (AsksToWrite (words_reading words) → ⊥) → after.files.held ≡ before.files.held
+  pub unwritten : IsRefusal answer → after.files.held ≡ before.files.held
+  pub written : IfSome before.files.held
+      (λ files. answer ≡ Wrote → HoldsMigration words files after.files.held)
+  pub leaves : IfSome before.files.held (λ files. LeavesFiles words files answer before.files after.files)
   pub causes : EndsAtFirst answer (IsAbsence answer) before after
-  pub ran : IfSome held (λ files. RunsAsAsked words files answer before.streams after.streams)
-  pub absences : CountsAbsence answer before.absences after.absences
+  pub ran : IfSome before.files.held
+      (λ files. RunsAsAsked words files answer before.streams after.streams)
+  pub absences : CountsAbsence answer before.files.absences after.files.absences
   pub settled : LeavesSettled answer kept keeps
 
 -- The program ends with the status of such an answer.
-pub record EndsBy (words : List (List ℕ)) (held now : Option FileMap) (before after : OutsideState)
+pub record EndsBy (words : List (List ℕ)) (before after : CallObjects)
     (kept keeps : PendingBytes) (code : ExitCode) : Type 0 where
   pub answer : Answer
-  pub is : IsWholeCall words held now before after kept keeps answer
+  pub is : IsWholeCall words before after kept keeps answer
   pub status : exit_status code ≡ status_of answer

@@ -24,8 +24,8 @@ pub fn load<F: Files>(alloc: Global, name: &str, files: &mut F) -> Result<Verifi
     ensures others { IfErr result IsOfLoading }
     ensures absences { AbsencesOf result (F.absences files.old) (F.absences files.new) }
     ensures reads { ReadsFiles result (IsErrOfAbsence result)
-        (files_state (F.held files.old) (F.faults files.old) (F.absences files.old))
-        (files_state (F.held files.new) (F.faults files.new) (F.absences files.new)) }
+        (files_state (F.held files.old) (F.faults files.old) (F.wants files.old) (F.absences files.old))
+        (files_state (F.held files.new) (F.faults files.new) (F.wants files.new) (F.absences files.new)) }
 {
     let mut bytes = Vec::new(alloc);
     match files.read(name, LONGEST, &mut bytes) {

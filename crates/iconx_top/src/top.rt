@@ -7,7 +7,8 @@ ghost use Rattle.icn_host.specs.Sinks.{SinkState};
 ghost use Rattle.icn_host.specs.Sources.{SourceCounts};
 ghost use Rattle.icn_code.specs.CodeTables.{tables_of};
 ghost use Rattle.icn_answer.specs.Answers.{IsAbsence, IsCommand, IsFault, IsRefusal};
-ghost use Rattle.icn_run_answer.specs.CountCauses.{EndsAtFirst, RunEndsAtFirst, outside};
+ghost use Rattle.icn_answer.specs.FilesRead.{FilesState, files_state};
+ghost use Rattle.icn_run_answer.specs.CountCauses.{EndsAtFirst, RunEndsAtFirst};
 ghost use Rattle.icn_run_answer.specs.FaultAnswers.{IsOfRun};
 ghost use Rattle.icn_run_answer.specs.InputLeft.{LosesSome};
 ghost use Rattle.icn_run_answer.specs.OutsideLeft.{LeavesOutside};
@@ -52,9 +53,11 @@ pub fn iconx_main<F: Files, I: Source, O: Sink, E: Sink>(
     ensures outcome { IfSome (F.held files.old)
         (λ held.
         IfSome (I.left input.old) (λ left. AnswersCommand (map string_bytes words.now) held left result
-        (call_objects (F.held files.old)
+        (call_objects
+        (files_state (F.held files.old) (F.faults files.old) (F.wants files.old) (F.absences files.old))
         (call_streams (I.left input.old) (I.counts input.old) (O.state out.old) (E.state err.old)))
-        (call_objects (F.held files.new)
+        (call_objects
+        (files_state (F.held files.new) (F.faults files.new) (F.wants files.new) (F.absences files.new))
         (call_streams (I.left input.new) (I.counts input.new) (O.state out.new) (E.state err.new))))) }
     // Where no count of faults rose, no fault is answered but want of memory.
     ensures faultless { ¬ Rose (F.faults files.old) (F.faults files.new)
@@ -98,16 +101,22 @@ pub fn iconx_main<F: Files, I: Source, O: Sink, E: Sink>(
         (λ held. result ≡ Answer.Wrote
         → HoldsMigration (map string_bytes words.now) held (F.held files.new)) }
 
-    // Where the files tell their content, it is said what became of them, whatever the input tells.
+    // Where the files tell their content, it is said what became of them, whatever the input tells; the new image is in part only
+    // where the store failed or wanted memory.
     ensures leaves { IfSome (F.held files.old)
-        (λ held. LeavesFiles (map string_bytes words.now) held result (F.held files.old) (F.held files.new)) }
+        (λ held. LeavesFiles (map string_bytes words.now) held result
+        (files_state (F.held files.old) (F.faults files.old) (F.wants files.old) (F.absences files.old))
+        (files_state (F.held files.new) (F.faults files.new) (F.wants files.new) (F.absences files.new))) }
 
     // The first fault ends the call: its object's count rose once, and no other count did but of the output as it is settled at
-    // want of memory, and at the put of the fault's own line. An absence is answered only where that count rose.
+    // want of memory, and at the put of the fault's own line. An absence is answered only where that count rose. The store wanted
+    // memory once at most, and only where that is answered and nothing else was counted.
     ensures causes { EndsAtFirst result (IsAbsence result)
-        (outside (F.faults files.old) (F.absences files.old)
+        (call_objects
+        (files_state (F.held files.old) (F.faults files.old) (F.wants files.old) (F.absences files.old))
         (call_streams (I.left input.old) (I.counts input.old) (O.state out.old) (E.state err.old)))
-        (outside (F.faults files.new) (F.absences files.new)
+        (call_objects
+        (files_state (F.held files.new) (F.faults files.new) (F.wants files.new) (F.absences files.new))
         (call_streams (I.left input.new) (I.counts input.new) (O.state out.new) (E.state err.new))) }
 
     // The count of absences rose, once, exactly where the image is not there; that is answered, or a fault.
@@ -142,9 +151,11 @@ fn image_answer<F: Files, I: Source, O: Sink, E: Sink>(
     ensures outcome { (words : List (List ℕ)) → read words ≡ run_reading run.entry
         → IfSome (F.held files.old)
         (λ held. IfSome (I.left input.old) (λ left. AnswersCommand words held left result
-        (call_objects (F.held files.old)
+        (call_objects
+        (files_state (F.held files.old) (F.faults files.old) (F.wants files.old) (F.absences files.old))
         (call_streams (I.left input.old) (I.counts input.old) (O.state out.old) (E.state err.old)))
-        (call_objects (F.held files.new)
+        (call_objects
+        (files_state (F.held files.new) (F.faults files.new) (F.wants files.new) (F.absences files.new))
         (call_streams (I.left input.new) (I.counts input.new) (O.state out.new) (E.state err.new))))) }
     ensures ran { (words : List (List ℕ)) → read words ≡ run_reading run.entry
         → IfSome (F.held files.old) (λ held. RunsAsAsked words held result
@@ -157,9 +168,11 @@ fn image_answer<F: Files, I: Source, O: Sink, E: Sink>(
     ensures files { F.held files.new ≡ F.held files.old }
     ensures absences { CountsAbsence result (F.absences files.old) (F.absences files.new) }
     ensures leaves { LeavesOutside result
-        (outside (F.faults files.old) (F.absences files.old)
+        (call_objects
+        (files_state (F.held files.old) (F.faults files.old) (F.wants files.old) (F.absences files.old))
         (call_streams (I.left input.old) (I.counts input.old) (O.state out.old) (E.state err.old)))
-        (outside (F.faults files.new) (F.absences files.new)
+        (call_objects
+        (files_state (F.held files.new) (F.faults files.new) (F.wants files.new) (F.absences files.new))
         (call_streams (I.left input.new) (I.counts input.new) (O.state out.new) (E.state err.new))) }
     ensures settled { LeavesSettled result (pending_bytes (O.pending out.old) (E.pending err.old))
         (pending_bytes (O.pending out.new) (E.pending err.new)) }
@@ -180,11 +193,17 @@ fn migration_answer<F: Files, E: Sink>(
     ensures outcome { (words : List (List ℕ)) (left : List ℕ) (input : SourceCounts) (out : SinkState)
         → read words ≡ migration_reading asked.entry
         → IfSome (F.held files.old) (λ held. AnswersCommand words held left result
-        (call_objects (F.held files.old) (call_streams (Some left) input out (E.state err.old)))
-        (call_objects (F.held files.new) (call_streams (Some left) input out (E.state err.new)))) }
+        (call_objects
+        (files_state (F.held files.old) (F.faults files.old) (F.wants files.old) (F.absences files.old))
+        (call_streams (Some left) input out (E.state err.old)))
+        (call_objects
+        (files_state (F.held files.new) (F.faults files.new) (F.wants files.new) (F.absences files.new))
+        (call_streams (Some left) input out (E.state err.new)))) }
     ensures leaves { (words : List (List ℕ)) → read words ≡ migration_reading asked.entry
         → IfSome (F.held files.old)
-        (λ held. LeavesFiles words held result (F.held files.old) (F.held files.new)) }
+        (λ held. LeavesFiles words held result
+        (files_state (F.held files.old) (F.faults files.old) (F.wants files.old) (F.absences files.old))
+        (files_state (F.held files.new) (F.faults files.new) (F.wants files.new) (F.absences files.new))) }
     ensures reported { Reports usage asked.entry.image.now (E.state err.old) (E.state err.new) result }
     ensures answered { (words : List (List ℕ)) → read words ≡ migration_reading asked.entry
         → IfSome (F.held files.old) (λ held. IsAnswered words held result) }
@@ -192,8 +211,11 @@ fn migration_answer<F: Files, E: Sink>(
     ensures unwritten { IsRefusal result → F.held files.new ≡ F.held files.old }
     ensures causes { (left : Option (List ℕ)) (input : SourceCounts) (out : SinkState)
         → EndsAtFirst result (IsAbsence result)
-        (outside (F.faults files.old) (F.absences files.old) (call_streams left input out (E.state err.old)))
-        (outside (F.faults files.new) (F.absences files.new)
+        (call_objects
+        (files_state (F.held files.old) (F.faults files.old) (F.wants files.old) (F.absences files.old))
+        (call_streams left input out (E.state err.old)))
+        (call_objects
+        (files_state (F.held files.new) (F.faults files.new) (F.wants files.new) (F.absences files.new))
         (call_streams left input out (E.state err.new))) }
     ensures absences { CountsAbsence result (F.absences files.old) (F.absences files.new) }
     ensures settled { (out : ℕ) → LeavesSettled result (pending_bytes out (E.pending err.old))
@@ -218,12 +240,18 @@ fn new_image_answer<F: Files, E: Sink>(
         → (is : IsMigration words held asked.entry.new_name.now (tables_of code.now.code))
         → is.name ≡ asked.entry.image.now → F.held files.old ≡ Some held
         → AnswersCommand words held left result
-        (call_objects (F.held files.old) (call_streams (Some left) input out (E.state err.old)))
-        (call_objects (F.held files.new) (call_streams (Some left) input out (E.state err.new))) }
+        (call_objects
+        (files_state (F.held files.old) (F.faults files.old) (F.wants files.old) (F.absences files.old))
+        (call_streams (Some left) input out (E.state err.old)))
+        (call_objects
+        (files_state (F.held files.new) (F.faults files.new) (F.wants files.new) (F.absences files.new))
+        (call_streams (Some left) input out (E.state err.new))) }
     ensures leaves { (words : List (List ℕ)) (held : FileMap)
         → IsMigration words held asked.entry.new_name.now (tables_of code.now.code)
         → F.held files.old ≡ Some held
-        → LeavesFiles words held result (F.held files.old) (F.held files.new) }
+        → LeavesFiles words held result
+        (files_state (F.held files.old) (F.faults files.old) (F.wants files.old) (F.absences files.old))
+        (files_state (F.held files.new) (F.faults files.new) (F.wants files.new) (F.absences files.new)) }
     ensures reported { Reports usage asked.entry.image.now (E.state err.old) (E.state err.new) result }
     ensures answered { (words : List (List ℕ)) (held : FileMap)
         → IsMigration words held asked.entry.new_name.now (tables_of code.now.code)
@@ -232,8 +260,11 @@ fn new_image_answer<F: Files, E: Sink>(
     ensures unwritten { IsRefusal result → F.held files.new ≡ F.held files.old }
     ensures causes { (left : Option (List ℕ)) (input : SourceCounts) (out : SinkState)
         → EndsAtFirst result (IsAbsence result)
-        (outside (F.faults files.old) (F.absences files.old) (call_streams left input out (E.state err.old)))
-        (outside (F.faults files.new) (F.absences files.new)
+        (call_objects
+        (files_state (F.held files.old) (F.faults files.old) (F.wants files.old) (F.absences files.old))
+        (call_streams left input out (E.state err.old)))
+        (call_objects
+        (files_state (F.held files.new) (F.faults files.new) (F.wants files.new) (F.absences files.new))
         (call_streams left input out (E.state err.new))) }
     ensures absences { F.absences files.new ≡ F.absences files.old }
     ensures present { IsAbsence result → ⊥ }
@@ -258,13 +289,14 @@ fn run_answer<I: Source, O: Sink, E: Sink>(
     out: &mut O,
     err: &mut E,
 ) -> Answer
-    ensures outcome { (words : List (List ℕ)) (held : FileMap) (told_files : Option FileMap)
+    ensures outcome { (words : List (List ℕ)) (held : FileMap) (before after : FilesState)
         → read words ≡ run_reading asked.entry
-        → IsLoaded (held asked.entry.image.now) asked.entry.image.now (Ok code.now) → told_files ≡ Some held
+        → IsLoaded (held asked.entry.image.now) asked.entry.image.now (Ok code.now)
+        → before.held ≡ Some held → after.held ≡ before.held
         → IfSome (I.left input.old) (λ left. AnswersCommand words held left result
-        (call_objects told_files
+        (call_objects before
         (call_streams (I.left input.old) (I.counts input.old) (O.state out.old) (E.state err.old)))
-        (call_objects told_files
+        (call_objects after
         (call_streams (I.left input.new) (I.counts input.new) (O.state out.new) (E.state err.new)))) }
     ensures ran { (words : List (List ℕ)) (held : FileMap) → read words ≡ run_reading asked.entry
         → IsLoaded (held asked.entry.image.now) asked.entry.image.now (Ok code.now)

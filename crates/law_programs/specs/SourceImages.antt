@@ -36,7 +36,7 @@ pub record BreaksSources (sources : List (List Declaration)) (launch : Launch) (
   pub between : CallStreams
   pub seen : Observation
   pub answered : answer ≡ of_run stopped
-  pub files_stay : after.files ≡ before.files
+  pub files_stay : after.files.held ≡ before.files.held
   pub means : FilesMean sources launch seen
   pub leaves : LeavesBy stopped launch.outside.left seen before.streams between
   pub line : EndsBehind answer between after.streams

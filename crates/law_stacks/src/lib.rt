@@ -40,7 +40,7 @@ pub fn others_stay()
 {}
 
 /// What suspending, resuming and dropping a mark do to any flat stack.
-pub fn suspending()
+pub fn suspensions_hold()
     ensures suspends { Suspends }
     ensures resumes { Resumes }
     ensures unmarks { Unmarks }

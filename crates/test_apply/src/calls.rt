@@ -1,14 +1,11 @@
 // Calls of a row, and of what it leaves until it fails.
-ghost use Rattle.std.specs.Prelude.{◌≡◌, ◌≢◌, length, map, IfOk, IfSome, IsTrue, OnOk};
+ghost use Rattle.std.specs.Prelude.{map, IfOk, IsTrue, OnOk};
 ghost use Rattle.std.specs.List.{All};
-ghost use Rattle.icn_text.specs.declared.op.Op.TheVariants.{Refresh};
-ghost use Rattle.icn_defs.specs.Arities.{arity};
 ghost use Rattle.icn_heap.specs.Extents.{IsLive};
 ghost use Rattle.icn_heap.specs.Heaps.{extent_of};
 ghost use Rattle.law_names.specs.NamedSettings.{ItemNamed, ResidualNamed};
 ghost use Rattle.icn_vars.specs.Outcomes.{IsLiveOutcome, IsLiveResidual, residual_in};
 ghost use Rattle.icn_vars.specs.Worlds.{IsLiveItem, item_in, reach_of};
-ghost use Rattle.icn_apply.specs.Applicable.{IsApplicable};
 ghost use Rattle.test_apply.specs.Ready.{ComesNamed, IsReadySetting, IsReadyAnswer};
 
 use crate::showing::{push_halt, push_item};
@@ -16,35 +13,18 @@ use crate::streams::TestStreams;
 use crate::worlds::keep;
 use icn_apply::{Applied, again, apply};
 use icn_convert::Names;
-use icn_defs::{arity, op_numbered};
-use icn_text::{Op, func_named};
+use icn_defs::op_numbered;
+use icn_text::func_named;
 use icn_value::{Item, Residual, Val};
 use icn_vars::{Halt, Outcome, World};
 use std::alloc::AllocError;
 use test_values::Slots;
 
-/// What a word names that may be applied to so many items: a function by its name, an operation by its number.
-pub fn applied_named(word: &str, count: usize) -> Option<Applied>
-    ensures { IfSome result (λ what. IsApplicable what count) }
-{
+/// What a word names that may be applied: a function by its name, an operation by its number.
+pub fn applied_named(word: &str) -> Option<Applied> {
     match func_named(word.as_bytes()) {
         Some(func) => Some(Applied::Func(func)),
-        None => match operation(word, count) {
-            Some(op) => Some(Applied::Op(op)),
-            None => None,
-        },
-    }
-}
-
-fn operation(word: &str, count: usize) -> Option<Op>
-    ensures row { IfSome result (λ op. op ≢ Refresh) }
-    ensures count { IfSome result (λ op. count ≡ arity op) }
-{
-    let op = op_numbered(word.parse::<u32>().ok()?)?;
-    if op != Op::Refresh && usize::from(arity(op)) == count {
-        Some(op)
-    } else {
-        None
+        None => Some(Applied::Op(op_numbered(word.parse::<u32>().ok()?)?)),
     }
 }
 
@@ -59,7 +39,6 @@ pub fn push_applied<N: Names>(
     what: Applied,
     items: &[Item],
 ) -> Result<bool, AllocError>
-    requires applicable { IsApplicable what (length items.now) }
     requires ready { IsReadySetting (N.known names.now) w.old l.old.vals.items }
     requires items { All (IsLiveItem (reach_of w.old l.old.vals.items)) items.now }
     requires items_named { All (ItemNamed (N.known names.now))
@@ -79,24 +58,13 @@ fn first<N: Names>(
     what: Applied,
     items: &[Item],
 ) -> Result<Outcome, Halt>
-    requires applicable { IsApplicable what (length items.now) }
     requires ready { IsReadySetting (N.known names.now) w.old l.old.vals.items }
     requires items { All (IsLiveItem (reach_of w.old l.old.vals.items)) items.now }
     requires items_named { All (ItemNamed (N.known names.now))
         (map (item_in (extent_of w.old.heap)) items.now) }
     ensures { IsReadyAnswer (N.known names.now) w.new l.new.vals.items result }
 {
-    apply(
-        what,
-        items,
-        w,
-        l,
-        names,
-        &mut streams.buffer,
-        &mut streams.input,
-        &mut streams.output,
-        &mut streams.errors,
-    )
+    apply(what, items, w, l, names, streams)
 }
 
 // Appends what was given, and up to five times what comes of resuming it.
@@ -143,16 +111,7 @@ fn resume_residual<N: Names>(
     requires named { ResidualNamed (N.known names.now) (residual_in (extent_of w.old.heap) rest) }
     ensures { IsReadyAnswer (N.known names.now) w.new l.new.vals.items result }
 {
-    again(
-        rest,
-        w,
-        l,
-        names,
-        &mut streams.buffer,
-        &mut streams.input,
-        &mut streams.output,
-        &mut streams.errors,
-    )
+    again(rest, w, l, names, streams)
 }
 
 // Appends what a call came to at last.

@@ -67,7 +67,7 @@ fn push_call<N: Names>(
     let (name, words) = call.split_once(" ").unwrap_or((call, ""));
     take_words(w, l, names, words)?;
     let items = items_of(*w.globals.allocator(), w, l, names, words)?;
-    match applied_named(name, items.len()) {
+    match applied_named(name) {
         Some(what) => push_applied(out, w, l, names, streams, what, &items),
         None => {
             out.push_str("no call")?;

@@ -1,31 +1,26 @@
 // What calls read and write.
 use icn_host::{MemSink, MemSource};
+use icn_iofn::HeldStreams;
 use std::alloc::{AllocError, Global};
 use test_values::number;
 
-// A buffer, the input and both outputs.
-#[derive(Drop)]
-pub struct TestStreams {
-    pub buffer: Vec<u8>,
-    pub input: MemSource,
-    pub output: MemSink,
-    pub errors: MemSink,
-}
+// An input and two outputs in memory.
+pub type TestStreams = HeldStreams<MemSource, MemSink, MemSink>;
 
 /// An input of two lines and outputs on which nothing was put. A word says which of them fails, and at which call: the input
 /// behind <, the output behind >, the error output behind !. `AllocError` is want of memory.
 pub fn new_streams(alloc: Global, word: &str) -> Result<TestStreams, AllocError> {
     let bytes = Vec::from_slice(alloc, b"one\ntwo")?;
-    Ok(TestStreams {
+    Ok(HeldStreams {
+        input: MemSource::new(bytes, failing_calls(alloc, word, b'<')?),
+        output: MemSink::new(Vec::new(alloc), failing_calls(alloc, word, b'>')?),
+        errors: MemSink::new(Vec::new(alloc), failing_calls(alloc, word, b'!')?),
         buffer: Vec::new(alloc),
-        input: MemSource::new(bytes, failing(alloc, word, b'<')?),
-        output: MemSink::new(Vec::new(alloc), failing(alloc, word, b'>')?),
-        errors: MemSink::new(Vec::new(alloc), failing(alloc, word, b'!')?),
     })
 }
 
 // The calls at which the object of this mark fails.
-fn failing(alloc: Global, word: &str, mark: u8) -> Result<Vec<u64>, AllocError> {
+fn failing_calls(alloc: Global, word: &str, mark: u8) -> Result<Vec<u64>, AllocError> {
     let mut calls = Vec::new(alloc);
     if let Some((first, digits)) = word.as_bytes().split_first() {
         if *first == mark {

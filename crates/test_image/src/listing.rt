@@ -5,7 +5,7 @@ use std::alloc::{AllocError, Global};
 use std::fmt::Write;
 
 /// The tables of a code and its instructions. The error is want of memory.
-pub fn listing(alloc: Global, code: &Code) -> Result<String, AllocError> {
+pub fn code_listing(alloc: Global, code: &Code) -> Result<String, AllocError> {
     let mut text = String::new(alloc);
     push_tables(&mut text, code)?;
     push_globals(&mut text, code)?;

@@ -1,6 +1,6 @@
 // What comes of a case.
 use crate::hex::put_hex;
-use crate::listing::listing;
+use crate::listing::code_listing;
 use icn_image::{ImageFault, read_image, write_image};
 use std::alloc::{AllocError, Global};
 use std::fmt::Write;
@@ -91,7 +91,7 @@ fn compare(alloc: Global, bytes: &[u8], written: &[u8]) -> Result<String, AllocE
 // What an image holds.
 fn show_image(alloc: Global, bytes: &[u8]) -> Result<String, AllocError> {
     match read_image(alloc, bytes) {
-        Ok(code) => listing(alloc, &code),
+        Ok(code) => code_listing(alloc, &code),
         Err(_) => String::from_str(alloc, "no image"),
     }
 }

@@ -1,5 +1,5 @@
 -- Lists of two.
-use Rattle.std.proofs.Common.{ℕ, zero, suc, ◌<◌, List, [], ◌∷◌, arith}
+use Rattle.std.proofs.Common.{ℕ, zero, suc, ◌<◌, [], ◌∷◌, arith}
 use Rattle.std.specs.Prelude.{slice_index_or}
 
 pub all_two : {A : Type 0} (P : A → Type 0) (x y : A) → P x → P y → (k : ℕ) (d : A) → k < 2 → P (slice_index_or (x ∷ y ∷ []) k d)

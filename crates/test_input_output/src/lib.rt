@@ -1,16 +1,17 @@
 //! Tests of the functions that read, write and end the program.
 #![tactic(auto)]
 
-ghost use Rattle.std.specs.Prelude.{◌≡◌, true};
+ghost use Rattle.std.specs.List.{All};
 ghost use Rattle.icn_heap.specs.Extents.{Extent, IsLive};
+ghost use Rattle.icn_heap.specs.Heaps.{extent_of};
 ghost use Rattle.icn_vars.specs.Outcomes.{IsLiveAnswer};
 ghost use Rattle.icn_vars.specs.Worlds.{reach_of};
-ghost use Rattle.icn_iofn.specs.OfFiles.{is_of_files};
 
 #[cfg(test)]
 mod tests {
     use icn_host::{MemSink, MemSource};
-    use icn_iofn::first;
+    use icn_iofn::{HeldStreams, exit};
+    use icn_streams::Streams;
     use icn_text::Func;
     use icn_value::{File, Item, Val};
     use icn_vars::{Halt, Outcome, World};
@@ -50,7 +51,7 @@ mod tests {
     }
 
     // The first call of an object, where it fails.
-    fn failing(alloc: Global, fails: bool) -> Result<Vec<u64>, AllocError> {
+    fn failing_calls(alloc: Global, fails: bool) -> Result<Vec<u64>, AllocError> {
         let mut calls = Vec::new(alloc);
         if fails {
             calls.push(0)?;
@@ -68,38 +69,51 @@ mod tests {
         }
     }
 
+    // What one of the functions comes to that read, write and end the program; another one fails.
+    fn call_function(
+        func: Func,
+        vals: &[Val],
+        w: &mut World,
+        l: &Slots,
+        streams: &mut HeldStreams<MemSource, MemSink, MemSink>,
+    ) -> Result<Outcome, Halt>
+        requires locals { All (IsLive (extent_of w.old.heap)) l.now.vals.items }
+        requires live { All (IsLive (extent_of w.old.heap)) vals.now }
+        ensures { IsLiveAnswer (reach_of w.new l.now.vals.items) result }
+    {
+        match func {
+            Func::Exit => exit(&w.heap, vals),
+            Func::Read => streams.read(vals, w, l),
+            Func::Reads => streams.reads(vals, w, l),
+            Func::Stop => streams.stop(vals, w, l),
+            Func::Write => streams.write(vals, w, l),
+            Func::Writes => streams.writes(vals, w, l),
+            _ => Ok(Outcome::Fails),
+        }
+    }
+
     fn call(alloc: Global, func: Func, x: Val, y: Val, on: Setup) -> Result<Seen, AllocError>
-        requires function { is_of_files func ≡ true }
         requires first { (all : Extent) → IsLive all x }
         requires second { (all : Extent) → IsLive all y }
     {
         let strings = if on.one_byte { 1 } else { 1000 };
         let mut w = new_world(alloc, strings, 1000)?;
         let locals = no_locals(alloc);
-        let mut buffer = Vec::new(alloc);
-        let mut input = MemSource::new(
-            Vec::from_slice(alloc, on.input.as_bytes())?,
-            failing(alloc, on.reading_fails)?,
-        );
-        let mut out = MemSink::new(Vec::new(alloc), failing(alloc, on.output_fails)?);
-        let mut err = MemSink::new(Vec::new(alloc), failing(alloc, on.errors_fail)?);
-        let args = [Item::Val(x), Item::Val(y)];
-        let outcome = first(
-            func,
-            &args,
-            &mut w,
-            &locals,
-            &mut buffer,
-            &mut input,
-            &mut out,
-            &mut err,
-        );
+        let given = Vec::from_slice(alloc, on.input.as_bytes())?;
+        let mut streams = HeldStreams {
+            input: MemSource::new(given, failing_calls(alloc, on.reading_fails)?),
+            output: MemSink::new(Vec::new(alloc), failing_calls(alloc, on.output_fails)?),
+            errors: MemSink::new(Vec::new(alloc), failing_calls(alloc, on.errors_fail)?),
+            buffer: Vec::new(alloc),
+        };
+        let args = [x, y];
+        let outcome = call_function(func, &args, &mut w, &locals, &mut streams);
         Ok(Seen {
             outcome,
             text: Vec::from_slice(alloc, text(&w, &locals, outcome))?,
-            left: Vec::from_slice(alloc, input.content())?,
-            output: Vec::from_slice(alloc, out.content())?,
-            errors: Vec::from_slice(alloc, err.content())?,
+            left: Vec::from_slice(alloc, streams.input.content())?,
+            output: Vec::from_slice(alloc, streams.output.content())?,
+            errors: Vec::from_slice(alloc, streams.errors.content())?,
         })
     }
 
@@ -113,7 +127,6 @@ mod tests {
         number: u16,
         about: Val,
     ) -> Result<(), Fail>
-        requires function { is_of_files func ≡ true }
         requires first { (all : Extent) → IsLive all x }
         requires second { (all : Extent) → IsLive all y }
     {
@@ -209,7 +222,6 @@ mod tests {
         errors: &str,
         outcome: Result<Outcome, Halt>,
     ) -> Result<(), Fail>
-        requires function { is_of_files func ≡ true }
         requires first { (all : Extent) → IsLive all x }
         requires second { (all : Extent) → IsLive all y }
     {

@@ -1,5 +1,5 @@
 // What comes of a case.
-use crate::listing::listing;
+use crate::listing::code_listing;
 use crate::units::units;
 use icn_code::Code;
 use icn_image::write_image;
@@ -61,7 +61,7 @@ fn link_and_show(alloc: Global, shown: CodeView, units: &[Unit]) -> Result<Strin
 
 fn code_text(alloc: Global, shown: CodeView, code: &Code) -> Result<String, AllocError> {
     match shown {
-        CodeView::Listing => listing(alloc, code),
+        CodeView::Listing => code_listing(alloc, code),
         CodeView::Image => image_text(alloc, code),
         CodeView::Nothing => String::from_str(alloc, "linked"),
     }

@@ -5,7 +5,7 @@ use std::alloc::{AllocError, Global};
 use std::fmt::Write;
 
 /// The tables of a code that have entries, and its procedures, with bars between them. The error is want of memory.
-pub fn listing(alloc: Global, code: &Code) -> Result<String, AllocError> {
+pub fn code_listing(alloc: Global, code: &Code) -> Result<String, AllocError> {
     let mut text = String::new(alloc);
     put_strings(&mut text, code)?;
     put_csets(&mut text, &code.csets)?;

@@ -1,30 +1,31 @@
 // What comes of a case.
-ghost use Rattle.std.specs.Prelude.{◌≡◌, true, IfOk, IfSome};
+ghost use Rattle.std.specs.Prelude.{IfOk, IfSome};
 ghost use Rattle.std.specs.List.{All};
-ghost use Rattle.icn_defs.specs.Arities.{arity};
 ghost use Rattle.icn_heap.specs.Extents.{IsLive};
 ghost use Rattle.icn_heap.specs.Heaps.{extent_of};
-ghost use Rattle.icn_ops.specs.OperationGroups.{is_of_operations};
 ghost use Rattle.icn_vars.specs.Outcomes.{IsLiveAnswer, IsLiveResidual};
 ghost use Rattle.icn_vars.specs.Worlds.{Reach, reach_of};
 
 use crate::operands::{items_of, operands};
 use crate::showing::{show, show_locals};
-use icn_defs::{arity, op_numbered};
+use icn_args::undo_position_again;
+use icn_defs::op_numbered;
 use icn_host::{MemSource, SureSink};
-use icn_ops::{again, first, is_of_operations};
+use icn_iofn::HeldStreams;
+use icn_ops::{
+    apply_operation, counting_again, list_items_from, record_fields_from, set_members_from,
+    table_values_from, text_bytes_from, undo_assign_again, undo_exchange_again,
+    variable_bytes_from,
+};
+use icn_streams::Streams;
 use icn_text::Op;
 use icn_value::Residual;
 use icn_vars::{Halt, Outcome, World};
 use std::alloc::{AllocError, Global};
 use test_values::{Slots, new_world};
 
-// Both outputs.
-#[derive(Drop)]
-struct Sinks {
-    output: SureSink,
-    errors: SureSink,
-}
+// An input and two outputs in memory.
+type SureStreams = HeldStreams<MemSource, SureSink, SureSink>;
 
 /// What comes of a case. Each has a world of its own, of 20 string bytes and 10 cells. `AllocError` is want of memory.
 pub fn outcome(alloc: Global, line: &str) -> Result<String, AllocError> {
@@ -49,36 +50,19 @@ fn apply_line(
 {
     let mut out = String::new(alloc);
     let items = items_of(alloc, w, line, &slots.vals)?;
-    let Some(op) = operation(line, items.len()) else {
+    let Some(op) = operation(line) else {
         out.push_str("no case")?;
         return Ok(out);
     };
-    let mut buffer = Vec::new(alloc);
     let lines = Vec::from_slice(alloc, b"one\ntwo".as_slice())?;
-    let mut input = MemSource::new(lines, Vec::new(alloc));
-    let mut sinks = Sinks {
+    let mut streams = HeldStreams {
+        input: MemSource::new(lines, Vec::new(alloc)),
         output: SureSink::new(Vec::new(alloc)),
         errors: SureSink::new(Vec::new(alloc)),
+        buffer: Vec::new(alloc),
     };
-    let answer = first(
-        op,
-        &items,
-        w,
-        slots,
-        &mut buffer,
-        &mut input,
-        &mut sinks.output,
-        &mut sinks.errors,
-    );
-    show_all(
-        &mut out,
-        w,
-        slots,
-        answer,
-        &mut buffer,
-        &mut input,
-        &mut sinks,
-    )?;
+    let answer = apply_operation(op, &items, w, slots, &mut streams);
+    show_all(&mut out, w, slots, answer, &mut streams)?;
     show_locals(&mut out, w, slots, line)?;
     Ok(out)
 }
@@ -89,9 +73,7 @@ fn show_all(
     w: &mut World,
     slots: &mut Slots,
     answer: Result<Outcome, Halt>,
-    buffer: &mut Vec<u8>,
-    input: &mut MemSource,
-    sinks: &mut Sinks,
+    streams: &mut SureStreams,
 ) -> Result<(), AllocError>
     requires answer { IsLiveAnswer (reach_of w.old slots.old.vals.items) answer }
     requires locals { All (IsLive (extent_of w.old.heap)) slots.old.vals.items }
@@ -103,15 +85,7 @@ fn show_all(
         match rest_of(answer) {
             Some(rest) => {
                 out.push_str(", ")?;
-                answer = again(
-                    rest,
-                    w,
-                    slots,
-                    buffer,
-                    input,
-                    &mut sinks.output,
-                    &mut sinks.errors,
-                );
+                answer = resume_residual(rest, w, slots, streams);
             }
             None => return Ok(()),
         }
@@ -121,31 +95,50 @@ fn show_all(
 
 // What an operation left, if it may be resumed.
 fn rest_of(answer: Result<Outcome, Halt>) -> Option<Residual>
-    ensures operation { IfSome result (λ rest. is_of_operations rest ≡ true) }
-    ensures live { (reach : Reach) → IsLiveAnswer reach answer → IfSome result (IsLiveResidual reach) }
+    ensures { (reach : Reach) → IsLiveAnswer reach answer → IfSome result (IsLiveResidual reach) }
 {
     match answer {
-        Ok(Outcome::Suspends(_, rest)) => {
-            if is_of_operations(rest) {
-                Some(rest)
-            } else {
-                None
-            }
-        }
+        Ok(Outcome::Suspends(_, rest)) => Some(rest),
         _ => None,
     }
 }
 
-// The operation of a line's first field, if it is one of so many operands.
-fn operation(line: &str, count: usize) -> Option<Op>
-    ensures { IfSome result (λ op. count ≡ arity op) }
+// What an operation comes to as it is resumed; what a function left fails.
+fn resume_residual(
+    rest: Residual,
+    w: &mut World,
+    l: &mut Slots,
+    streams: &mut SureStreams,
+) -> Result<Outcome, Halt>
+    requires rest { IsLiveResidual (reach_of w.old l.old.vals.items) rest }
+    requires locals { All (IsLive (extent_of w.old.heap)) l.old.vals.items }
+    ensures live { IsLiveAnswer (reach_of w.new l.new.vals.items) result }
+    ensures locals { All (IsLive (extent_of w.new.heap)) l.new.vals.items }
 {
-    let field = line.split(' ').next()?;
-    let number = field.parse::<u32>().ok()?;
-    let op = op_numbered(number)?;
-    if usize::from(arity(op)) == count {
-        Some(op)
-    } else {
-        None
+    match rest {
+        Residual::TextBytes { text, place } => text_bytes_from(w, l, text, place),
+        Residual::VariableBytes { variable, place } => variable_bytes_from(w, l, variable, place),
+        Residual::ListItems { list, place } => list_items_from(w, l, list, place),
+        Residual::SetMembers { set, place } => set_members_from(w, l, set, place),
+        Residual::TableValues { table, place } => table_values_from(w, l, table, place),
+        Residual::RecordFields { rec, place } => record_fields_from(w, l, rec, place),
+        Residual::InputLines => streams.lines_again(w, l),
+        Residual::UndoAssign { variable, old } => undo_assign_again(w, l, variable, old),
+        Residual::UndoExchange {
+            mover,
+            left,
+            right,
+            old_left,
+            old_right,
+        } => undo_exchange_again(w, l, mover, left, right, old_left, old_right),
+        Residual::UndoPosition { old } => undo_position_again(w, l, old),
+        Residual::Counting { given, last, step } => Ok(counting_again(given, last, step)),
+        _ => Ok(Outcome::Fails),
     }
+}
+
+// The operation of a line's first field, if it is one.
+fn operation(line: &str) -> Option<Op> {
+    let field = line.split(' ').next()?;
+    op_numbered(field.parse::<u32>().ok()?)
 }

@@ -42,7 +42,7 @@ pub fn observe_run<K: Stack<Cell> + Drop>(
     );
     let output = slash_bytes(alloc, out.content())?;
     let errors = slash_bytes(alloc, err.content())?;
-    let end = ending(alloc, ended)?;
+    let end = ending_text(alloc, ended)?;
     Ok((
         format!(in alloc; "{output}|{errors}| {end}")?,
         ended.is_ok(),
@@ -69,7 +69,7 @@ fn slash_bytes(alloc: Global, bytes: &[u8]) -> Result<String, AllocError> {
     text.replace(alloc, "\n", "/ ")
 }
 
-fn ending(alloc: Global, ended: Result<Ending, RunFault>) -> Result<String, AllocError> {
+fn ending_text(alloc: Global, ended: Result<Ending, RunFault>) -> Result<String, AllocError> {
     match ended {
         Ok(Ending::Done) => String::from_str(alloc, "done"),
         Ok(Ending::Exit(status)) => format!(in alloc; "exit {status}"),

@@ -3,10 +3,9 @@ ghost use Rattle.std.specs.List.{All};
 ghost use Rattle.icn_heap.specs.Extents.{IsLive};
 ghost use Rattle.icn_heap.specs.Heaps.{extent_of};
 
+use crate::calls::call_function;
 use crate::keywords::set_keyword;
-use crate::kinds::is_scanning_function;
 use crate::results::push_results;
-use icn_scanfn::first;
 use icn_text::{Func, func_named};
 use icn_value::KeywordVariable;
 use icn_vars::World;
@@ -77,10 +76,6 @@ fn push_applied(
     requires { All (IsLive (extent_of w.old.heap)) slots.old.vals.items }
 {
     let args = w.globals.as_slice().to_vec(*w.globals.allocator())?;
-    if is_scanning_function(func) {
-        let answer = first(func, &args, w, slots);
-        push_results(out, w, slots, answer, 12, emptied)
-    } else {
-        out.push_str("a function of another crate")
-    }
+    let answer = call_function(func, &args, w, slots);
+    push_results(out, w, slots, answer, 12, emptied)
 }

@@ -2,9 +2,9 @@
 //! comes of it. The head of `stdin` says how a case is written.
 #![tactic(auto)]
 
+mod calls;
 mod case;
 mod keywords;
-mod kinds;
 mod results;
 
 use case::outcome;

@@ -1,16 +1,13 @@
 // All that a case gives.
-ghost use Rattle.std.specs.Prelude.{◌≡◌, true};
 ghost use Rattle.std.specs.List.{All};
 ghost use Rattle.icn_heap.specs.Extents.{IsLive};
 ghost use Rattle.icn_heap.specs.Heaps.{extent_of};
 ghost use Rattle.icn_vars.specs.Outcomes.{IsLiveAnswer, IsLiveResidual};
 ghost use Rattle.icn_vars.specs.Worlds.{reach_of};
-ghost use Rattle.icn_scanfn.specs.Functions.{is_of_scanning};
 
+use crate::calls::{is_move, resume_residual};
 use crate::keywords::assign_keyword;
-use crate::kinds::{is_move, is_of_scanning};
 use icn_heap::{empty_text, short_text};
-use icn_scanfn::again;
 use icn_value::{KeywordVariable, Residual, Span, Val};
 use icn_vars::{Halt, Outcome, World};
 use std::alloc::AllocError;
@@ -36,9 +33,6 @@ pub fn push_results(
             if left == 0 {
                 return out.push_str(", and more");
             }
-            if !is_of_scanning(rest) {
-                return out.push_str(", and what is of another crate");
-            }
             push_position(out, w, rest)?;
             out.push_str(", ")?;
             let next = resume_function(w, slots, rest, emptied);
@@ -58,7 +52,6 @@ fn resume_function(
     rest: Residual,
     emptied: bool,
 ) -> Result<Outcome, Halt>
-    requires scanning { is_of_scanning rest ≡ true }
     requires rest { IsLiveResidual (reach_of w.old slots.old.vals.items) rest }
     requires locals { All (IsLive (extent_of w.old.heap)) slots.old.vals.items }
     ensures live { IsLiveAnswer (reach_of w.new slots.new.vals.items) result }
@@ -67,14 +60,12 @@ fn resume_function(
     if emptied {
         resume_on_empty(w, slots, rest)
     } else {
-        again(rest, w, slots)
+        resume_residual(rest, w, slots)
     }
 }
 
 // What comes when a function is resumed once the subject is empty.
-#[tactic(auto, using(icn_vars::proofs::KeptOutcomes::residual_stays))]
 fn resume_on_empty(w: &mut World, slots: &mut Slots, rest: Residual) -> Result<Outcome, Halt>
-    requires scanning { is_of_scanning rest ≡ true }
     requires rest { IsLiveResidual (reach_of w.old slots.old.vals.items) rest }
     requires locals { All (IsLive (extent_of w.old.heap)) slots.old.vals.items }
     ensures live { IsLiveAnswer (reach_of w.new slots.new.vals.items) result }
@@ -83,7 +74,7 @@ fn resume_on_empty(w: &mut World, slots: &mut Slots, rest: Residual) -> Result<O
     let span = Span { start: 0, len: 0 };
     empty_text(&w.heap, span);
     assign_keyword(w, slots, KeywordVariable::Subject, Val::Text(span));
-    again(rest, w, slots)
+    resume_residual(rest, w, slots)
 }
 
 // Appends the position, where a move is taken back.

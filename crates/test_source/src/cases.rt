@@ -6,7 +6,7 @@ use crate::outcome::{
     body, check_context, count_declarations, file, placed_tokens, show_declarations,
 };
 use crate::shown::TreeText;
-use crate::sources::{absent, count as line_count, failing, lines};
+use crate::sources::{absent, count as line_count, lines, lines_with_failure};
 use crate::stop::{SourceStop, rule_text};
 use crate::words::{integer, numbers, tables};
 use std::alloc::{AllocError, Global};
@@ -93,7 +93,7 @@ fn by_text(alloc: Global, word: &str, text: &[u8]) -> Result<Option<String>, Sou
         "integer" => Some(integer(alloc, text)?),
         "name" => Some(numbers(alloc, text)?),
         "lines" => Some(lines(alloc, text)?),
-        "failing" => Some(failing(alloc, text)?),
+        "failing" => Some(lines_with_failure(alloc, text)?),
         "preprocess" => Some(line_count(alloc, text)?),
         "tokens" => Some(kinds(alloc, text)?),
         "scan" => Some(token_count(alloc, text)?),

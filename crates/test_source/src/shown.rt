@@ -278,7 +278,7 @@ impl<'a> Writer<'a> {
         }
     }
 
-    fn leaving(&mut self, expr: &'a Expr) -> Result<(), AllocError> {
+    fn control_form(&mut self, expr: &'a Expr) -> Result<(), AllocError> {
         match expr {
             Expr::Repeat { place, body } => {
                 self.form("repeat", *place)?;
@@ -351,7 +351,7 @@ impl<'a> Writer<'a> {
                 self.maybe(body)?;
                 self.part(control)
             }
-            _ => self.leaving(expr),
+            _ => self.control_form(expr),
         }
     }
 

@@ -2,7 +2,7 @@
 use icn_tree::Operator;
 
 // An operator that compares or assigns.
-fn comparing(operator: Operator) -> &'static str {
+fn comparison_sign(operator: Operator) -> &'static str {
     match operator {
         Operator::Equal => "=",
         Operator::NotEqual => "~=",
@@ -48,6 +48,6 @@ pub fn sign(operator: Operator) -> &'static str {
         Operator::Dot => ".",
         Operator::Question => "?",
         Operator::Tilde => "~",
-        _ => comparing(operator),
+        _ => comparison_sign(operator),
     }
 }

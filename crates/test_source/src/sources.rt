@@ -41,7 +41,7 @@ pub fn lines(alloc: Global, texts: &[u8]) -> Result<String, AllocError> {
 }
 
 /// The same, where one call of the store fails. The case begins with its number, from 0.
-pub fn failing(alloc: Global, case: &[u8]) -> Result<String, AllocError> {
+pub fn lines_with_failure(alloc: Global, case: &[u8]) -> Result<String, AllocError> {
     let (call, texts) = cut(case, b' ');
     let call = match call {
         [digit] => u64::from(digit.wrapping_sub(b'0')),

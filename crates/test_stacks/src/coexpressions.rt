@@ -1,10 +1,110 @@
 // Co-expressions and the transfers between them.
+use crate::words::{integer_at, number_at};
 use icn_coexp::{AfterTransfer, Stacks};
-use icn_frames::{Cell, Frames, Stack, VecStack};
+use icn_frames::{Cell, Frames, Stack};
 use icn_value::Val;
 use std::alloc::{AllocError, Global};
-use std::process::Abort;
-use std::test::Fail;
+
+/// Makes the calls on co-expressions, of which `&main` runs from the address 10 on, and appends a line for each with its answer.
+/// `AllocError` is want of memory.
+pub fn push_transfers<K: Stack<Cell> + Drop>(
+    alloc: Global,
+    text: &mut String,
+    calls: &str,
+) -> Result<(), AllocError> {
+    let mut stacks: Stacks<K> = new_stacks(alloc)?;
+    for call in calls.split(';') {
+        write!(text, "\n  {call} ->")?;
+        let (name, words) = call.split_once(" ").unwrap_or((call, ""));
+        push_transfer(alloc, text, &mut stacks, name, words)?;
+    }
+    Ok(())
+}
+
+fn new_stacks<K: Stack<Cell> + Drop>(alloc: Global) -> Result<Stacks<K>, AllocError> {
+    Stacks::new(alloc, Frames::new(alloc, 0, &[], 10)?)
+}
+
+// A transfer, or one more co-expression.
+fn push_transfer<K: Stack<Cell> + Drop>(
+    alloc: Global,
+    text: &mut String,
+    stacks: &mut Stacks<K>,
+    name: &str,
+    words: &str,
+) -> Result<(), AllocError> {
+    let first = number_at(words, 0);
+    match name {
+        "activate" => {
+            let after = activate(stacks, first, integer_at(words, 1))?;
+            push_after(text, after)
+        }
+        "give" => {
+            let after = give(stacks, i64::from(first))?;
+            push_after(text, after)
+        }
+        "exhaust" => push_after(text, exhaust(stacks)),
+        "transfers" => {
+            let count = transfer_often(stacks, first)?;
+            push_number(text, Some(count))
+        }
+        "create" => {
+            let id = create(stacks, alloc, first)?;
+            push_number(text, id)
+        }
+        "refresh" => {
+            let id = refresh(stacks, alloc, first)?;
+            push_number(text, id)
+        }
+        _ => push_state(text, stacks, name, first),
+    }
+}
+
+// What the stacks tell.
+fn push_state<K: Stack<Cell> + Drop>(
+    text: &mut String,
+    stacks: &mut Stacks<K>,
+    name: &str,
+    id: u32,
+) -> Result<(), AllocError> {
+    match name {
+        "active" => push_number(text, Some(stacks.active())),
+        "source" => push_number(text, Some(stacks.source())),
+        "address" => push_number(text, address_of(stacks)),
+        "runs" => text.push_str(if stacks.runs() { " yes" } else { " no" }),
+        "values" => push_values(text, stacks, id),
+        _ => text.push_str(" no call"),
+    }
+}
+
+fn push_values<K: Stack<Cell> + Drop>(
+    text: &mut String,
+    stacks: &Stacks<K>,
+    id: u32,
+) -> Result<(), AllocError> {
+    if u64::from(id) >= stacks.len() {
+        return text.push_str(" not made");
+    }
+    let count = stacks.value_count(id);
+    write!(text, " {count}")
+}
+
+fn push_number(text: &mut String, number: Option<u32>) -> Result<(), AllocError> {
+    match number {
+        Some(number) => write!(text, " {number}"),
+        None => text.push_str(" not made"),
+    }
+}
+
+fn push_after(text: &mut String, after: Option<AfterTransfer>) -> Result<(), AllocError> {
+    match after {
+        Some(AfterTransfer::Same(Val::Integer(n))) => write!(text, " the same {n}"),
+        Some(AfterTransfer::Same(_)) => text.push_str(" another value"),
+        Some(AfterTransfer::Moved) => text.push_str(" moved"),
+        Some(AfterTransfer::Exhausted) => text.push_str(" exhausted"),
+        None => text.push_str(" not made"),
+    }
+}
 
 fn activate<K: Stack<Cell> + Drop>(
     stacks: &mut Stacks<K>,
@@ -34,6 +134,22 @@ fn exhaust<K: Stack<Cell> + Drop>(stacks: &mut Stacks<K>) -> Option<AfterTransfe
         return None;
     }
     Some(stacks.exhaust())
+}
+
+// Enters the first co-expression, which gives back, so many times, and counts how often both moved.
+fn transfer_often<K: Stack<Cell> + Drop>(
+    stacks: &mut Stacks<K>,
+    times: u32,
+) -> Result<u32, AllocError> {
+    let mut count = 0u32;
+    for n in 0..times {
+        let entered = activate(stacks, 1, i64::from(n))?;
+        let given = give(stacks, i64::from(n))?;
+        if entered == Some(AfterTransfer::Moved) && given == Some(AfterTransfer::Moved) {
+            count = count.saturating_add(1);
+        }
+    }
+    Ok(count)
 }
 
 fn create<K: Stack<Cell> + Drop>(
@@ -66,78 +182,4 @@ fn address_of<K: Stack<Cell> + Drop>(stacks: &mut Stacks<K>) -> Option<u32> {
     } else {
         None
     }
-}
-
-fn new_stacks(alloc: Global) -> Result<Stacks<VecStack<Cell>>, AllocError> {
-    Stacks::new(alloc, Frames::new(alloc, 0, &[], 10)?)
-}
-
-// `&main` makes 1 and 2; it enters 1, which enters 2, which enters `&main`; then each gives back.
-#[test]
-fn goes_round_a_ring(rt: HostRuntime) -> Result<(), Fail> {
-    let mut stacks = new_stacks(rt.alloc())?;
-    assert_eq!(rt; create(&mut stacks, rt.alloc(), 20)?, Some(1));
-    assert_eq!(rt; create(&mut stacks, rt.alloc(), 30)?, Some(2));
-    for (id, active, source, address) in [(1, 1, 0, 20), (2, 2, 1, 30), (0, 0, 2, 10)] {
-        assert_eq!(rt;
-            activate(&mut stacks, id, 5)?,
-            Some(AfterTransfer::Moved),
-            "{id}"
-        );
-        assert_eq!(rt; stacks.active(), active, "{id}");
-        assert_eq!(rt; stacks.source(), source, "{id}");
-        assert_eq!(rt; address_of(&mut stacks), Some(address), "{id}");
-    }
-    assert_eq!(rt;
-        activate(&mut stacks, 0, 6)?,
-        Some(AfterTransfer::Same(Val::Integer(6)))
-    );
-    assert_eq!(rt; activate(&mut stacks, 2, 6)?, Some(AfterTransfer::Moved));
-    assert_eq!(rt; give(&mut stacks, 8)?, Some(AfterTransfer::Moved));
-    assert_eq!(rt; stacks.active(), 0);
-    assert_eq!(rt; give(&mut stacks, 8)?, None);
-    Ok(())
-}
-
-// 1 enters 2 and is exhausted behind its back: the value of 2 hops over it.
-#[test]
-fn hops_over_an_exhausted_one(rt: HostRuntime) -> Result<(), Fail> {
-    let mut stacks = new_stacks(rt.alloc())?;
-    assert_eq!(rt; create(&mut stacks, rt.alloc(), 20)?, Some(1));
-    assert_eq!(rt; create(&mut stacks, rt.alloc(), 30)?, Some(2));
-    assert_eq!(rt; activate(&mut stacks, 1, 5)?, Some(AfterTransfer::Moved));
-    assert_eq!(rt; activate(&mut stacks, 2, 5)?, Some(AfterTransfer::Moved));
-    assert_eq!(rt; activate(&mut stacks, 1, 5)?, Some(AfterTransfer::Moved));
-    assert_eq!(rt; stacks.source(), 2);
-    assert_eq!(rt; exhaust(&mut stacks), Some(AfterTransfer::Moved));
-    assert_eq!(rt; stacks.active(), 2);
-    assert_eq!(rt;
-        activate(&mut stacks, 1, 5)?,
-        Some(AfterTransfer::Exhausted)
-    );
-    assert_eq!(rt; stacks.active(), 2);
-    assert_eq!(rt; give(&mut stacks, 5)?, Some(AfterTransfer::Exhausted));
-    assert_eq!(rt; stacks.runs(), false);
-    assert_eq!(rt; stacks.active(), 1);
-    assert_eq!(rt; refresh(&mut stacks, rt.alloc(), 1)?, Some(3));
-    assert_eq!(rt; stacks.value_count(0), 0);
-    assert_eq!(rt; exhaust(&mut stacks), Some(AfterTransfer::Moved));
-    assert_eq!(rt; stacks.active(), 2);
-    Ok(())
-}
-
-// 1 is made, entered, and made anew, which begins where 1 began.
-#[test]
-fn transfers_often(rt: HostRuntime) -> Result<(), Fail> {
-    let mut stacks = new_stacks(rt.alloc())?;
-    assert_eq!(rt; create(&mut stacks, rt.alloc(), 20)?, Some(1));
-    for n in 0..50000 {
-        assert_eq!(rt; activate(&mut stacks, 1, n)?, Some(AfterTransfer::Moved));
-        assert_eq!(rt; give(&mut stacks, n)?, Some(AfterTransfer::Moved));
-    }
-    assert_eq!(rt; refresh(&mut stacks, rt.alloc(), 1)?, Some(2));
-    assert_eq!(rt; refresh(&mut stacks, rt.alloc(), 0)?, None);
-    assert_eq!(rt; activate(&mut stacks, 2, 1)?, Some(AfterTransfer::Moved));
-    assert_eq!(rt; address_of(&mut stacks), Some(20));
-    Ok(())
 }

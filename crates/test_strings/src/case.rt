@@ -1,17 +1,22 @@
 // A case: a limit, the name of a function and its arguments.
 ghost use Rattle.std.specs.Prelude.{◌≡◌, [], IsTrue};
 ghost use Rattle.std.specs.List.{All};
-ghost use Rattle.icn_convert.specs.ProgramNames.{IsNamed};
-ghost use Rattle.icn_heap.specs.Heaps.{heap_of};
+ghost use Rattle.icn_convert.specs.ProgramNames.{AreRecordsNamed, IsNamed};
+ghost use Rattle.icn_heap.specs.Extents.{IsLive};
+ghost use Rattle.icn_heap.specs.Heaps.{extent_of, heap_of};
 ghost use Rattle.icn_vars.specs.Outcomes.{IsLiveAnswer};
 ghost use Rattle.icn_vars.specs.Worlds.{reach_of};
-ghost use Rattle.icn_strfn.specs.Functions.{is_string_function};
+ghost use Rattle.icn_strfn.specs.Stopping.{IsLiveGiven};
 ghost use Rattle.test_values.specs.OneRecord.{one_record};
 
-use icn_strfn::{again, first};
+use icn_strfn::{
+    Layout, abs_row, char_row, cset_row, field_row, iand_row, icom_row, image_row, integer_row,
+    ior_row, ishift_row, ixor_row, map_row, ord_row, repl_row, reverse_row, seq_row,
+    sequence_again, string_row, trim_row, type_row,
+};
 use icn_text::{Func, func_named};
 use icn_value::{Residual, Val};
-use icn_vars::{Halt, Outcome, World};
+use icn_vars::{Halt, Outcome, Stop, World};
 use std::alloc::{AllocError, Global};
 use test_values::{
     OneRecord, Slots, add_argument, new_world, no_locals, number, push_error, push_item, split_word,
@@ -35,66 +40,6 @@ pub fn outcome(alloc: Global, line: &[u8]) -> Result<String, AllocError> {
         None => out.push_str("no function")?,
     }
     Ok(out)
-}
-
-// Whether it is a function over integers, texts and csets.
-fn is_string_function(func: Func) -> bool
-    ensures { result ≡ is_string_function func }
-{
-    match func {
-        Func::Abs => true,
-        Func::Any => false,
-        Func::Bal => false,
-        Func::Center => true,
-        Func::Char => true,
-        Func::Copy => false,
-        Func::Cset => true,
-        Func::Delete => false,
-        Func::Exit => false,
-        Func::Find => false,
-        Func::Get => false,
-        Func::Iand => true,
-        Func::Icom => true,
-        Func::Image => true,
-        Func::Insert => false,
-        Func::Integer => true,
-        Func::Ior => true,
-        Func::Ishift => true,
-        Func::Ixor => true,
-        Func::Key => false,
-        Func::Left => true,
-        Func::List => false,
-        Func::Many => false,
-        Func::Map => true,
-        Func::Match => false,
-        Func::Member => false,
-        Func::Move => false,
-        Func::Numeric => true,
-        Func::Ord => true,
-        Func::Pop => false,
-        Func::Pos => false,
-        Func::Pull => false,
-        Func::Push => false,
-        Func::Put => false,
-        Func::Read => false,
-        Func::Reads => false,
-        Func::Repl => true,
-        Func::Reverse => true,
-        Func::Right => true,
-        Func::Seq => true,
-        Func::Set => false,
-        Func::Sort => false,
-        Func::Stop => false,
-        Func::String => true,
-        Func::Tab => false,
-        Func::Table => false,
-        Func::Trim => true,
-        Func::TypeOf => true,
-        Func::Upto => false,
-        Func::Write => false,
-        Func::Writes => false,
-        Func::ErrorClear => false,
-    }
 }
 
 // Whether each value has a name that needs one.
@@ -139,16 +84,59 @@ fn push_applied(out: &mut String, w: &mut World, func: Func) -> Result<(), Alloc
     requires { (heap_of w.old.heap).records ≡ [] }
 {
     let args = w.globals.as_slice().to_vec(*w.globals.allocator())?;
-    if is_string_function(func) {
-        if are_named(&args) {
-            let slots = no_locals(*w.globals.allocator());
-            let answer = first(&OneRecord, func, &args, w, &slots);
-            push_answer(out, w, &slots, answer)
-        } else {
-            out.push_str("a procedure")
-        }
+    if are_named(&args) {
+        let slots = no_locals(*w.globals.allocator());
+        let answer = call_function(func, &args, w, &slots);
+        push_answer(out, w, &slots, answer)
     } else {
-        out.push_str("a function of another crate")
+        out.push_str("a procedure")
+    }
+}
+
+// What a function over integers, texts and csets comes to; another one fails.
+fn call_function(func: Func, args: &[Val], w: &mut World, l: &Slots) -> Result<Outcome, Halt>
+    requires locals { All (IsLive (extent_of w.old.heap)) l.now.vals.items }
+    requires args { All (IsLive (extent_of w.old.heap)) args.now }
+    requires named { All (IsNamed one_record) args.now }
+    requires records { AreRecordsNamed one_record (heap_of w.old.heap) }
+    ensures { IsLiveAnswer (reach_of w.new l.now.vals.items) result }
+{
+    let outcome = row_answer(func, args, w, l)?;
+    Ok(outcome)
+}
+
+// What the row of a function gives.
+fn row_answer(func: Func, args: &[Val], w: &mut World, l: &Slots) -> Result<Outcome, Stop>
+    requires locals { All (IsLive (extent_of w.old.heap)) l.now.vals.items }
+    requires args { All (IsLive (extent_of w.old.heap)) args.now }
+    requires named { All (IsNamed one_record) args.now }
+    requires records { AreRecordsNamed one_record (heap_of w.old.heap) }
+    ensures { IsLiveGiven (reach_of w.new l.now.vals.items) result }
+{
+    match func {
+        Func::Abs => abs_row(w, l, args),
+        Func::Center => field_row(w, l, Layout::Center, args),
+        Func::Char => char_row(w, l, args),
+        Func::Cset => cset_row(w, l, args),
+        Func::Iand => iand_row(w, l, args),
+        Func::Icom => icom_row(w, l, args),
+        Func::Image => image_row(&OneRecord, w, l, args),
+        Func::Integer => integer_row(w, l, args),
+        Func::Ior => ior_row(w, l, args),
+        Func::Ishift => ishift_row(w, l, args),
+        Func::Ixor => ixor_row(w, l, args),
+        Func::Left => field_row(w, l, Layout::Left, args),
+        Func::Map => map_row(w, l, args),
+        Func::Numeric => integer_row(w, l, args),
+        Func::Ord => ord_row(w, l, args),
+        Func::Repl => repl_row(w, l, args),
+        Func::Reverse => reverse_row(w, l, args),
+        Func::Right => field_row(w, l, Layout::Right, args),
+        Func::Seq => seq_row(w, l, args),
+        Func::String => string_row(w, l, args),
+        Func::Trim => trim_row(w, l, args),
+        Func::TypeOf => type_row(&OneRecord, w, l, args),
+        _ => Ok(Outcome::Fails),
     }
 }
 
@@ -181,14 +169,26 @@ fn push_resumed(
     rest: Residual,
 ) -> Result<(), AllocError> {
     match rest {
-        Residual::Sequence { .. } => {
+        Residual::Sequence { given, step } => {
             out.push_str(", then ")?;
-            match again(rest, w, slots) {
-                Ok(Outcome::Suspends(item, _)) => push_item(out, w, slots, item),
-                Err(Halt::Error(number, offending)) => push_error(out, w, number, offending),
-                _ => out.push_str("another"),
-            }
+            push_later(out, w, slots, sequence_again(given, step))
         }
         _ => out.push_str(", then another"),
+    }
+}
+
+// Appends what a sequence that goes on answers.
+fn push_later(
+    out: &mut String,
+    w: &World,
+    slots: &Slots,
+    answer: Result<Outcome, Halt>,
+) -> Result<(), AllocError>
+    requires { IsLiveAnswer (reach_of w.now slots.now.vals.items) answer }
+{
+    match answer {
+        Ok(Outcome::Suspends(item, _)) => push_item(out, w, slots, item),
+        Err(Halt::Error(number, offending)) => push_error(out, w, number, offending),
+        _ => out.push_str("another"),
     }
 }

@@ -25,7 +25,7 @@ pub fn binary(
 }
 
 /// A list.
-pub fn listing(place: Place, elements: Vec<Expr>) -> Expr
+pub fn list_of(place: Place, elements: Vec<Expr>) -> Expr
     ensures { tree_of result ≡ Listing place (all_of elements.items) }
 {
     Expr::List { place, elements }

@@ -5,4 +5,4 @@ mod building;
 #[cfg(test)]
 mod tests;
 
-pub use building::{binary, listing, to_by, with_one_more};
+pub use building::{binary, list_of, to_by, with_one_more};

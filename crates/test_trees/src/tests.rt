@@ -1,5 +1,5 @@
 // Trees built from their parts.
-use crate::building::{binary, listing, to_by, with_one_more};
+use crate::building::{binary, list_of, to_by, with_one_more};
 use icn_tree::{Expr, Infix, Operator, Place};
 use std::alloc::AllocError;
 
@@ -54,7 +54,7 @@ fn an_increment_stands_last(rt: HostRuntime) {
 #[test]
 fn a_list_gets_one_more(rt: HostRuntime) -> Result<(), AllocError> {
     let place = Place { line: 7, file: 0 };
-    let Expr::List { elements, .. } = listing(place, vec![in rt.alloc(); next(1)]?) else {
+    let Expr::List { elements, .. } = list_of(place, vec![in rt.alloc(); next(1)]?) else {
         assert!(rt; false);
         return Ok(());
     };

@@ -4,7 +4,7 @@
 
 mod reading;
 
-use reading::reading;
+use reading::reading_text;
 use std::io;
 
 fn main(rt: HostRuntime) -> io::Result<()> {
@@ -14,7 +14,7 @@ fn main(rt: HostRuntime) -> io::Result<()> {
         if line.is_empty() || line.starts_with('#') {
             println!(rt; "{line}")?;
         } else {
-            let reading = reading(alloc, line)?;
+            let reading = reading_text(alloc, line)?;
             println!(rt; "{line} -> {reading}")?;
         }
     }

@@ -3,7 +3,7 @@ use icont_words::{Run, Task, WordsFault, read_command};
 use std::alloc::{AllocError, Global};
 
 /// What the words of a line come to, which blanks part. `AllocError` is want of memory.
-pub fn reading(alloc: Global, line: &str) -> Result<String, AllocError> {
+pub fn reading_text(alloc: Global, line: &str) -> Result<String, AllocError> {
     let mut words = Vec::new(alloc);
     for word in line.split(' ') {
         words.push(String::from_str(alloc, word)?)?;

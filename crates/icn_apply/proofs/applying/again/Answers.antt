@@ -7,7 +7,6 @@ use Rattle.icn_vars.specs.Worlds.{setting_of}
 use Rattle.law_names.proofs.RowSizes.{rows_keep_sizes}
 use Rattle.law_names.proofs.RowsNamed.{rows_keep_names}
 use Rattle.icn_streams.specs.Answers.{call_state}
-use Rattle.icn_streams.specs.Handed.{call_streams}
 use Rattle.icn_apply.proofs.NamesStay.{applies_named, elsewhere}
 use Rattle.icn_apply.proofs.SizesStay.{applies_sized}
 use Rattle.icn_apply.proofs.applying.again.Goals as goal
@@ -19,9 +18,8 @@ pub returns-clause-named : goal.returns-clause-named
 returns-clause-named g c =
     applies_named (g.N.Names.known c.args.names.now) (again (residual_in (extent_of c.args.w.now.heap) c.args.rest))
     (call_state c.args.w.now (g.L.Locals.items c.args.l.now)
-    (call_streams (g.I.Source.left c.args.input.now) (g.I.Source.counts c.args.input.now) (g.O.Sink.state c.args.out.now) (g.E.Sink.state c.args.err.now)))
-    (call_state c.resume.new.w (g.L.Locals.items c.resume.new.l) (call_streams (g.I.Source.left c.resume.new.input) (g.I.Source.counts c.resume.new.input)
-    (g.O.Sink.state c.resume.new.out) (g.E.Sink.state c.resume.new.err)))
+    (g.S.Streams.state c.args.streams.now))
+    (call_state c.resume.new.w (g.L.Locals.items c.resume.new.l) (g.S.Streams.state c.resume.new.streams))
     c.resume.result
     (λ was. rows_keep_names.resumed (g.N.Names.known c.args.names.now) (residual_in (extent_of c.args.w.now.heap) c.args.rest)
     (setting_of was c.args.w.now (g.L.Locals.items c.args.l.now))
@@ -35,9 +33,8 @@ pub returns-clause-sized : goal.returns-clause-sized
 returns-clause-sized g c =
     applies_sized (again (residual_in (extent_of c.args.w.now.heap) c.args.rest))
     (call_state c.args.w.now (g.L.Locals.items c.args.l.now)
-    (call_streams (g.I.Source.left c.args.input.now) (g.I.Source.counts c.args.input.now) (g.O.Sink.state c.args.out.now) (g.E.Sink.state c.args.err.now)))
-    (call_state c.resume.new.w (g.L.Locals.items c.resume.new.l) (call_streams (g.I.Source.left c.resume.new.input) (g.I.Source.counts c.resume.new.input)
-    (g.O.Sink.state c.resume.new.out) (g.E.Sink.state c.resume.new.err)))
+    (g.S.Streams.state c.args.streams.now))
+    (call_state c.resume.new.w (g.L.Locals.items c.resume.new.l) (g.S.Streams.state c.resume.new.streams))
     c.resume.result
     (λ was sizes.
     rows_keep_sizes.resumed sizes (residual_in (extent_of c.args.w.now.heap) c.args.rest) (setting_of was c.args.w.now (g.L.Locals.items c.args.l.now)))

@@ -1,13 +1,17 @@
-use Rattle.std.proofs.Common.{refl, Ok}
-use Rattle.icn_heap.specs.Extents.{value_in}
+use Rattle.std.proofs.Common.{◌≡◌, ◌+◌, FitsSigned, ℤ, Ok, of_z, rules, subst, to_z, w64}
+use Rattle.std.proofs.lemmas.Int.{to_z-of_z}
+use Rattle.icn_value.specs.Members.{members_of}
+use Rattle.icn_value.specs.Store.{Outside}
+use Rattle.icn_heap.specs.Extents.{text_in, value_in}
 use Rattle.icn_heap.specs.Heaps.{extent_of}
-use Rattle.icn_defs.specs.Applying.{again}
+use Rattle.icn_defs.specs.Arithmetic.{counting_again}
+use Rattle.icn_defs.specs.Elements.{list_items_from, record_fields_from, set_members_from, table_values_from, text_bytes_from, variable_bytes_from}
+use Rattle.icn_defs.specs.Scanning.{among_from, balanced_again, found_from, undo_position_again}
+use Rattle.icn_defs.specs.Strings.{sequence_again}
 use Rattle.icn_defs.specs.Structures.{table_keys_from}
-use Rattle.icn_defs.specs.Scanning.{undo_position_again}
 use Rattle.icn_defs.specs.Variables.{undo_assign_again, undo_exchange_again}
-use Rattle.icn_vars.specs.Outcomes.{mover_of, residual_in}
-use Rattle.icn_vars.specs.Worlds.{reach_of, variable_in}
-use Rattle.icn_streams.specs.Handed.{call_streams}
+use Rattle.icn_vars.specs.Outcomes.{ComesToAnswer, mover_of, outcome_in}
+use Rattle.icn_vars.specs.Worlds.{reach_of, setting_of, variable_in}
 use Rattle.icn_streams.proofs.QuietRows.{faultless_applies}
 use Rattle.icn_streams.proofs.IdleCalls.{keeps_items_refl}
 use Rattle.icn_apply.proofs.InPlace.{exchanged_in_place, never}
@@ -17,7 +21,7 @@ pub returns-in-TableKeys-clause-applies : goal.returns-in-TableKeys-clause-appli
 returns-in-TableKeys-clause-applies g c = rw c.in-TableKeys.is
     (faultless_applies (table_keys_from c.in-TableKeys.table c.in-TableKeys.place) c.args.w.now c.args.w.now
     (g.L.Locals.items c.args.l.now) (g.L.Locals.items c.args.l.now)
-    (call_streams (g.I.Source.left c.args.input.now) (g.I.Source.counts c.args.input.now) (g.O.Sink.state c.args.out.now) (g.E.Sink.state c.args.err.now))
+    (g.S.Streams.state c.args.streams.now)
     (Ok c.key_again.result) (λ was. c.key_again.ensures.row was) c.key_again.ensures.live c.requires.locals
     (keeps_items_refl (reach_of c.args.w.now (g.L.Locals.items c.args.l.now))))
 
@@ -26,98 +30,57 @@ returns-in-UndoAssign-clause-applies g c = rw c.in-UndoAssign.is
     (faultless_applies (undo_assign_again (variable_in (extent_of c.args.w.now.heap) c.in-UndoAssign.variable)
     (value_in (extent_of c.args.w.now.heap) c.in-UndoAssign.old))
     c.args.w.now c.undo_assign_again.new.w (g.L.Locals.items c.args.l.now) (g.L.Locals.items c.undo_assign_again.new.l)
-    (call_streams (g.I.Source.left c.args.input.now) (g.I.Source.counts c.args.input.now) (g.O.Sink.state c.args.out.now) (g.E.Sink.state c.args.err.now))
+    (g.S.Streams.state c.args.streams.now)
     c.undo_assign_again.result
     (λ was. c.undo_assign_again.ensures.row was) c.undo_assign_again.ensures.live c.undo_assign_again.ensures.locals c.undo_assign_again.ensures.kept)
 
 pub returns-in-UndoAssign-clause-memory : goal.returns-in-UndoAssign-clause-memory
 returns-in-UndoAssign-clause-memory g c = rw c.in-UndoAssign.is c.undo_assign_again.ensures.memory
 
-pub again-requires : goal.again-requires
-again-requires g c = rw c.in-Sequence.is refl
-
-pub returns-in-Sequence-clause-applies : goal.returns-in-Sequence-clause-applies
-returns-in-Sequence-clause-applies g c =
-    faultless_applies (again (residual_in (extent_of c.args.w.now.heap) c.args.rest)) c.args.w.now c.args.w.now
-    (g.L.Locals.items c.args.l.now) (g.L.Locals.items c.args.l.now)
-    (call_streams (g.I.Source.left c.args.input.now) (g.I.Source.counts c.args.input.now) (g.O.Sink.state c.args.out.now) (g.E.Sink.state c.args.err.now))
-    c.again.result (λ was. c.again.ensures.row was) c.again.ensures.live c.requires.locals
-    (keeps_items_refl (reach_of c.args.w.now (g.L.Locals.items c.args.l.now)))
-
-pub again-requires-in-Balanced-clause-scanning : goal.again-requires-in-Balanced-clause-scanning
-again-requires-in-Balanced-clause-scanning g c = rw c.in-Balanced.is refl
-
-pub returns-in-Balanced-clause-applies : goal.returns-in-Balanced-clause-applies
-returns-in-Balanced-clause-applies g c =
-    faultless_applies (again (residual_in (extent_of c.args.w.now.heap) c.args.rest)) c.args.w.now c.again-in-Balanced.new.w
-    (g.L.Locals.items c.args.l.now) (g.L.Locals.items c.args.l.now)
-    (call_streams (g.I.Source.left c.args.input.now) (g.I.Source.counts c.args.input.now) (g.O.Sink.state c.args.out.now) (g.E.Sink.state c.args.err.now))
-    c.again-in-Balanced.result
-    (λ was. c.again-in-Balanced.ensures.row was) c.again-in-Balanced.ensures.live c.again-in-Balanced.ensures.locals c.again-in-Balanced.ensures.kept
-
-pub again-requires-in-Found-clause-scanning : goal.again-requires-in-Found-clause-scanning
-again-requires-in-Found-clause-scanning g c = rw c.in-Found.is refl
-
-pub returns-in-Found-clause-applies : goal.returns-in-Found-clause-applies
-returns-in-Found-clause-applies g c =
-    faultless_applies (again (residual_in (extent_of c.args.w.now.heap) c.args.rest)) c.args.w.now c.again-in-Found.new.w
-    (g.L.Locals.items c.args.l.now) (g.L.Locals.items c.args.l.now)
-    (call_streams (g.I.Source.left c.args.input.now) (g.I.Source.counts c.args.input.now) (g.O.Sink.state c.args.out.now) (g.E.Sink.state c.args.err.now))
-    c.again-in-Found.result
-    (λ was. c.again-in-Found.ensures.row was) c.again-in-Found.ensures.live c.again-in-Found.ensures.locals c.again-in-Found.ensures.kept
-
-pub again-requires-in-Among-clause-scanning : goal.again-requires-in-Among-clause-scanning
-again-requires-in-Among-clause-scanning g c = rw c.in-Among.is refl
-
-pub returns-in-Among-clause-applies : goal.returns-in-Among-clause-applies
-returns-in-Among-clause-applies g c =
-    faultless_applies (again (residual_in (extent_of c.args.w.now.heap) c.args.rest)) c.args.w.now c.again-in-Among.new.w
-    (g.L.Locals.items c.args.l.now) (g.L.Locals.items c.args.l.now)
-    (call_streams (g.I.Source.left c.args.input.now) (g.I.Source.counts c.args.input.now) (g.O.Sink.state c.args.out.now) (g.E.Sink.state c.args.err.now))
-    c.again-in-Among.result
-    (λ was. c.again-in-Among.ensures.row was) c.again-in-Among.ensures.live c.again-in-Among.ensures.locals c.again-in-Among.ensures.kept
-
-pub again-requires-in-TextBytes-clause-operation : goal.again-requires-in-TextBytes-clause-operation
-again-requires-in-TextBytes-clause-operation g c = rw c.in-TextBytes.is refl
-
 pub returns-in-TextBytes-clause-applies : goal.returns-in-TextBytes-clause-applies
-returns-in-TextBytes-clause-applies g c = c.again-in-TextBytes.ensures
-
-pub again-requires-in-VariableBytes-clause-operation : goal.again-requires-in-VariableBytes-clause-operation
-again-requires-in-VariableBytes-clause-operation g c = rw c.in-VariableBytes.is refl
+returns-in-TextBytes-clause-applies g c = rw c.in-TextBytes.is
+    (faultless_applies (text_bytes_from (text_in (extent_of c.args.w.now.heap) c.in-TextBytes.text) c.in-TextBytes.place) c.args.w.now c.args.w.now
+    (g.L.Locals.items c.args.l.now) (g.L.Locals.items c.args.l.now)
+    (g.S.Streams.state c.args.streams.now) c.text_bytes_from.result (λ was. c.text_bytes_from.ensures.row was) c.text_bytes_from.ensures.live c.requires.locals
+    (keeps_items_refl (reach_of c.args.w.now (g.L.Locals.items c.args.l.now))))
 
 pub returns-in-VariableBytes-clause-applies : goal.returns-in-VariableBytes-clause-applies
-returns-in-VariableBytes-clause-applies g c = c.again-in-VariableBytes.ensures
-
-pub again-requires-in-ListItems-clause-operation : goal.again-requires-in-ListItems-clause-operation
-again-requires-in-ListItems-clause-operation g c = rw c.in-ListItems.is refl
+returns-in-VariableBytes-clause-applies g c = rw c.in-VariableBytes.is
+    (faultless_applies (variable_bytes_from (variable_in (extent_of c.args.w.now.heap) c.in-VariableBytes.variable) c.in-VariableBytes.place) c.args.w.now
+    c.args.w.now (g.L.Locals.items c.args.l.now) (g.L.Locals.items c.args.l.now)
+    (g.S.Streams.state c.args.streams.now) c.variable_bytes_from.result (λ was. c.variable_bytes_from.ensures.row was) c.variable_bytes_from.ensures.live
+    c.requires.locals (keeps_items_refl (reach_of c.args.w.now (g.L.Locals.items c.args.l.now))))
 
 pub returns-in-ListItems-clause-applies : goal.returns-in-ListItems-clause-applies
-returns-in-ListItems-clause-applies g c = c.again-in-ListItems.ensures
-
-pub again-requires-in-SetMembers-clause-operation : goal.again-requires-in-SetMembers-clause-operation
-again-requires-in-SetMembers-clause-operation g c = rw c.in-SetMembers.is refl
+returns-in-ListItems-clause-applies g c = rw c.in-ListItems.is
+    (faultless_applies (list_items_from c.in-ListItems.list c.in-ListItems.place) c.args.w.now c.args.w.now (g.L.Locals.items c.args.l.now)
+    (g.L.Locals.items c.args.l.now)
+    (g.S.Streams.state c.args.streams.now) c.list_items_from.result (λ was. c.list_items_from.ensures.row was) c.list_items_from.ensures.live c.requires.locals
+    (keeps_items_refl (reach_of c.args.w.now (g.L.Locals.items c.args.l.now))))
 
 pub returns-in-SetMembers-clause-applies : goal.returns-in-SetMembers-clause-applies
-returns-in-SetMembers-clause-applies g c = c.again-in-SetMembers.ensures
-
-pub again-requires-in-TableValues-clause-operation : goal.again-requires-in-TableValues-clause-operation
-again-requires-in-TableValues-clause-operation g c = rw c.in-TableValues.is refl
+returns-in-SetMembers-clause-applies g c = rw c.in-SetMembers.is
+    (faultless_applies (set_members_from c.in-SetMembers.set c.in-SetMembers.place) c.args.w.now c.args.w.now (g.L.Locals.items c.args.l.now)
+    (g.L.Locals.items c.args.l.now)
+    (g.S.Streams.state c.args.streams.now) c.set_members_from.result (λ was. c.set_members_from.ensures.row was) c.set_members_from.ensures.live
+    c.requires.locals (keeps_items_refl (reach_of c.args.w.now (g.L.Locals.items c.args.l.now))))
 
 pub returns-in-TableValues-clause-applies : goal.returns-in-TableValues-clause-applies
-returns-in-TableValues-clause-applies g c = c.again-in-TableValues.ensures
-
-pub again-requires-in-RecordFields-clause-operation : goal.again-requires-in-RecordFields-clause-operation
-again-requires-in-RecordFields-clause-operation g c = rw c.in-RecordFields.is refl
+returns-in-TableValues-clause-applies g c = rw c.in-TableValues.is
+    (faultless_applies (table_values_from c.in-TableValues.table c.in-TableValues.place) c.args.w.now c.args.w.now (g.L.Locals.items c.args.l.now)
+    (g.L.Locals.items c.args.l.now)
+    (g.S.Streams.state c.args.streams.now) c.table_values_from.result (λ was. c.table_values_from.ensures.row was) c.table_values_from.ensures.live
+    c.requires.locals (keeps_items_refl (reach_of c.args.w.now (g.L.Locals.items c.args.l.now))))
 
 pub returns-in-RecordFields-clause-applies : goal.returns-in-RecordFields-clause-applies
-returns-in-RecordFields-clause-applies g c = c.again-in-RecordFields.ensures
-
-pub again-requires-in-InputLines-clause-operation : goal.again-requires-in-InputLines-clause-operation
-again-requires-in-InputLines-clause-operation g c = rw c.in-InputLines.is refl
+returns-in-RecordFields-clause-applies g c = rw c.in-RecordFields.is
+    (faultless_applies (record_fields_from c.in-RecordFields.rec c.in-RecordFields.place) c.args.w.now c.args.w.now (g.L.Locals.items c.args.l.now)
+    (g.L.Locals.items c.args.l.now)
+    (g.S.Streams.state c.args.streams.now) c.record_fields_from.result (λ was. c.record_fields_from.ensures.row was) c.record_fields_from.ensures.live
+    c.requires.locals (keeps_items_refl (reach_of c.args.w.now (g.L.Locals.items c.args.l.now))))
 
 pub returns-in-InputLines-clause-applies : goal.returns-in-InputLines-clause-applies
-returns-in-InputLines-clause-applies g c = c.again-in-InputLines.ensures
+returns-in-InputLines-clause-applies g c = rw c.in-InputLines.is c.lines_again.ensures.row
 
 pub returns-in-UndoExchange-clause-applies : goal.returns-in-UndoExchange-clause-applies
 returns-in-UndoExchange-clause-applies g c = rw c.in-UndoExchange.is
@@ -125,7 +88,7 @@ returns-in-UndoExchange-clause-applies g c = rw c.in-UndoExchange.is
     (variable_in (extent_of c.args.w.now.heap) c.in-UndoExchange.right) (value_in (extent_of c.args.w.now.heap) c.in-UndoExchange.old_left)
     (value_in (extent_of c.args.w.now.heap) c.in-UndoExchange.old_right))
     c.args.w.now c.undo_exchange_again.new.w (g.L.Locals.items c.args.l.now) (g.L.Locals.items c.undo_exchange_again.new.l)
-    (call_streams (g.I.Source.left c.args.input.now) (g.I.Source.counts c.args.input.now) (g.O.Sink.state c.args.out.now) (g.E.Sink.state c.args.err.now))
+    (g.S.Streams.state c.args.streams.now)
     c.undo_exchange_again.result
     (λ was. c.undo_exchange_again.ensures.row was) c.undo_exchange_again.ensures.live c.undo_exchange_again.ensures.locals
     c.undo_exchange_again.ensures.kept)
@@ -134,16 +97,79 @@ pub returns-in-UndoPosition-clause-applies : goal.returns-in-UndoPosition-clause
 returns-in-UndoPosition-clause-applies g c = rw c.in-UndoPosition.is
     (faultless_applies (undo_position_again c.in-UndoPosition.old) c.args.w.now c.undo_position_again.new.w
     (g.L.Locals.items c.args.l.now) (g.L.Locals.items c.args.l.now)
-    (call_streams (g.I.Source.left c.args.input.now) (g.I.Source.counts c.args.input.now) (g.O.Sink.state c.args.out.now) (g.E.Sink.state c.args.err.now))
+    (g.S.Streams.state c.args.streams.now)
     c.undo_position_again.result
     (λ was. c.undo_position_again.ensures.row was) c.undo_position_again.ensures.live c.undo_position_again.ensures.locals
     c.undo_position_again.ensures.kept)
 
-pub again-requires-in-Counting-clause-operation : goal.again-requires-in-Counting-clause-operation
-again-requires-in-Counting-clause-operation g c = rw c.in-Counting.is refl
-
 pub returns-in-Counting-clause-applies : goal.returns-in-Counting-clause-applies
-returns-in-Counting-clause-applies g c = c.again-in-Counting.ensures
+returns-in-Counting-clause-applies g c =
+    let given = c.in-Counting.given in
+    let last = c.in-Counting.last in
+    let step = c.in-Counting.step in
+    let first : FitsSigned w64 given = search rules in
+    let second : FitsSigned w64 last = search rules in
+    let third : FitsSigned w64 step = search rules in
+    let comes : ℤ → ℤ → ℤ → Type 0 = λ m n k. (was : Outside) → counting_again m n k (setting_of was c.args.w.now (g.L.Locals.items c.args.l.now))
+    ≡ outcome_in (extent_of c.args.w.now.heap) c.counting_again.result (setting_of was c.args.w.now (g.L.Locals.items c.args.l.now)) in
+    rw c.in-Counting.is
+    (faultless_applies (counting_again given last step) c.args.w.now c.args.w.now (g.L.Locals.items c.args.l.now) (g.L.Locals.items c.args.l.now)
+    (g.S.Streams.state c.args.streams.now) (Ok c.counting_again.result)
+    (subst (λ m. comes m last step) (to_z-of_z w64 given first) (subst (λ n. comes (to_z w64 (of_z w64 given)) n step) (to_z-of_z w64 last second)
+    (subst (comes (to_z w64 (of_z w64 given)) (to_z w64 (of_z w64 last))) (to_z-of_z w64 step third)
+    (λ was. c.counting_again.ensures.row (extent_of c.args.w.now.heap) (setting_of was c.args.w.now (g.L.Locals.items c.args.l.now))))))
+    (c.counting_again.ensures.live (reach_of c.args.w.now (g.L.Locals.items c.args.l.now))) c.requires.locals
+    (keeps_items_refl (reach_of c.args.w.now (g.L.Locals.items c.args.l.now))))
+
+pub returns-in-Sequence-clause-applies : goal.returns-in-Sequence-clause-applies
+returns-in-Sequence-clause-applies g c =
+    let given = c.in-Sequence.given in
+    let step = c.in-Sequence.step in
+    let first : FitsSigned w64 given = search rules in
+    let second : FitsSigned w64 step = search rules in
+    let comes : ℤ → ℤ → Type 0 = λ m n. (was : Outside)
+    → ComesToAnswer (extent_of c.args.w.now.heap) (sequence_again m n) (setting_of was c.args.w.now (g.L.Locals.items c.args.l.now))
+    (setting_of was c.args.w.now (g.L.Locals.items c.args.l.now)) c.sequence_again.result in
+    rw c.in-Sequence.is (faultless_applies (sequence_again given step) c.args.w.now c.args.w.now (g.L.Locals.items c.args.l.now) (g.L.Locals.items c.args.l.now)
+    (g.S.Streams.state c.args.streams.now) c.sequence_again.result
+    (subst (λ m. comes m step) (to_z-of_z w64 given first) (subst (comes (to_z w64 (of_z w64 given))) (to_z-of_z w64 step second)
+    (λ was. c.sequence_again.ensures.row (extent_of c.args.w.now.heap) (setting_of was c.args.w.now (g.L.Locals.items c.args.l.now)))))
+    (c.sequence_again.ensures.live (reach_of c.args.w.now (g.L.Locals.items c.args.l.now))) c.requires.locals
+    (keeps_items_refl (reach_of c.args.w.now (g.L.Locals.items c.args.l.now))))
+
+pub balanced_again-requires : goal.balanced_again-requires
+balanced_again-requires g c = let rest = rw c.in-Balanced.is at c.requires.rest in rest.live
+
+pub found_again-requires-clause-wanted : goal.found_again-requires-clause-wanted
+found_again-requires-clause-wanted g c = let rest = rw c.in-Found.is at c.requires.rest in rest.live.0
+
+pub found_again-requires-clause-search : goal.found_again-requires-clause-search
+found_again-requires-clause-search g c = let rest = rw c.in-Found.is at c.requires.rest in rest.live.1
+
+pub among_again-requires : goal.among_again-requires
+among_again-requires g c = let rest = rw c.in-Among.is at c.requires.rest in rest.live
+
+pub returns-in-Balanced-clause-applies : goal.returns-in-Balanced-clause-applies
+returns-in-Balanced-clause-applies g c = rw c.in-Balanced.is
+    (faultless_applies (balanced_again (members_of c.in-Balanced.wanted) (members_of c.in-Balanced.opening) (members_of c.in-Balanced.closing)
+    (text_in (extent_of c.args.w.now.heap) c.in-Balanced.text)
+    c.in-Balanced.place c.in-Balanced.last) c.args.w.now c.args.w.now (g.L.Locals.items c.args.l.now) (g.L.Locals.items c.args.l.now)
+    (g.S.Streams.state c.args.streams.now) (Ok c.balanced_again.result) (λ was. c.balanced_again.ensures.row was) c.balanced_again.ensures.live
+    c.requires.locals (keeps_items_refl (reach_of c.args.w.now (g.L.Locals.items c.args.l.now))))
+
+pub returns-in-Found-clause-applies : goal.returns-in-Found-clause-applies
+returns-in-Found-clause-applies g c = rw c.in-Found.is
+    (faultless_applies (found_from (text_in (extent_of c.args.w.now.heap) c.in-Found.wanted) (text_in (extent_of c.args.w.now.heap) c.in-Found.text)
+    (c.in-Found.place + 1) c.in-Found.last) c.args.w.now c.args.w.now (g.L.Locals.items c.args.l.now) (g.L.Locals.items c.args.l.now)
+    (g.S.Streams.state c.args.streams.now) (Ok c.found_again.result) (λ was. c.found_again.ensures.row was) c.found_again.ensures.live c.requires.locals
+    (keeps_items_refl (reach_of c.args.w.now (g.L.Locals.items c.args.l.now))))
+
+pub returns-in-Among-clause-applies : goal.returns-in-Among-clause-applies
+returns-in-Among-clause-applies g c = rw c.in-Among.is
+    (faultless_applies (among_from (members_of c.in-Among.wanted) (text_in (extent_of c.args.w.now.heap) c.in-Among.text)
+    (c.in-Among.place + 1) c.in-Among.last) c.args.w.now c.args.w.now (g.L.Locals.items c.args.l.now) (g.L.Locals.items c.args.l.now)
+    (g.S.Streams.state c.args.streams.now) (Ok c.among_again.result) (λ was. c.among_again.ensures.row was) c.among_again.ensures.live c.requires.locals
+    (keeps_items_refl (reach_of c.args.w.now (g.L.Locals.items c.args.l.now))))
 
 pub returns-in-TableKeys-clause-memory : goal.returns-in-TableKeys-clause-memory
 returns-in-TableKeys-clause-memory g c = rw c.in-TableKeys.is (λ in_place. never in_place)

@@ -1,97 +1,85 @@
-use Rattle.std.proofs.Common.{map, subst, []}
+use Rattle.std.proofs.Common.{◌∙◌, ap, map, subst, sym, [], List}
+use Rattle.std.specs.List.{All}
 use Rattle.icn_value.specs.Store.{outside_of}
+use Rattle.icn_value.specs.declared.val.Val.{Val}
+use Rattle.icn_heap.specs.Extents.{IsLive, value_in}
 use Rattle.icn_heap.specs.Heaps.{extent_of}
-use Rattle.icn_defs.specs.Applying.{function_row}
+use Rattle.icn_defs.specs.Applying.{function_of, function_row}
+use Rattle.icn_defs.specs.ReadAndAssign.{the_values}
 use Rattle.icn_vars.specs.Worlds.{item_in, setting_of}
 use Rattle.icn_streams.specs.Answers.{call_state}
-use Rattle.icn_streams.specs.Handed.{call_streams}
-use Rattle.icn_apply.specs.declared.function_groups.FunctionGroup.{FunctionGroup}
-use Rattle.icn_apply.specs.FunctionGroups.{IsOfKind}
-use Rattle.icn_apply.proofs.NamesStay.{applies_named, elsewhere, file_function_named}
-use Rattle.icn_apply.proofs.SizesStay.{applies_sized, file_function_sized}
+use Rattle.icn_streams.proofs.RowAnswers.{applies_same, stops_there}
+use Rattle.icn_apply.proofs.NamesStay.{applies_named, elsewhere, function_named, stop_named, vals_named, values_named}
+use Rattle.icn_apply.proofs.SizesStay.{applies_sized, function_sized, same_sized}
 use Rattle.icn_apply.proofs.functions.apply_function.Goals as goal
 
-pub returns-in-Errors-clause-applies : goal.returns-in-Errors-clause-applies
-returns-in-Errors-clause-applies g c =
-    rw (subst (λ (kind : FunctionGroup). IsOfKind kind c.args.func) c.in-Errors.is c.kind_of.ensures)
-    (c.apply_errorclear.ensures.applies (call_streams (g.I.Source.left c.args.input.now) (g.I.Source.counts c.args.input.now)
-    (g.O.Sink.state c.args.out.now) (g.E.Sink.state c.args.err.now)))
+pub returns-in_err-vals-clause-applies : goal.returns-in_err-vals-clause-applies
+returns-in_err-vals-clause-applies g c =
+    stops_there
+    (the_values (map (item_in (extent_of c.args.w.now.heap)) c.args.args.now)) (λ values. function_of (g.N.Names.known c.args.names.now) c.args.func values)
+    (call_state c.args.w.now (g.L.Locals.items c.args.l.now) (g.S.Streams.state c.args.streams.now))
+    c.in_err-vals.field-0.0 c.from_residual.result c.from_residual.ensures.1
+    (λ was. c.in_err-vals.ensures.found was) c.in_err-vals.ensures.stops c.requires.locals
 
-pub returns-in-Errors-clause-named : goal.returns-in-Errors-clause-named
-returns-in-Errors-clause-named g c = c.apply_errorclear.ensures.named
+pub returns-in_err-vals-clause-named : goal.returns-in_err-vals-clause-named
+returns-in_err-vals-clause-named g c =
+    stop_named (g.N.Names.known c.args.names.now) (map (item_in (extent_of c.args.w.now.heap)) c.args.args.now) c.args.w.now (g.L.Locals.items c.args.l.now)
+    c.in_err-vals.field-0.0 c.from_residual.result c.requires.named c.requires.args_named c.from_residual.ensures.1 (λ was. c.in_err-vals.ensures.found was)
 
-pub returns-in-Errors-clause-sized : goal.returns-in-Errors-clause-sized
-returns-in-Errors-clause-sized g c = c.apply_errorclear.ensures.sized
+pub returns-in_err-vals-clause-sized : goal.returns-in_err-vals-clause-sized
+returns-in_err-vals-clause-sized g c = same_sized c.args.w.now c.from_residual.result
 
-pub first-requires-clause-function : goal.first-requires-clause-function
-first-requires-clause-function g c = subst (λ (kind : FunctionGroup). IsOfKind kind c.args.func) c.in-Files.is c.kind_of.ensures
+pub apply_to_values-requires-clause-vals : goal.apply_to_values-requires-clause-vals
+apply_to_values-requires-clause-vals g c =
+    subst (λ (vals : List Val). All (IsLive (extent_of c.args.w.now.heap)) vals) (sym c.deref.ensures.value) c.in_ok-vals.ensures.live
 
-pub returns-in-Files-clause-applies : goal.returns-in-Files-clause-applies
-returns-in-Files-clause-applies g c = c.first.ensures (g.N.Names.known c.args.names.now)
+pub apply_to_values-requires-clause-named : goal.apply_to_values-requires-clause-named
+apply_to_values-requires-clause-named g c =
+    vals_named (g.N.Names.known c.args.names.now) (extent_of c.args.w.now.heap) c.deref.result.now
+    (values_named (g.N.Names.known c.args.names.now) (map (item_in (extent_of c.args.w.now.heap)) c.args.args.now) (setting_of (outside_of []) c.args.w.now
+    (g.L.Locals.items c.args.l.now)) (map (value_in (extent_of c.args.w.now.heap)) c.deref.result.now) c.requires.named c.requires.args_named
+    (λ next. c.in_ok-vals.ensures.found (outside_of []) next
+    ∙ ap (λ (vals : List Val). next (map (value_in (extent_of c.args.w.now.heap)) vals)
+    (setting_of (outside_of []) c.args.w.now (g.L.Locals.items c.args.l.now))) (sym c.deref.ensures.value)))
 
-pub returns-in-Files-clause-named : goal.returns-in-Files-clause-named
-returns-in-Files-clause-named g c =
+pub apply_to_values-requires-clause-heap_named : goal.apply_to_values-requires-clause-heap_named
+apply_to_values-requires-clause-heap_named g c = c.requires.named.world.heap
+
+pub returns-clause-applies : goal.returns-clause-applies
+returns-clause-applies g c =
+    applies_same (function_row (g.N.Names.known c.args.names.now) c.args.func (map (item_in (extent_of c.args.w.now.heap)) c.args.args.now))
+    (function_of (g.N.Names.known c.args.names.now) c.args.func (map (value_in (extent_of c.args.w.now.heap)) c.deref.result.now))
+    (call_state c.args.w.now (g.L.Locals.items c.args.l.now) (g.S.Streams.state c.args.streams.now))
+    (call_state c.apply_to_values.new.w (g.L.Locals.items c.args.l.now) (g.S.Streams.state c.apply_to_values.new.streams))
+    c.apply_to_values.result
+    (λ was. c.in_ok-vals.ensures.found was (λ values. function_of (g.N.Names.known c.args.names.now) c.args.func values)
+    ∙ ap (λ (vals : List Val). function_of (g.N.Names.known c.args.names.now) c.args.func (map (value_in (extent_of c.args.w.now.heap)) vals)
+    (setting_of was c.args.w.now (g.L.Locals.items c.args.l.now))) (sym c.deref.ensures.value))
+    c.apply_to_values.ensures
+
+pub returns-clause-named : goal.returns-clause-named
+returns-clause-named g c =
+    let named = values_named (g.N.Names.known c.args.names.now) (map (item_in (extent_of c.args.w.now.heap)) c.args.args.now) (setting_of (outside_of [])
+    c.args.w.now (g.L.Locals.items c.args.l.now)) (map (value_in (extent_of c.args.w.now.heap)) c.deref.result.now) c.requires.named c.requires.args_named
+    (λ next. c.in_ok-vals.ensures.found (outside_of []) next
+    ∙ ap (λ (vals : List Val). next (map (value_in (extent_of c.args.w.now.heap)) vals)
+    (setting_of (outside_of []) c.args.w.now (g.L.Locals.items c.args.l.now))) (sym c.deref.ensures.value)) in
     applies_named (g.N.Names.known c.args.names.now)
-    (function_row (g.N.Names.known c.args.names.now) c.args.func (map (item_in (extent_of c.args.w.now.heap)) c.args.args.now))
-    (call_state c.args.w.now (g.L.Locals.items c.args.l.now)
-    (call_streams (g.I.Source.left c.args.input.now) (g.I.Source.counts c.args.input.now) (g.O.Sink.state c.args.out.now) (g.E.Sink.state c.args.err.now)))
-    (call_state c.first.new.w (g.L.Locals.items c.args.l.now)
-    (call_streams (g.I.Source.left c.first.new.input) (g.I.Source.counts c.first.new.input) (g.O.Sink.state c.first.new.out) (g.E.Sink.state c.first.new.err)))
-    c.first.result
-    (λ was. file_function_named (g.N.Names.known c.args.names.now) c.args.func (map (item_in (extent_of c.args.w.now.heap)) c.args.args.now)
-    (setting_of was c.args.w.now (g.L.Locals.items c.args.l.now))
-    (subst (λ (kind : FunctionGroup). IsOfKind kind c.args.func) c.in-Files.is c.kind_of.ensures)
-    (elsewhere (g.N.Names.known c.args.names.now) c.args.w.now (g.L.Locals.items c.args.l.now) (outside_of []) was c.requires.named) c.requires.args_named)
-    (c.first.ensures (g.N.Names.known c.args.names.now))
+    (function_of (g.N.Names.known c.args.names.now) c.args.func (map (value_in (extent_of c.args.w.now.heap)) c.deref.result.now))
+    (call_state c.args.w.now (g.L.Locals.items c.args.l.now) (g.S.Streams.state c.args.streams.now))
+    (call_state c.apply_to_values.new.w (g.L.Locals.items c.args.l.now) (g.S.Streams.state c.apply_to_values.new.streams))
+    c.apply_to_values.result
+    (λ was. function_named (g.N.Names.known c.args.names.now) c.args.func c.args.w.now (g.L.Locals.items c.args.l.now) was c.deref.result.now
+    (elsewhere (g.N.Names.known c.args.names.now) c.args.w.now (g.L.Locals.items c.args.l.now) (outside_of []) was c.requires.named) named
+    (subst (λ (vals : List Val). All (IsLive (extent_of c.args.w.now.heap)) vals) (sym c.deref.ensures.value) c.in_ok-vals.ensures.live))
+    c.apply_to_values.ensures
 
-pub apply_scanning-requires-clause-function : goal.apply_scanning-requires-clause-function
-apply_scanning-requires-clause-function g c = subst (λ (kind : FunctionGroup). IsOfKind kind c.args.func) c.in-Scanning.is c.kind_of.ensures
-
-pub returns-in-Scanning-clause-applies : goal.returns-in-Scanning-clause-applies
-returns-in-Scanning-clause-applies g c = c.apply_scanning.ensures.applies (call_streams (g.I.Source.left c.args.input.now) (g.I.Source.counts c.args.input.now)
-    (g.O.Sink.state c.args.out.now) (g.E.Sink.state c.args.err.now))
-
-pub returns-in-Scanning-clause-named : goal.returns-in-Scanning-clause-named
-returns-in-Scanning-clause-named g c = c.apply_scanning.ensures.named
-
-pub apply_to_strings-requires-clause-function : goal.apply_to_strings-requires-clause-function
-apply_to_strings-requires-clause-function g c = subst (λ (kind : FunctionGroup). IsOfKind kind c.args.func) c.in-Strings.is c.kind_of.ensures
-
-pub returns-in-Strings-clause-applies : goal.returns-in-Strings-clause-applies
-returns-in-Strings-clause-applies g c = c.apply_to_strings.ensures.applies (call_streams (g.I.Source.left c.args.input.now) (g.I.Source.counts c.args.input.now)
-    (g.O.Sink.state c.args.out.now) (g.E.Sink.state c.args.err.now))
-
-pub returns-in-Strings-clause-named : goal.returns-in-Strings-clause-named
-returns-in-Strings-clause-named g c = c.apply_to_strings.ensures.named
-
-pub apply_to_structures-requires-clause-function : goal.apply_to_structures-requires-clause-function
-apply_to_structures-requires-clause-function g c = subst (λ (kind : FunctionGroup). IsOfKind kind c.args.func) c.in-Structures.is c.kind_of.ensures
-
-pub returns-in-Structures-clause-applies : goal.returns-in-Structures-clause-applies
-returns-in-Structures-clause-applies g c = c.apply_to_structures.ensures.applies (call_streams (g.I.Source.left c.args.input.now)
-    (g.I.Source.counts c.args.input.now) (g.O.Sink.state c.args.out.now) (g.E.Sink.state c.args.err.now))
-
-pub returns-in-Structures-clause-named : goal.returns-in-Structures-clause-named
-returns-in-Structures-clause-named g c = c.apply_to_structures.ensures.named
-
-pub returns-in-Files-clause-sized : goal.returns-in-Files-clause-sized
-returns-in-Files-clause-sized g c =
-    applies_sized (function_row (g.N.Names.known c.args.names.now) c.args.func (map (item_in (extent_of c.args.w.now.heap)) c.args.args.now))
-    (call_state c.args.w.now (g.L.Locals.items c.args.l.now)
-    (call_streams (g.I.Source.left c.args.input.now) (g.I.Source.counts c.args.input.now) (g.O.Sink.state c.args.out.now) (g.E.Sink.state c.args.err.now)))
-    (call_state c.first.new.w (g.L.Locals.items c.args.l.now)
-    (call_streams (g.I.Source.left c.first.new.input) (g.I.Source.counts c.first.new.input) (g.O.Sink.state c.first.new.out) (g.E.Sink.state c.first.new.err)))
-    c.first.result
-    (λ was. file_function_sized (g.N.Names.known c.args.names.now) c.args.func (map (item_in (extent_of c.args.w.now.heap)) c.args.args.now)
-    (setting_of was c.args.w.now (g.L.Locals.items c.args.l.now))
-    (subst (λ (kind : FunctionGroup). IsOfKind kind c.args.func) c.in-Files.is c.kind_of.ensures))
-    (c.first.ensures (g.N.Names.known c.args.names.now))
-
-pub returns-in-Scanning-clause-sized : goal.returns-in-Scanning-clause-sized
-returns-in-Scanning-clause-sized g c = c.apply_scanning.ensures.sized
-
-pub returns-in-Strings-clause-sized : goal.returns-in-Strings-clause-sized
-returns-in-Strings-clause-sized g c = c.apply_to_strings.ensures.sized
-
-pub returns-in-Structures-clause-sized : goal.returns-in-Structures-clause-sized
-returns-in-Structures-clause-sized g c = c.apply_to_structures.ensures.sized
+pub returns-clause-sized : goal.returns-clause-sized
+returns-clause-sized g c =
+    applies_sized (function_of (g.N.Names.known c.args.names.now) c.args.func (map (value_in (extent_of c.args.w.now.heap)) c.deref.result.now))
+    (call_state c.args.w.now (g.L.Locals.items c.args.l.now) (g.S.Streams.state c.args.streams.now))
+    (call_state c.apply_to_values.new.w (g.L.Locals.items c.args.l.now) (g.S.Streams.state c.apply_to_values.new.streams))
+    c.apply_to_values.result
+    (λ was. function_sized (g.N.Names.known c.args.names.now) c.args.func c.args.w.now (g.L.Locals.items c.args.l.now) was c.deref.result.now
+    (subst (λ (vals : List Val). All (IsLive (extent_of c.args.w.now.heap)) vals) (sym c.deref.ensures.value) c.in_ok-vals.ensures.live))
+    c.apply_to_values.ensures

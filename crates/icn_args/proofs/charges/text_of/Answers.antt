@@ -27,3 +27,6 @@ returns-clause-kept g c = record {
   statics = refl;
   locals = refl;
 }
+
+pub returns-in_err-span-clause-held : goal.returns-in_err-span-clause-held
+returns-in_err-span-clause-held g c = λ held. absurd (c.in_err-span.ensures.held held)

@@ -1,71 +1,48 @@
-use Rattle.std.proofs.Common.{[], length, refl, sym, ap, ◌∙◌, subst}
+use Rattle.std.proofs.Common.{[], length, refl, sym, ap, ◌∙◌}
 use Rattle.icn_heap.specs.Heaps.{heap_of}
-use Rattle.icn_vars.specs.Worlds.{reach_of, world_of}
+use Rattle.icn_vars.specs.Worlds.{reach_of}
 use Rattle.icn_frames.specs.Stacks as held
-use Rattle.icn_frames.specs.Stacks.{FlatStack}
 use Rattle.icn_coexp.specs.Transfers.{with_stack}
 use Rattle.icn_code.specs.CodeTables.{tables_of}
-use Rattle.icn_run.specs.Step.{all_names}
 use Rattle.icn_control.specs.LiveStacks.{IsLiveStack}
 use Rattle.icn_control.specs.Machines.{IsSoundMachine, extent, store_seen, world_reach}
-use Rattle.icn_control.specs.StackViews.{stack_in}
 use Rattle.icn_control.specs.TakenOperands.{KeepsCounts}
 use Rattle.icn_control.specs.declared.machine.Machine.{Machine}
 use Rattle.icn_control.proofs.CountedSteps.{list_counts}
 use Rattle.icn_control.proofs.GrowthSteps.{stacks_grow}
 use Rattle.icn_control.proofs.LiteralSteps.{running_live}
-use Rattle.icn_control.proofs.MachineSteps.{stacks_on}
-use Rattle.icn_run.specs.InstructionNeeds.{HasCaseMark}
-use Rattle.icn_instructions.specs.Ranges.{IsInRange}
-use Rattle.icn_instructions.proofs.ArmSteps.{error_is_not_ok, unless_both}
-use Rattle.icn_instructions.proofs.LiftSteps.{done_lacks, runs_as, stack_runs, world_comes, world_stack}
-use Rattle.icn_instructions.proofs.RangeSteps.{may_name}
+use Rattle.icn_instructions.proofs.ArmSteps.{unless_both}
+use Rattle.icn_instructions.proofs.LiftSteps.{done_lacks, world_comes, world_stack}
 use Rattle.icn_instructions.proofs.instructions.do_instruction.Goals as goal
 
 pub frames-requires : goal.frames-requires
 frames-requires g c =
     c.requires.runs
 
-pub do_on_stack-requires-clause-group : goal.do_on_stack-requires-clause-group
-do_on_stack-requires-clause-group g c =
+pub do_stack_instruction-requires-clause-group : goal.do_stack_instruction-requires-clause-group
+do_stack_instruction-requires-clause-group g c =
     sym c.group_of.ensures ∙ c.in-Stack.is
 
-pub do_on_stack-requires-clause-firsts : goal.do_on_stack-requires-clause-firsts
-do_on_stack-requires-clause-firsts g c = c.requires.firsts
+pub do_stack_instruction-requires-clause-firsts : goal.do_stack_instruction-requires-clause-firsts
+do_stack_instruction-requires-clause-firsts g c = c.requires.firsts
 
-pub do_on_stack-requires-clause-goes_on : goal.do_on_stack-requires-clause-goes_on
-do_on_stack-requires-clause-goes_on g c = (
-  (extent c.args.m.now),
-  (
-    (store_seen (tables_of c.args.code.now) c.requires.goes_on.0 c.args.m.now),
-    done_lacks (tables_of c.args.code.now)
-        (extent c.args.m.now) c.args.m.now.stacks.table c.frames.result.now.flat c.args.instr
-        (store_seen (tables_of c.args.code.now) c.requires.goes_on.0 c.args.m.now) c.frames.ensures.running c.requires.goes_on.1,
-  ),
-)
+pub do_stack_instruction-requires-clause-runs : goal.do_stack_instruction-requires-clause-runs
+do_stack_instruction-requires-clause-runs g c = c.requires.runs
 
-pub do_on_stack-requires-clause-in_range : goal.do_on_stack-requires-clause-in_range
-do_on_stack-requires-clause-in_range g c =
-    subst (λ (x : FlatStack). IsInRange (tables_of c.args.code.now) (held.proc x) c.args.instr)
-    (runs_as c.args.m.now.stacks.table c.frames.result.now.flat c.frames.ensures.running) c.requires.in_range
+pub do_stack_instruction-requires-clause-sound : goal.do_stack_instruction-requires-clause-sound
+do_stack_instruction-requires-clause-sound g c = c.requires.sound
 
-pub do_on_stack-requires-clause-case_mark : goal.do_on_stack-requires-clause-case_mark
-do_on_stack-requires-clause-case_mark g c = (
-  (extent c.args.m.now),
-  subst (λ (x : FlatStack). HasCaseMark c.args.instr (stack_in (extent c.args.m.now) x))
-      (runs_as c.args.m.now.stacks.table c.frames.result.now.flat c.frames.ensures.running) c.requires.case_mark,
-)
+pub do_stack_instruction-requires-clause-goes_on : goal.do_stack_instruction-requires-clause-goes_on
+do_stack_instruction-requires-clause-goes_on g c = c.requires.goes_on
 
-pub do_on_stack-requires-clause-live : goal.do_on_stack-requires-clause-live
-do_on_stack-requires-clause-live g c = (
-  world_reach c.args.m.now,
-  (
-    may_name (tables_of c.args.code.now) c.requires.variables.0 c.args.m.now c.requires.variables.1,
-    running_live
-        (tables_of c.args.code.now) (world_reach c.args.m.now) c.args.m.now.stacks.table c.frames.result.now.flat c.frames.ensures.running
-        c.requires.sound.stacks,
-  ),
-)
+pub do_stack_instruction-requires-clause-in_range : goal.do_stack_instruction-requires-clause-in_range
+do_stack_instruction-requires-clause-in_range g c = c.requires.in_range
+
+pub do_stack_instruction-requires-clause-case_mark : goal.do_stack_instruction-requires-clause-case_mark
+do_stack_instruction-requires-clause-case_mark g c = c.requires.case_mark
+
+pub do_stack_instruction-requires-clause-variables : goal.do_stack_instruction-requires-clause-variables
+do_stack_instruction-requires-clause-variables g c = c.requires.variables
 
 pub do_in_world-requires-clause-group : goal.do_in_world-requires-clause-group
 do_in_world-requires-clause-group g c =
@@ -76,15 +53,15 @@ do_in_world-requires-clause-goes_on g c = (
   (store_seen (tables_of c.args.code.now) c.requires.goes_on.0 c.args.m.now),
   (
     refl,
-    done_lacks (tables_of c.args.code.now) (extent c.args.m.now) c.args.m.now.stacks.table c.frames-in-World.result.now.flat c.args.instr
-        (store_seen (tables_of c.args.code.now) c.requires.goes_on.0 c.args.m.now) c.frames-in-World.ensures.running c.requires.goes_on.1,
+    done_lacks (tables_of c.args.code.now) (extent c.args.m.now) c.args.m.now.stacks.table c.frames.result.now.flat c.args.instr
+        (store_seen (tables_of c.args.code.now) c.requires.goes_on.0 c.args.m.now) c.frames.ensures.running c.requires.goes_on.1,
   ),
 )
 
 pub do_in_world-requires-clause-live : goal.do_in_world-requires-clause-live
 do_in_world-requires-clause-live g c =
-    running_live (tables_of c.args.code.now) (world_reach c.args.m.now) c.args.m.now.stacks.table c.frames-in-World.result.now.flat
-    c.frames-in-World.ensures.running c.requires.sound.stacks
+    running_live (tables_of c.args.code.now) (world_reach c.args.m.now) c.args.m.now.stacks.table c.frames.result.now.flat
+    c.frames.ensures.running c.requires.sound.stacks
 
 pub do_on_machine-requires-clause-group : goal.do_on_machine-requires-clause-group
 do_on_machine-requires-clause-group g c =
@@ -130,29 +107,6 @@ pub unreachable-requires : goal.unreachable-requires
 unreachable-requires g c =
     c.requires.kind (sym c.group_of.ensures ∙ c.in-Application.is)
 
-pub returns-in-Ok-clause-step : goal.returns-in-Ok-clause-step
-returns-in-Ok-clause-step g c =
-    λ outside. stack_runs (tables_of c.args.code.now) (all_names (tables_of c.args.code.now)) outside (world_of c.args.m.now.world) c.args.m.now.turns
-    c.args.m.now.begun.items (extent c.args.m.now) c.args.m.now.stacks.table c.frames.result.now.flat c.do_on_stack.new.frames.flat c.args.instr
-    c.frames.ensures.running c.in-Ok.ensures.step
-
-pub returns-in-Ok-clause-sound : goal.returns-in-Ok-clause-sound
-returns-in-Ok-clause-sound g c =
-    let k = c.requires.sound in
-    record {
-      stacks = stacks_on (tables_of c.args.code.now) (world_reach c.args.m.now) c.args.m.now.stacks.table c.frames.result.now.flat
-          c.do_on_stack.new.frames.flat c.frames.ensures.running
-          (λ l. c.in-Ok.ensures.live (world_reach c.args.m.now) (may_name
-          (tables_of c.args.code.now) c.requires.variables.0 c.args.m.now c.requires.variables.1) l) k.stacks;
-      bounds = k.bounds;
-      counts = k.counts;
-      counted = record { results = k.counted.results; activators = k.counted.activators };
-    }
-
-pub returns-in-Err-clause-no_memory : goal.returns-in-Err-clause-no_memory
-returns-in-Err-clause-no_memory g c =
-    λ e. absurd (error_is_not_ok (Unit {0}) c.in-Err.field-0 (c.in-Err.ensures.no_memory e))
-
 pub returns-in-World-clause-step : goal.returns-in-World-clause-step
 returns-in-World-clause-step g c =
     let after : Machine g.row.K.Denot
@@ -164,8 +118,8 @@ returns-in-World-clause-step g c =
       limits = c.args.m.now.limits;
     } in
     λ outside. world_comes after (tables_of c.args.code.now) c.requires.goes_on.0 outside c.args.m.now.world c.args.m.now.stacks.table
-    c.frames-in-World.result.now.flat c.do_in_world.new.frames.flat c.args.instr c.do_in_world.result refl c.do_in_world.ensures.leaves.kept
-    c.requires.sound.stacks c.frames-in-World.ensures.running c.do_in_world.ensures.step c.requires.goes_on.1
+    c.frames.result.now.flat c.do_in_world.new.frames.flat c.args.instr c.do_in_world.result refl c.do_in_world.ensures.leaves.kept
+    c.requires.sound.stacks c.frames.ensures.running c.do_in_world.ensures.step c.requires.goes_on.1
 
 pub returns-in-World-clause-sound : goal.returns-in-World-clause-sound
 returns-in-World-clause-sound g c =
@@ -235,9 +189,6 @@ pub returns-in-Coexpression-clause-no_memory : goal.returns-in-Coexpression-clau
 returns-in-Coexpression-clause-no_memory g c =
     c.do_with_coexpressions.ensures.no_memory
 
-pub returns-in-Ok-clause-stack : goal.returns-in-Ok-clause-stack
-returns-in-Ok-clause-stack g c = refl
-
 pub returns-in-Machine-clause-stack : goal.returns-in-Machine-clause-stack
 returns-in-Machine-clause-stack g c = c.do_on_machine.ensures.stack
 
@@ -249,5 +200,23 @@ returns-in-World-clause-stack g c =
     let m = c.args.m.now in
     let after : Machine g.row.K.Denot
     = record { world = c.do_in_world.new.world; stacks = with_stack m.stacks c.do_in_world.new.frames; turns = m.turns; begun = m.begun; limits = m.limits } in
-    world_stack after (tables_of c.args.code.now) c.args.instr m.world c.frames-in-World.result.now.flat c.do_in_world.new.world
+    world_stack after (tables_of c.args.code.now) c.args.instr m.world c.frames.result.now.flat c.do_in_world.new.world
     c.do_in_world.new.frames.flat c.do_in_world.result (store_seen (tables_of c.args.code.now) c.requires.goes_on.0 m) refl refl c.do_in_world.ensures.step
+
+pub returns-in-Stack-clause-step : goal.returns-in-Stack-clause-step
+returns-in-Stack-clause-step g c = c.do_stack_instruction.ensures.step
+
+pub returns-in-Stack-clause-sound : goal.returns-in-Stack-clause-sound
+returns-in-Stack-clause-sound g c = c.do_stack_instruction.ensures.sound
+
+pub returns-in-Stack-clause-halt : goal.returns-in-Stack-clause-halt
+returns-in-Stack-clause-halt g c = c.do_stack_instruction.ensures.halt
+
+pub returns-in-Stack-clause-stack : goal.returns-in-Stack-clause-stack
+returns-in-Stack-clause-stack g c = c.do_stack_instruction.ensures.stack
+
+pub returns-in-Stack-clause-limits : goal.returns-in-Stack-clause-limits
+returns-in-Stack-clause-limits g c = c.do_stack_instruction.ensures.limits
+
+pub returns-in-Stack-clause-no_memory : goal.returns-in-Stack-clause-no_memory
+returns-in-Stack-clause-no_memory g c = c.do_stack_instruction.ensures.no_memory

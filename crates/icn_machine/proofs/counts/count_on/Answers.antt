@@ -13,8 +13,8 @@ returns-in_default-clause-counts g c =
     let count = c.args.count in
     let given : FitsSigned w64 count.given = search rules in
     let step : FitsSigned w64 count.step = search rules in
-    let sums : c.computed.result ≡ result_ok (sum count.given count.step)
-    = c.computed.ensures ∙ ap result_ok (c.add.ensures ∙ held_sum count.given count.step given step) in
+    let sums : c.computed_number.result ≡ result_ok (sum count.given count.step)
+    = c.computed_number.ensures ∙ ap result_ok (c.add.ensures ∙ held_sum count.given count.step given step) in
     counts_past count c.args.frames.now.flat (sym sums ∙ c.in_default.is)
 
 pub returns-clause-counts : goal.returns-clause-counts
@@ -27,8 +27,8 @@ returns-clause-counts g c =
     let fits : FitsSigned w64 n = search rules in
     let next : Count
     = record { given = to_z w64 (of_z w64 n); last = to_z w64 (of_z w64 count.last); step = to_z w64 (of_z w64 count.step) } in
-    let sums : c.computed.result ≡ result_ok (sum count.given count.step)
-    = c.computed.ensures ∙ ap result_ok (c.add.ensures ∙ held_sum count.given count.step given step) in
+    let sums : c.computed_number.result ≡ result_ok (sum count.given count.step)
+    = c.computed_number.ensures ∙ ap result_ok (c.add.ensures ∙ held_sum count.given count.step given step) in
     let more : result_ok (sum count.given count.step) ≡ Some next.given
     = sym sums ∙ c.in-Some.is ∙ ap (λ (x : ℤ). Some x) (sym (to_z-of_z w64 n fits)) in
     counts_if count next c.args.frames.now.flat c.give_count.new.frames.flat c.give_count.result more (to_z-of_z w64 count.last last)

@@ -1,7 +1,6 @@
 use Rattle.std.proofs.Common.{◌≡◌, Ok, ◌-◌}
 use Rattle.icn_code.specs.Codes.{Tables}
 use Rattle.icn_run.specs.Step.{all_names}
-use Rattle.icn_streams.specs.Handed.{call_streams}
 use Rattle.icn_machine.specs.Stepping.{GoesOn, IsFailing, IsReady, is_failing}
 use Rattle.icn_machine.proofs.LoopSteps.{failing_left}
 use Rattle.icn_machine.proofs.failing.fail_through.Given as goal
@@ -9,9 +8,7 @@ use Rattle.icn_machine.proofs.failing.fail_through.Given as goal
 abbrev pub invariant-loop-m : goal.invariant-loop-m
 invariant-loop-m g l = record {
   steps : (tables : Tables) → all_names tables ≡ g.N.Names.known l.names → IsReady tables l.initial.m l.fn.from
-      → GoesOn IsFailing tables l.initial.m l.fn.from (call_streams (g.I.Source.left l.initial.input) (g.I.Source.counts l.initial.input)
-      (g.O.Sink.state l.initial.out) (g.E.Sink.state l.initial.err)) l.m (call_streams (g.I.Source.left l.input) (g.I.Source.counts l.input)
-      (g.O.Sink.state l.out) (g.E.Sink.state l.err)) (Ok l.stage);
+      → GoesOn IsFailing tables l.initial.m l.fn.from (g.S.Streams.state l.initial.streams) l.m (g.S.Streams.state l.streams) (Ok l.stage);
   ready : (tables : Tables) → all_names tables ≡ g.N.Names.known l.names → IsReady tables l.initial.m l.fn.from → IsReady tables l.m l.stage;
   limits : l.m.limits ≡ l.initial.m.limits;
 }

@@ -1,7 +1,6 @@
 use Rattle.std.proofs.Common.{◌≡◌, Ok, length}
 use Rattle.icn_code.specs.Codes.{Tables}
 use Rattle.icn_run.specs.Step.{all_names}
-use Rattle.icn_streams.specs.Handed.{call_streams}
 use Rattle.icn_control.specs.Machines.{stack_seen}
 use Rattle.icn_control.specs.declared.machine.RunState.TheVariants as RunStates
 use Rattle.icn_machine.specs.Stepping.{GoesOn, IsFailing, IsReady, fails_within}
@@ -11,9 +10,7 @@ use Rattle.icn_machine.proofs.failing.fail_to_turn.Given as goal
 abbrev pub invariant-loop-stage : goal.invariant-loop-stage
 invariant-loop-stage g l = record {
   steps : (tables : Tables) → all_names tables ≡ g.N.Names.known l.names → IsReady tables l.initial.m RunStates.Failing
-      → GoesOn IsFailing tables l.initial.m RunStates.Failing (call_streams (g.I.Source.left l.initial.input) (g.I.Source.counts l.initial.input)
-      (g.O.Sink.state l.initial.out) (g.E.Sink.state l.initial.err)) l.m (call_streams (g.I.Source.left l.input) (g.I.Source.counts l.input)
-      (g.O.Sink.state l.out) (g.E.Sink.state l.err)) (Ok l.stage);
+      → GoesOn IsFailing tables l.initial.m RunStates.Failing (g.S.Streams.state l.initial.streams) l.m (g.S.Streams.state l.streams) (Ok l.stage);
   ready : (tables : Tables) → all_names tables ≡ g.N.Names.known l.names → IsReady tables l.initial.m RunStates.Failing → IsReady tables l.m l.stage;
   turn : WithinTurn l.initial.m l.m l.stage;
   limits : l.m.limits ≡ l.initial.m.limits;

@@ -8,7 +8,6 @@ use Rattle.icn_heap.specs.Heaps.{extent_of, heap_of}
 use Rattle.law_names.specs.NamedSettings.{ItemNamed}
 use Rattle.icn_vars.specs.Worlds.{item_in, reach_of}
 use Rattle.icn_coexp.specs.Transfers.{with_stack}
-use Rattle.icn_run.specs.Stacks.{flat}
 use Rattle.law_steps.proofs.CallsNamed as named
 use Rattle.icn_control.specs.StackViews.{stack_in}
 use Rattle.icn_control.specs.declared.machine.Machine.{Machine}
@@ -16,19 +15,11 @@ use Rattle.icn_control.proofs.ExhaustSteps.{nat_lt_true}
 use Rattle.icn_control.proofs.LiteralSteps.{running_live}
 use Rattle.icn_control.proofs.TakenOperandSteps.{live_taken}
 use Rattle.icn_machine.proofs.PerformEvents.{unless_both}
-use Rattle.icn_machine.proofs.OperateSteps.{has_stack, named_running, named_taken, operates, performs_idle, performs_on, sound_after, taken_as, taken_count}
+use Rattle.icn_machine.proofs.OperateSteps.{has_stack, named_running, named_taken, operates, performs_idle, performs_on, sound_after, taken_as}
 use Rattle.icn_machine.proofs.operations.operate_by_row.Goals as goal
 
 pub returns-in_default-clause-step : goal.returns-in_default-clause-step
 returns-in_default-clause-step g c tables names = performs_idle _ _ _
-
-pub perform-requires-clause-applicable : goal.perform-requires-clause-applicable
-perform-requires-clause-applicable g c =
-    let f = c.frames.result.now.flat in
-    let k = c.take_operands.new.frames.flat in
-    let items = c.take_operands.new.items.items in
-    let taken = taken_as c.arity.result (arity c.args.op) f k k items c.deref.result.now c.in-Ok.ensures.taken c.arity.ensures refl c.deref.ensures.value in
-    (c.requires.row, taken_count (arity c.args.op) f k c.deref.result.now taken)
 
 pub perform-requires-clause-here : goal.perform-requires-clause-here
 perform-requires-clause-here g c = record {

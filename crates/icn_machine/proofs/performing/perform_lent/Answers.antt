@@ -16,9 +16,6 @@ invariant_of-own g c = record {
       c.local_count.ensures.same;
 }
 
-pub apply-answer-requires-clause-applicable : goal.apply-answer-requires-clause-applicable
-apply-answer-requires-clause-applicable g c = c.requires.applicable
-
 pub apply-answer-requires-clause-args : goal.apply-answer-requires-clause-args
 apply-answer-requires-clause-args g c =
     subst (λ (r : Reach). All (IsLiveItem r) c.args.items.now)

@@ -2,7 +2,6 @@ use Rattle.std.proofs.Common.{◌≡◌, ◌∙◌, ℤ, FitsSigned, List, Optio
 use Rattle.std.proofs.lemmas.Int.{to_z-of_z}
 use Rattle.std.specs.Int.{w64}
 use Rattle.icn_text.specs.declared.op.Op.TheVariants as Ops
-use Rattle.icn_value.specs.declared.item.Item.TheVariants as Items
 use Rattle.icn_value.specs.declared.val.Val.{Val}
 use Rattle.icn_value.specs.declared.val.Val.TheVariants as Vals
 use Rattle.icn_frames.specs.Stacks as held

@@ -58,6 +58,56 @@ returns-then-is_applied-clause-within g c = record {
   limits = c.settle.ensures.within.limits ∙ c.do_applied-answer.ensures.within.limits ∙ c.next_instr-instr.ensures.limits;
 }
 
+pub do_on_stack-answer-requires-clause-firsts : goal.do_on_stack-answer-requires-clause-firsts
+do_on_stack-answer-requires-clause-firsts g c = c.requires.firsts
+
+pub do_on_stack-answer-requires-clause-group : goal.do_on_stack-answer-requires-clause-group
+do_on_stack-answer-requires-clause-group g c = c.is_on_stack.ensures c.if-is_on_stack.true
+
+pub do_on_stack-answer-requires-clause-doing : goal.do_on_stack-answer-requires-clause-doing
+do_on_stack-answer-requires-clause-doing g c = c.next_instr-instr.ensures.doing
+
+pub settle-requires-then-is_on_stack-clause-halt : goal.settle-requires-then-is_on_stack-clause-halt
+settle-requires-then-is_on_stack-clause-halt g c = c.do_on_stack-answer.ensures.within.halt
+
+pub settle-requires-then-is_on_stack-clause-known : goal.settle-requires-then-is_on_stack-clause-known
+settle-requires-then-is_on_stack-clause-known g c =
+    ready_known (tables_of c.args.code.now) c.do_on_stack-answer.new.m c.do_on_stack-answer.result c.do_on_stack-answer.ensures.erring
+
+pub returns-then-is_on_stack-clause-steps : goal.returns-then-is_on_stack-clause-steps
+returns-then-is_on_stack-clause-steps g c =
+    let instr = c.next_instr-instr.result in
+    let k = c.next_instr-instr.new.m in
+    next_step (tables_of c.args.code.now) c.args.m.now k instr _ c.settle-then-is_on_stack.new.m _ c.settle-then-is_on_stack.result
+    c.next_instr-instr.ensures.step
+    (settles_on (tables_of c.args.code.now)
+    (λ o. does (tables_of c.args.code.now) o instr k) c.do_on_stack-answer.new.m c.settle-then-is_on_stack.new.m _ _ c.do_on_stack-answer.result
+    c.settle-then-is_on_stack.result (c.settle-then-is_on_stack.ensures.step (tables_of c.args.code.now)) c.settle-then-is_on_stack.ensures.same
+    (comes_performs (tables_of c.args.code.now)
+    (λ o. does (tables_of c.args.code.now) o instr k) c.do_on_stack-answer.new.m _ c.do_on_stack-answer.result c.do_on_stack-answer.ensures.step))
+
+pub returns-then-is_on_stack-clause-ready : goal.returns-then-is_on_stack-clause-ready
+returns-then-is_on_stack-clause-ready g c =
+    settled_ready
+    (tables_of c.args.code.now) c.do_on_stack-answer.new.m c.settle-then-is_on_stack.new.m c.do_on_stack-answer.result
+    c.settle-then-is_on_stack.result c.do_on_stack-answer.ensures.ready
+    c.do_on_stack-answer.ensures.erring (c.settle-then-is_on_stack.ensures.step (tables_of c.args.code.now))
+    (c.settle-then-is_on_stack.ensures.sound (tables_of c.args.code.now)) c.settle-then-is_on_stack.ensures.stack
+    c.settle-then-is_on_stack.ensures.same
+
+pub returns-then-is_on_stack-clause-whole : goal.returns-then-is_on_stack-clause-whole
+returns-then-is_on_stack-clause-whole g c instr at whole =
+    let same : instr ≡ c.next_instr-instr.result = same_Some _ _ (sym at ∙ c.next_instr-instr.ensures.instr) in
+    settled_whole c.do_on_stack-answer.new.m c.settle-then-is_on_stack.new.m c.do_on_stack-answer.result c.settle-then-is_on_stack.result
+    c.settle-then-is_on_stack.ensures.same
+    (c.do_on_stack-answer.ensures.whole (subst (λ (x : Instr). is_whole x ≡ true) same whole))
+
+pub returns-then-is_on_stack-clause-within : goal.returns-then-is_on_stack-clause-within
+returns-then-is_on_stack-clause-within g c = record {
+  halt = c.settle-then-is_on_stack.ensures.within.halt;
+  limits = c.settle-then-is_on_stack.ensures.within.limits ∙ c.do_on_stack-answer.ensures.within.limits ∙ c.next_instr-instr.ensures.limits;
+}
+
 pub do_plain-answer-requires-clause-firsts : goal.do_plain-answer-requires-clause-firsts
 do_plain-answer-requires-clause-firsts g c = c.requires.firsts
 

@@ -26,8 +26,10 @@ returns-in_err-order-clause-live g c =
 pub returns-clause-row : goal.returns-clause-row
 returns-clause-row g c = λ outside.
     c.in_ok-order.ensures.found outside (λ (two : Ordering × ℤ). fails_unless (is_eq two.0) (gives_value (Integer two.1)))
-    ∙ (ap (λ met. fails_unless met (gives_value (Integer c.in_ok-order.n)) (setting_of outside c.args.w.now (g.L.Locals.items c.args.l.now))) (sym c.is_eq.ensures)
-    ∙ (sym (held_one (λ n. fails_unless c.is_eq.result (gives_value (Integer n)) (setting_of outside c.args.w.now (g.L.Locals.items c.args.l.now))) c.in_ok-order.n
+    ∙ (ap (λ met. fails_unless met (gives_value (Integer c.in_ok-order.n)) (setting_of outside c.args.w.now (g.L.Locals.items c.args.l.now)))
+    (sym c.is_eq.ensures)
+    ∙ (sym (held_one (λ n. fails_unless c.is_eq.result (gives_value (Integer n)) (setting_of outside c.args.w.now (g.L.Locals.items c.args.l.now)))
+    c.in_ok-order.n
     (let fits : FitsSigned w64 c.in_ok-order.n = search rules in fits))
     ∙ c.value_if.ensures.row (extent_of c.args.w.now.heap) (setting_of outside c.args.w.now (g.L.Locals.items c.args.l.now))))
 

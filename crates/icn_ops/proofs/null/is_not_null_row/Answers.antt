@@ -10,7 +10,8 @@ use Rattle.icn_ops.proofs.null.is_not_null_row.Goals as goal
 pub returns-in_err-val-clause-row : goal.returns-in_err-val-clause-row
 returns-in_err-val-clause-row g c = λ outside.
     row_stops (extent_of c.args.w.now.heap) (the_value (item_in (extent_of c.args.w.now.heap) c.args.x))
-    (λ v. fails_unless (not (is_null v)) (gives (item_in (extent_of c.args.w.now.heap) c.args.x))) (setting_of outside c.args.w.now (g.L.Locals.items c.args.l.now))
+    (λ v. fails_unless (not (is_null v)) (gives (item_in (extent_of c.args.w.now.heap) c.args.x)))
+    (setting_of outside c.args.w.now (g.L.Locals.items c.args.l.now))
     (setting_of outside c.args.w.now (g.L.Locals.items c.args.l.now)) c.in_err-val.field-0.0 c.from_residual.result c.from_residual.ensures.1
     (c.in_err-val.ensures.value outside)
 

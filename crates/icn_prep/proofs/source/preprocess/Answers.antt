@@ -89,6 +89,7 @@ loop-file-preserved-in-Some-stop g c = record {
       c.in_ok-next.ensures.cursor (rw (c.in_ok-next.ensures.at, c.in_ok-next.ensures.content) refl));
   same = grind (arith, common_steps);
   faults = grind (arith, common_steps);
+  wants = grind (arith, common_steps);
   absences = grind (arith, common_steps);
   named =
       let names : vec_len c.read_lines.new.reading.names ≡ vec_len c.leave_empty.new.reading.names =
@@ -115,6 +116,7 @@ loop-file-preserved g c = record {
       (rw c.deref.ensures.value at ended);
   same = grind (arith, common_steps);
   faults = grind (arith, common_steps);
+  wants = grind (arith, common_steps);
   absences = grind (arith, common_steps);
   named = named_front (vec_len c.loop-file.reading.names) _ c.loop-file.stack.items c.pop.new.self.items c.in-Some.file c.loop-file.invariant.named
       c.in-Some.ensures.items (omega (arith, c.in_ok-stop.ensures.kept));

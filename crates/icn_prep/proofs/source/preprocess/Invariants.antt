@@ -11,6 +11,7 @@ invariant-loop-file g l = record {
   so : (held : FileMap) → g.F.Files.held l.fn.files ≡ Some held → StackSo held (named_file held l.name (held l.name)) l.stack.items (state_of l.reading);
   same : g.F.Files.held l.files ≡ g.F.Files.held l.fn.files;
   faults : g.F.Files.faults l.files ≡ g.F.Files.faults l.fn.files;
+  wants : g.F.Files.wants l.files ≡ g.F.Files.wants l.fn.files;
   absences : g.F.Files.absences l.fn.files ≤ g.F.Files.absences l.files;
   named : All (λ f. f.cursor.file < vec_len l.reading.names) l.stack.items;
   first : slice_get l.reading.names.items 0 ≡ Some l.name;

@@ -1,7 +1,6 @@
 use Rattle.std.proofs.Common.{◌≡◌, ◌⊎◌, Ok}
 use Rattle.std.specs.Prelude.{IsTrue}
 use Rattle.icn_code.specs.CodeTables.{tables_of}
-use Rattle.icn_streams.specs.Handed.{call_streams}
 use Rattle.icn_control.specs.declared.machine.RunState.TheVariants as RunStates
 use Rattle.icn_machine.specs.Stepping.{GoesOn, IsAny, IsReady}
 use Rattle.icn_machine.specs.AfterInstruction.{stage_of}
@@ -13,8 +12,8 @@ use Rattle.icn_running.proofs.running.run_to_turn.Given as goal
 abbrev pub invariant-loop-stepped : goal.invariant-loop-stepped
 invariant-loop-stepped g l = record {
   steps : GoesOn IsAny (tables_of l.code.code) l.initial.m RunStates.Running
-      (call_streams (g.I.Source.left l.initial.input) (g.I.Source.counts l.initial.input) (g.O.Sink.state l.initial.out) (g.E.Sink.state l.initial.err))
-      l.m (call_streams (g.I.Source.left l.input) (g.I.Source.counts l.input) (g.O.Sink.state l.out) (g.E.Sink.state l.err)) (Ok (stage_of l.stepped));
+      (g.S.Streams.state l.initial.streams)
+      l.m (g.S.Streams.state l.streams) (Ok (stage_of l.stepped));
   ready : IsReady (tables_of l.code.code) l.m (stage_of l.stepped);
   lasts : IsTrue (is_on l.stepped) → Lasts (tables_of l.code.code) l.m;
   turn : IsTrue (is_on l.stepped) → (l.m.turns ≡ l.initial.m.turns) ⊎ MadeTurn l.initial.m l.m;

@@ -1,6 +1,7 @@
 use Rattle.std.proofs.Common.{List, ℕ}
 use Rattle.std.proofs.Common.{◌∙◌, sym, ap, subst, [], ◌∷◌, map}
 use Rattle.icn_value.specs.Values.{Value}
+use Rattle.icn_convert.specs.TextCharges.{MakesNoText}
 use Rattle.icn_defs.specs.Rows.{builds, costs_texts}
 use Rattle.icn_defs.specs.Strings.{field_row}
 use Rattle.icn_heap.specs.Extents.{text_in, value_in}
@@ -13,6 +14,7 @@ use Rattle.icn_strfn.specs.TextArguments.{argument_bytes, or_default}
 use Rattle.icn_strfn.specs.declared.text_arguments.DefaultText.TheVariants.{Blank}
 use Rattle.icn_strfn.proofs.RowAnswers.{row_goes_on, row_stops_at, stops_so}
 use Rattle.icn_strfn.proofs.CheckedRows as steps
+use Rattle.icn_strfn.proofs.RowLimits.{error_no_want, limit_before}
 use Rattle.icn_strfn.proofs.laid_rows.field_row.Goals as goal
 
 pub returns-in_err-width-clause-row : goal.returns-in_err-width-clause-row
@@ -63,3 +65,27 @@ returns-clause-row g c = λ outside.
 
 pub returns-clause-kept : goal.returns-clause-kept
 returns-clause-kept g c = keeps_items_trans _ _ _ c.two_texts.ensures.kept c.build_laid_out.ensures.kept
+
+pub returns-in_err-width-clause-limits : goal.returns-in_err-width-clause-limits
+returns-in_err-width-clause-limits g c = λ held held_fill wanting.
+    absurd (error_no_want c.in_err-width.field-0.0 c.from_residual.result c.from_residual.ensures.1 c.in_err-width.ensures.error wanting)
+
+pub returns-in_err-span-clause-limits : goal.returns-in_err-span-clause-limits
+returns-in_err-span-clause-limits g c = λ held held_fill.
+    absurd (c.in_err-span.ensures.held (subst MakesNoText (sym (c.arg-val.ensures.value (extent_of c.args.w.now.heap))) held)
+    (subst MakesNoText (sym (c.arg-other.ensures.value (extent_of c.args.w.now.heap))) held_fill))
+
+pub returns-clause-limits : goal.returns-clause-limits
+returns-clause-limits g c = λ held held_fill wanting outside at.
+    let text : List ℕ = text_in (extent_of c.two_texts.new.w.heap) c.in_ok-span.span in
+    let fill : List ℕ = argument_bytes (extent_of c.two_texts.new.w.heap) c.in_ok-span.fill in
+    limit_before (field_row (laid_out c.args.layout) (map (value_in (extent_of c.args.w.now.heap)) c.args.args.now))
+    (laid_out c.args.layout text c.in_ok-width.width fill)
+    (setting_of outside c.args.w.now (g.L.Locals.items c.args.l.now))
+    (setting_of outside c.two_texts.new.w (g.L.Locals.items c.args.l.now)) at c.build_laid_out.result
+    (steps.field_made (map (value_in (extent_of c.args.w.now.heap)) c.args.args.now) (value_in (extent_of c.args.w.now.heap) c.arg-val.result)
+    (value_in (extent_of c.args.w.now.heap) c.arg-other.result) (laid_out c.args.layout) c.in_ok-width.width text fill
+    (setting_of outside c.args.w.now (g.L.Locals.items c.args.l.now)) (setting_of outside c.two_texts.new.w (g.L.Locals.items c.args.l.now))
+    (c.arg-val.ensures.value (extent_of c.args.w.now.heap)) (c.arg-other.ensures.value (extent_of c.args.w.now.heap)) c.in_ok-width.ensures.field
+    (c.in_ok-span.ensures.step outside) c.in_ok-span.ensures.first_text c.in_ok-span.ensures.second_text)
+    c.build_laid_out.ensures.limits wanting

@@ -1,5 +1,7 @@
 use Rattle.std.proofs.Common.{◌∙◌, sym, ap, subst, List, ℕ, [], ◌∷◌, map}
 use Rattle.icn_value.specs.Values.{Value}
+use Rattle.icn_convert.specs.TextCharges.{MakesNoText}
+use Rattle.icn_defs.specs.Calls.{Passes}
 use Rattle.icn_defs.specs.Rows.{builds, costs_text, costs_texts}
 use Rattle.icn_defs.specs.Strings.{map_row, map_byte}
 use Rattle.icn_heap.specs.Extents.{text_in, value_in}
@@ -12,6 +14,7 @@ use Rattle.icn_strfn.specs.declared.text_arguments.DefaultText.TheVariants.{Uppe
 use Rattle.icn_strfn.proofs.RowAnswers.{row_goes_on, row_stops_at, stops_so}
 use Rattle.icn_strfn.proofs.KeptArguments.{argument_stays, same_argument}
 use Rattle.icn_strfn.proofs.CheckedRows as steps
+use Rattle.icn_strfn.proofs.RowLimits.{error_no_want, limit_before}
 use Rattle.icn_strfn.proofs.laid_rows.map_row.Goals as goal
 
 pub returns-in_err-checked_mapping-clause-row : goal.returns-in_err-checked_mapping-clause-row
@@ -116,3 +119,41 @@ returns-clause-row g c = λ outside.
 pub returns-clause-kept : goal.returns-clause-kept
 returns-clause-kept g c =
     keeps_items_trans _ _ _ c.two_texts.ensures.kept (keeps_items_trans _ _ _ c.text_argument.ensures.kept c.build_mapped.ensures.kept)
+
+pub returns-in_err-checked_mapping-clause-limits : goal.returns-in_err-checked_mapping-clause-limits
+returns-in_err-checked_mapping-clause-limits g c = λ held held_from held_to wanting.
+    absurd (error_no_want c.in_err-checked_mapping.field-0.0 c.from_residual.result c.from_residual.ensures.1 c.in_err-checked_mapping.ensures.error wanting)
+
+pub returns-in_err-span-clause-limits : goal.returns-in_err-span-clause-limits
+returns-in_err-span-clause-limits g c = λ held held_from held_to.
+    absurd (c.in_err-span.ensures.held (subst MakesNoText (sym (c.arg-val.ensures.value (extent_of c.args.w.now.heap))) held)
+    (subst MakesNoText (sym (c.arg-from.ensures.value (extent_of c.args.w.now.heap))) held_from))
+
+pub returns-in_err-second-clause-limits : goal.returns-in_err-second-clause-limits
+returns-in_err-second-clause-limits g c = λ held held_from held_to.
+    absurd (c.in_err-second.ensures.held (subst MakesNoText (sym (c.two_texts.ensures.kept.extent.value c.arg-to.result
+    (c.arg-to.ensures.live (extent_of c.args.w.now.heap) c.requires.args) ∙ c.arg-to.ensures.value (extent_of c.args.w.now.heap))) held_to))
+
+pub returns-clause-limits : goal.returns-clause-limits
+returns-clause-limits g c = λ held held_from held_to wanting outside at.
+    let text : List ℕ = text_in (extent_of c.text_argument.new.w.heap) c.in_ok-span.span in
+    let from : List ℕ = argument_bytes (extent_of c.text_argument.new.w.heap) c.in_ok-span.first in
+    let to : List ℕ = argument_bytes (extent_of c.text_argument.new.w.heap) c.in_ok-second.second in
+    limit_before (map_row (map (value_in (extent_of c.args.w.now.heap)) c.args.args.now)) (map (map_byte from to) text)
+    (setting_of outside c.args.w.now (g.L.Locals.items c.args.l.now))
+    (setting_of outside c.text_argument.new.w (g.L.Locals.items c.args.l.now)) at c.build_mapped.result
+    (steps.map_made (map (value_in (extent_of c.args.w.now.heap)) c.args.args.now) (value_in (extent_of c.args.w.now.heap) c.arg-val.result)
+    (value_in (extent_of c.args.w.now.heap) c.arg-from.result) (value_in (extent_of c.args.w.now.heap) c.arg-to.result) text from to
+    (setting_of outside c.args.w.now (g.L.Locals.items c.args.l.now)) (setting_of outside c.two_texts.new.w (g.L.Locals.items c.args.l.now))
+    (setting_of outside c.text_argument.new.w (g.L.Locals.items c.args.l.now)) (c.arg-val.ensures.value (extent_of c.args.w.now.heap))
+    (c.arg-from.ensures.value (extent_of c.args.w.now.heap)) (c.arg-to.ensures.value (extent_of c.args.w.now.heap)) c.in_ok-checked_mapping.ensures.mapping
+    (c.in_ok-span.ensures.step outside)
+    (subst (λ (v : Value). Passes (costs_text v) (setting_of outside c.two_texts.new.w (g.L.Locals.items c.args.l.now))
+    (setting_of outside c.text_argument.new.w (g.L.Locals.items c.args.l.now)))
+    (c.two_texts.ensures.kept.extent.value c.arg-to.result (c.arg-to.ensures.live (extent_of c.args.w.now.heap) c.requires.args))
+    (c.in_ok-second.ensures.step outside))
+    (c.text_argument.ensures.kept.extent.bytes c.in_ok-span.span c.in_ok-span.ensures.first_live ∙ c.in_ok-span.ensures.first_text)
+    (same_argument _ _ c.text_argument.ensures.kept.extent c.in_ok-span.first c.in_ok-span.ensures.second_live ∙ c.in_ok-span.ensures.second_text)
+    (c.in_ok-second.ensures.text ∙ ap (λ (v : Value). the_text (or_default Lower v))
+    (c.two_texts.ensures.kept.extent.value c.arg-to.result (c.arg-to.ensures.live (extent_of c.args.w.now.heap) c.requires.args))))
+    c.build_mapped.ensures.limits wanting

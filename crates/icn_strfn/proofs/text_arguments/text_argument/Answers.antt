@@ -10,3 +10,6 @@ returns-in_err-span-in_default-clause-step g c = λ outside.
     passed_stops (extent_of c.text_of.new.w.heap) (costs_text (value_in (extent_of c.args.w.now.heap) c.args.val))
     (setting_of outside c.args.w.now (g.L.Locals.items c.args.l.now)) (setting_of outside c.text_of.new.w (g.L.Locals.items c.args.l.now))
     c.in_err-span-in_default.field-0.0 c.from_residual.result c.from_residual.ensures.1 (c.in_err-span-in_default.ensures.step outside)
+
+pub returns-in_err-span-in_default-clause-held : goal.returns-in_err-span-in_default-clause-held
+returns-in_err-span-in_default-clause-held g c = λ held. absurd (c.in_err-span-in_default.ensures.held held)

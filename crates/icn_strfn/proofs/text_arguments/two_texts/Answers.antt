@@ -1,5 +1,6 @@
 use Rattle.std.proofs.Common.{◌≡◌, ◌∙◌, sym, ap, subst}
 use Rattle.icn_value.specs.Values.{Value}
+use Rattle.icn_convert.specs.TextCharges.{MakesNoText}
 use Rattle.icn_defs.specs.Rows.{costs_text}
 use Rattle.icn_heap.specs.Extents.{value_in}
 use Rattle.icn_heap.specs.Heaps.{extent_of}
@@ -43,3 +44,10 @@ returns-clause-step g c = λ outside next.
     ∙ subst (λ (value : Value). costs_text value next (setting_of outside c.text_of.new.w (g.L.Locals.items c.args.l.now))
     ≡ next (setting_of outside c.text_argument.new.w (g.L.Locals.items c.args.l.now)))
     (c.text_of.ensures.kept.extent.value c.args.other c.requires.second) (c.in_ok-argument.ensures.step outside next)
+
+pub returns-in_err-text-clause-held : goal.returns-in_err-text-clause-held
+returns-in_err-text-clause-held g c = λ first second. absurd (c.in_err-text.ensures.held first)
+
+pub returns-in_err-argument-clause-held : goal.returns-in_err-argument-clause-held
+returns-in_err-argument-clause-held g c = λ first second.
+    absurd (c.in_err-argument.ensures.held (subst MakesNoText (sym (c.text_of.ensures.kept.extent.value c.args.other c.requires.second)) second))

@@ -1,7 +1,8 @@
 use Rattle.std.proofs.Common.{List, ℕ}
 use Rattle.std.proofs.Common.{FitsSigned, w64, rules}
 use Rattle.std.proofs.lemmas.Int.{to_z-of_z}
-use Rattle.std.proofs.Common.{◌∙◌, sym, ap, map, replicate}
+use Rattle.std.proofs.Common.{◌∙◌, sym, ap, subst, map, replicate}
+use Rattle.icn_convert.specs.TextCharges.{MakesNoText}
 use Rattle.std.specs.List.{concat}
 use Rattle.icn_defs.specs.Rows.{builds, costs_text}
 use Rattle.icn_defs.specs.Strings.{repl_row}
@@ -12,6 +13,7 @@ use Rattle.icn_vars.specs.Worlds.{setting_of}
 use Rattle.icn_args.specs.RowWords.{the_text}
 use Rattle.icn_strfn.proofs.RowAnswers.{row_goes_on, row_stops_at}
 use Rattle.icn_strfn.proofs.CheckedRows as steps
+use Rattle.icn_strfn.proofs.RowLimits.{limit_before}
 use Rattle.icn_strfn.proofs.text_rows.repl_row.Goals as goal
 
 pub returns-in_default-clause-row : goal.returns-in_default-clause-row
@@ -67,3 +69,25 @@ returns-clause-row g c = λ outside.
 
 pub returns-clause-kept : goal.returns-clause-kept
 returns-clause-kept g c = keeps_items_trans _ _ _ c.text_of.ensures.kept c.build_repeated.ensures.kept
+
+pub returns-in_err-span-clause-limits : goal.returns-in_err-span-clause-limits
+returns-in_err-span-clause-limits g c = λ held.
+    absurd (c.in_err-span.ensures.held (subst MakesNoText (sym (c.arg-val.ensures.value (extent_of c.args.w.now.heap))) held))
+
+pub returns-clause-limits : goal.returns-clause-limits
+returns-clause-limits g c = λ held wanting outside at.
+    let text : List ℕ = text_in (extent_of c.text_of.new.w.heap) c.in_ok-span.span in
+    let fits : FitsSigned w64 c.in-Some.n = search rules in
+    limit_before (repl_row (map (value_in (extent_of c.args.w.now.heap)) c.args.args.now)) (concat (replicate c.in-Some-natural_number.count text))
+    (setting_of outside c.args.w.now (g.L.Locals.items c.args.l.now))
+    (setting_of outside c.text_of.new.w (g.L.Locals.items c.args.l.now)) at c.build_repeated.result
+    (steps.repl_made (map (value_in (extent_of c.args.w.now.heap)) c.args.args.now) (value_in (extent_of c.args.w.now.heap) c.arg-val.result)
+    (value_in (extent_of c.args.w.now.heap) c.arg-times.result) c.in-Some.n c.in-Some-natural_number.count text
+    (setting_of outside c.args.w.now (g.L.Locals.items c.args.l.now)) (setting_of outside c.text_of.new.w (g.L.Locals.items c.args.l.now))
+    (c.arg-val.ensures.value (extent_of c.args.w.now.heap)) (c.arg-times.ensures.value (extent_of c.args.w.now.heap))
+    (c.if-lacks_text.ensures (extent_of c.args.w.now.heap))
+    (sym c.to_integer.ensures ∙ c.in-Some.is)
+    (steps.natural_some c.in-Some.n c.in-Some-natural_number.count
+    (rw (to_z-of_z w64 c.in-Some.n fits) at (sym c.natural_number.ensures ∙ c.in-Some-natural_number.is)))
+    (c.in_ok-span.ensures.step outside) c.in_ok-span.ensures.text)
+    c.build_repeated.ensures.limits wanting

@@ -1,4 +1,5 @@
-use Rattle.std.proofs.Common.{◌∙◌, sym, ap, List, ℕ, map, reverse}
+use Rattle.std.proofs.Common.{◌∙◌, sym, ap, subst, List, ℕ, map, reverse}
+use Rattle.icn_convert.specs.TextCharges.{MakesNoText}
 use Rattle.icn_defs.specs.Rows.{builds, costs_text}
 use Rattle.icn_defs.specs.Strings.{reverse_row}
 use Rattle.icn_heap.specs.Extents.{text_in, value_in}
@@ -8,6 +9,7 @@ use Rattle.icn_vars.specs.Worlds.{setting_of}
 use Rattle.icn_args.specs.RowWords.{the_text}
 use Rattle.icn_strfn.proofs.RowAnswers.{row_goes_on, row_stops_at}
 use Rattle.icn_strfn.proofs.CheckedRows as steps
+use Rattle.icn_strfn.proofs.RowLimits.{limit_before}
 use Rattle.icn_strfn.proofs.text_rows.reverse_row.Goals as goal
 
 pub returns-in_err-span-clause-row : goal.returns-in_err-span-clause-row
@@ -37,3 +39,20 @@ returns-clause-row g c = λ outside.
 
 pub returns-clause-kept : goal.returns-clause-kept
 returns-clause-kept g c = keeps_items_trans _ _ _ c.text_of.ensures.kept c.build_reversed.ensures.kept
+
+pub returns-in_err-span-clause-limits : goal.returns-in_err-span-clause-limits
+returns-in_err-span-clause-limits g c = λ held.
+    absurd (c.in_err-span.ensures.held (subst MakesNoText (sym (c.arg-val.ensures.value (extent_of c.args.w.now.heap))) held))
+
+pub returns-clause-limits : goal.returns-clause-limits
+returns-clause-limits g c = λ held wanting outside at.
+    limit_before (reverse_row (map (value_in (extent_of c.args.w.now.heap)) c.args.args.now))
+    (reverse (text_in (extent_of c.text_of.new.w.heap) c.in_ok-span.span))
+    (setting_of outside c.args.w.now (g.L.Locals.items c.args.l.now))
+    (setting_of outside c.text_of.new.w (g.L.Locals.items c.args.l.now)) at c.build_reversed.result
+    (steps.reverse_made (map (value_in (extent_of c.args.w.now.heap)) c.args.args.now) (value_in (extent_of c.args.w.now.heap) c.arg-val.result)
+    (text_in (extent_of c.text_of.new.w.heap) c.in_ok-span.span)
+    (setting_of outside c.args.w.now (g.L.Locals.items c.args.l.now)) (setting_of outside c.text_of.new.w (g.L.Locals.items c.args.l.now))
+    (c.arg-val.ensures.value (extent_of c.args.w.now.heap)) (c.if-lacks_text.ensures (extent_of c.args.w.now.heap))
+    (c.in_ok-span.ensures.step outside) c.in_ok-span.ensures.text)
+    c.build_reversed.ensures.limits wanting

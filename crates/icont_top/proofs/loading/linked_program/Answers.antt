@@ -5,7 +5,7 @@ use Rattle.icont_units.specs.Files.{files_named}
 use Rattle.icont_units.specs.Units.{Load}
 use Rattle.icont_top.specs.BaseNames.{first_named}
 use Rattle.icont_top.proofs.FirstBase.{load_base}
-use Rattle.icont_top.proofs.LoadedProgram.{no_program_of, told_of}
+use Rattle.icont_top.proofs.LoadedProgram.{loading_unlinked, no_program_of, tells_link, told_of}
 use Rattle.icn_text.specs.WordTexts.{texts}
 use Rattle.icont_top.proofs.loading.linked_program.Goals as goal
 
@@ -37,3 +37,10 @@ returns-in-Ok-load-clause-program g c =
     no_program_of (Load held (files_named (texts c.args.names.now))) loaded.0 c.in-Err-make.answer
     (subst (λ files. Load held files (Ok loaded.0)) named loaded.1.0)
     (told_of c.in-Ok-load.members loaded.0 loaded.1.1 c.in-Ok-load.ensures.absent) (c.in-Err-make.ensures.made loaded.0 loaded.1.1))
+
+pub returns-in-Ok-load-clause-missed : goal.returns-in-Ok-load-clause-missed
+returns-in-Ok-load-clause-missed g c =
+    tells_link c.in-Ok-load.members c.in-Err-make.answer c.in-Ok-load.ensures.sound c.in-Ok-load.ensures.absent c.in-Err-make.ensures.made
+
+pub returns-clause-missed : goal.returns-clause-missed
+returns-clause-missed g c = loading_unlinked c.in-Err.answer c.in-Err.ensures.others

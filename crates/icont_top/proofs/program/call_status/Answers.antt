@@ -15,6 +15,7 @@ returns g c = record {
     complete = c.icont_main-answer.ensures.complete;
     command = c.icont_main-answer.ensures.command;
     links = c.icont_main-answer.ensures.links;
+    missed = c.icont_main-answer.ensures.missed;
     input = c.icont_main-answer.ensures.input;
     untouched = c.icont_main-answer.ensures.untouched;
     refused = c.icont_main-answer.ensures.refused;

@@ -1,5 +1,5 @@
 use Rattle.std.proofs.Common.{refl, ap, Ok, Err}
-use Rattle.icn_answer.proofs.FaultCounts.{no_cause, unmoved}
+use Rattle.icn_answer.proofs.FaultCounts.{no_cause, unmoved, unwanted}
 use Rattle.icn_run_answer.proofs.CountCauses.{refused_ends, absence_of}
 use Rattle.icn_run_answer.proofs.OutsideLeft.{leaves_both}
 use Rattle.icn_run_answer.proofs.Reports.{reports_of}
@@ -36,7 +36,7 @@ returns-in-Err-clause-command g c is = no_command c.in-Err.answer c.refuse.resul
 pub returns-in-Err-clause-leaves : goal.returns-in-Err-clause-leaves
 returns-in-Err-clause-leaves g c =
     leaves_both refl refl refl (refused_ends c.in-Err.answer c.refuse.result (loading_no_write c.in-Err.answer c.in-Err.ensures.others)
-    (loading_no_read c.in-Err.answer c.in-Err.ensures.others) (unmoved (λ e. c.in-Err.ensures.no_file (ap (λ a. Err a) e)))
+    (loading_no_read c.in-Err.answer c.in-Err.ensures.others) (unmoved (λ e. c.in-Err.ensures.no_file (ap (λ a. Err a) e))) unwanted
     (no_cause c.in-Err.ensures.no_absence)
     (absence_of c.in-Err.answer c.refuse.result c.refuse.ensures.line) c.refuse.ensures.line)
 

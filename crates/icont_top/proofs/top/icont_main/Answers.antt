@@ -1,6 +1,7 @@
 use Rattle.std.proofs.Common.{map}
 use Rattle.std.specs.Prelude.{string_bytes}
 use Rattle.std.specs.Option.{option_map}
+use Rattle.icn_answer.specs.FilesRead.{files_state}
 use Rattle.icn_run_answer.proofs.CountCauses.{faultless_of}
 use Rattle.icn_run_answer.proofs.Reports.{line_of_reports}
 use Rattle.icn_answer.proofs.ToldContent.{if_some_elim, if_some_intro}
@@ -8,7 +9,7 @@ use Rattle.icont_words.specs.declared.words.Task.TheVariants as Held
 use Rattle.icont_words.specs.Asking.{run_seen}
 use Rattle.icont_words.specs.Words.{Generate, Link, Translate}
 use Rattle.icont_top.proofs.AnswersGiven.{task_commanded}
-use Rattle.icont_top.proofs.WholeCommand.{answered_of, complete_by, headline_of, link_misses, names_asked, number_misses, outcome_of, ran_of, task_asked, units_miss, words_called, words_done, words_end, words_miss, words_reported, written_of}
+use Rattle.icont_top.proofs.WholeCommand.{answered_of, complete_by, headline_of, link_misses, names_asked, number_misses, outcome_of, ran_of, task_asked, units_miss, words_called, words_done, words_end, words_miss, words_reported, words_tell, written_of}
 use Rattle.icn_text.specs.WordTexts.{texts}
 use Rattle.icont_top.proofs.top.icont_main.Goals as goal
 
@@ -218,7 +219,8 @@ pub returns-in-Err-clause-outcome : goal.returns-in-Err-clause-outcome
 returns-in-Err-clause-outcome g c =
     outcome_of (map string_bytes c.args.words.now) c.refuse.result _ _ (g.F.Files.held c.args.files.now)
     (words_done (map string_bytes c.args.words.now) c.in-Err.fault c.words_answer.result c.refuse.result c.words_answer.ensures
-    c.refuse.ensures.line (g.F.Files.held c.args.files.now) (g.I.Source.left c.args.input.now) (g.I.Source.counts c.args.input.now) (g.O.Sink.state
+    c.refuse.ensures.line (files_state (g.F.Files.held c.args.files.now) (g.F.Files.faults c.args.files.now) (g.F.Files.wants c.args.files.now)
+    (g.F.Files.absences c.args.files.now)) (g.I.Source.left c.args.input.now) (g.I.Source.counts c.args.input.now) (g.O.Sink.state
     c.args.out.now)
     c.in-Err.ensures)
 
@@ -226,7 +228,8 @@ pub returns-in-Err-clause-headline : goal.returns-in-Err-clause-headline
 returns-in-Err-clause-headline g c written =
     headline_of (map string_bytes c.args.words.now) c.refuse.result _ _ (g.F.Files.held c.args.files.now)
     (words_done (map string_bytes c.args.words.now) c.in-Err.fault c.words_answer.result c.refuse.result c.words_answer.ensures
-    c.refuse.ensures.line (g.F.Files.held c.args.files.now) (g.I.Source.left c.args.input.now) (g.I.Source.counts c.args.input.now) (g.O.Sink.state
+    c.refuse.ensures.line (files_state (g.F.Files.held c.args.files.now) (g.F.Files.faults c.args.files.now) (g.F.Files.wants c.args.files.now)
+    (g.F.Files.absences c.args.files.now)) (g.I.Source.left c.args.input.now) (g.I.Source.counts c.args.input.now) (g.O.Sink.state
     c.args.out.now)
     c.in-Err.ensures) written
 
@@ -234,7 +237,8 @@ pub returns-in-Err-clause-answered : goal.returns-in-Err-clause-answered
 returns-in-Err-clause-answered g c =
     answered_of (map string_bytes c.args.words.now) c.refuse.result _ _ (g.F.Files.held c.args.files.now)
     (words_done (map string_bytes c.args.words.now) c.in-Err.fault c.words_answer.result c.refuse.result c.words_answer.ensures
-    c.refuse.ensures.line (g.F.Files.held c.args.files.now) (g.I.Source.left c.args.input.now) (g.I.Source.counts c.args.input.now) (g.O.Sink.state
+    c.refuse.ensures.line (files_state (g.F.Files.held c.args.files.now) (g.F.Files.faults c.args.files.now) (g.F.Files.wants c.args.files.now)
+    (g.F.Files.absences c.args.files.now)) (g.I.Source.left c.args.input.now) (g.I.Source.counts c.args.input.now) (g.O.Sink.state
     c.args.out.now)
     c.in-Err.ensures)
 
@@ -242,7 +246,8 @@ pub returns-in-Err-clause-ran : goal.returns-in-Err-clause-ran
 returns-in-Err-clause-ran g c =
     ran_of (map string_bytes c.args.words.now) c.refuse.result _ _ (g.F.Files.held c.args.files.now)
     (words_done (map string_bytes c.args.words.now) c.in-Err.fault c.words_answer.result c.refuse.result c.words_answer.ensures
-    c.refuse.ensures.line (g.F.Files.held c.args.files.now) (g.I.Source.left c.args.input.now) (g.I.Source.counts c.args.input.now) (g.O.Sink.state
+    c.refuse.ensures.line (files_state (g.F.Files.held c.args.files.now) (g.F.Files.faults c.args.files.now) (g.F.Files.wants c.args.files.now)
+    (g.F.Files.absences c.args.files.now)) (g.I.Source.left c.args.input.now) (g.I.Source.counts c.args.input.now) (g.O.Sink.state
     c.args.out.now)
     c.in-Err.ensures)
 
@@ -251,20 +256,22 @@ returns-in-Err-clause-complete g c =
     complete_by (map string_bytes c.args.words.now) c.refuse.result _ _ c.one_reading.ensures.one c.one_fault.ensures.one_fault
     c.one_fault.ensures.no_fault (g.F.Files.held c.args.files.now)
     (words_done (map string_bytes c.args.words.now) c.in-Err.fault c.words_answer.result c.refuse.result c.words_answer.ensures
-    c.refuse.ensures.line (g.F.Files.held c.args.files.now) (g.I.Source.left c.args.input.now) (g.I.Source.counts c.args.input.now) (g.O.Sink.state
+    c.refuse.ensures.line (files_state (g.F.Files.held c.args.files.now) (g.F.Files.faults c.args.files.now) (g.F.Files.wants c.args.files.now)
+    (g.F.Files.absences c.args.files.now)) (g.I.Source.left c.args.input.now) (g.I.Source.counts c.args.input.now) (g.O.Sink.state
     c.args.out.now)
     c.in-Err.ensures)
 
 pub returns-in-Err-clause-causes : goal.returns-in-Err-clause-causes
 returns-in-Err-clause-causes g c =
     words_end (map string_bytes c.args.words.now) c.in-Err.fault c.words_answer.result c.refuse.result c.words_answer.ensures c.refuse.ensures.line
-    (g.F.Files.faults c.args.files.now) (g.F.Files.absences c.args.files.now)
+    (g.F.Files.held c.args.files.now) (g.F.Files.faults c.args.files.now) (g.F.Files.wants c.args.files.now) (g.F.Files.absences c.args.files.now)
     (g.I.Source.counts c.args.input.now) (g.I.Source.left c.args.input.now) (g.O.Sink.state c.args.out.now)
 
 pub returns-in-Err-clause-faultless : goal.returns-in-Err-clause-faultless
 returns-in-Err-clause-faultless g c =
     faultless_of c.refuse.result (words_end (map string_bytes c.args.words.now) c.in-Err.fault c.words_answer.result c.refuse.result
-    c.words_answer.ensures c.refuse.ensures.line (g.F.Files.faults c.args.files.now) (g.F.Files.absences c.args.files.now)
+    c.words_answer.ensures c.refuse.ensures.line (g.F.Files.held c.args.files.now) (g.F.Files.faults c.args.files.now) (g.F.Files.wants c.args.files.now)
+    (g.F.Files.absences c.args.files.now)
     (g.I.Source.counts c.args.input.now) (g.I.Source.left c.args.input.now) (g.O.Sink.state c.args.out.now))
 
 pub returns-in-Err-clause-line : goal.returns-in-Err-clause-line
@@ -316,7 +323,8 @@ pub returns-in-Err-clause-written : goal.returns-in-Err-clause-written
 returns-in-Err-clause-written g c =
     written_of (map string_bytes c.args.words.now) c.refuse.result _ _ (g.F.Files.held c.args.files.now)
     (words_done (map string_bytes c.args.words.now) c.in-Err.fault c.words_answer.result c.refuse.result c.words_answer.ensures
-    c.refuse.ensures.line (g.F.Files.held c.args.files.now) (g.I.Source.left c.args.input.now) (g.I.Source.counts c.args.input.now) (g.O.Sink.state
+    c.refuse.ensures.line (files_state (g.F.Files.held c.args.files.now) (g.F.Files.faults c.args.files.now) (g.F.Files.wants c.args.files.now)
+    (g.F.Files.absences c.args.files.now)) (g.I.Source.left c.args.input.now) (g.I.Source.counts c.args.input.now) (g.O.Sink.state
     c.args.out.now)
     c.in-Err.ensures)
 
@@ -369,3 +377,26 @@ returns-in-Ok-Generate-clause-settled g c = c.generate_answer.ensures.settled
 
 pub returns-in-Err-clause-settled : goal.returns-in-Err-clause-settled
 returns-in-Err-clause-settled g c o e n = (o, c.refuse.ensures.settled n)
+
+-- A linked file that is told not to be there
+
+pub returns-in-Ok-Translate-clause-missed : goal.returns-in-Ok-Translate-clause-missed
+returns-in-Ok-Translate-clause-missed g c none = c.translate_answer.ensures.missed
+
+pub returns-in-Ok-Link-clause-missed : goal.returns-in-Ok-Link-clause-missed
+returns-in-Ok-Link-clause-missed g c none = c.link_answer.ensures.missed
+
+pub returns-in-Ok-Generate-clause-missed : goal.returns-in-Ok-Generate-clause-missed
+returns-in-Ok-Generate-clause-missed g c none =
+    absurd (none (
+      c.in-Ok-Generate.number,
+      (
+        c.in-Ok-Generate.turns,
+        task_asked (map string_bytes c.args.words.now) c.in-Ok-Generate.field-0
+            (Held.Generate c.in-Ok-Generate.number c.in-Ok-Generate.turns) c.in-Ok-Generate.field-0-is c.in-Ok-Generate.ensures,
+      ),
+    ))
+
+pub returns-in-Err-clause-missed : goal.returns-in-Err-clause-missed
+returns-in-Err-clause-missed g c none =
+    words_tell (map string_bytes c.args.words.now) c.in-Err.fault c.words_answer.result c.refuse.result c.words_answer.ensures c.refuse.ensures.line

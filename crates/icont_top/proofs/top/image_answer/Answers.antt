@@ -1,22 +1,22 @@
-use Rattle.std.proofs.Common.{◌∙◌, ap, arith, Err, refl}
+use Rattle.std.proofs.Common.{◌∙◌, ap, arith, refl, inl}
 use Rattle.std.specs.Option.{option_map}
 use Rattle.icn_answer.specs.declared.answer.Answer.TheVariants.{Wrote}
-use Rattle.icn_run_answer.proofs.CountCauses.{none_counts, own_counts, run_no_absence, run_no_file}
+use Rattle.icn_run_answer.proofs.CountCauses.{run_no_absence, run_no_file, torn_ends, written_ends}
 use Rattle.icn_run_answer.proofs.OutsideLeft.{leaves_both}
 use Rattle.icn_answer.proofs.NoFaults.{wrote_no_fault}
-use Rattle.icn_answer.proofs.TornAnswers.{is_torn, torn_no_absence, torn_no_read, torn_no_write}
+use Rattle.icn_answer.proofs.TornAnswers.{is_torn}
 use Rattle.icn_run_answer.proofs.Reports.{own_reports}
 use Rattle.icn_answer.proofs.ToldContent.{if_some_elim, if_some_intro}
 use Rattle.icont_words.specs.Asking.{run_seen}
-use Rattle.icont_units.proofs.EqualResults.{err_injective}
 use Rattle.icont_top.proofs.AnswersGiven.{said_name}
 use Rattle.icont_top.proofs.CallOutcomes.{image_torn, ran_done, writes_image, writes_part, wrote_done}
 use Rattle.icont_top.proofs.InputLeft.{run_lost}
+use Rattle.icn_answer.proofs.FaultCounts.{counts_if}
 use Rattle.icont_top.proofs.top.image_answer.Goals as goal
 
 pub returns-in-Some-clause-done : goal.returns-in-Some-clause-done
 returns-in-Some-clause-done g c words held members ready e =
-    ran_done members c.args.plan c.args.program.now (run_seen c.in-Some.asked) c.ran_answer.result _ _ c.one_spelling.ensures.read_back
+    ran_done _ _ members c.args.plan c.args.program.now (run_seen c.in-Some.asked) c.ran_answer.result _ _ c.one_spelling.ensures.read_back
     c.same_ends.ensures.on_stacks ready e
     (writes_image _ _ c.args.plan members (said_name c.args.plan.image c.args.program.now.base _ members c.unwrap_or.ensures ready.is.base)
     (c.deref.ensures.value ∙ ready.is.made.bytes) c.in-Ok.ensures.ok)
@@ -24,15 +24,16 @@ returns-in-Some-clause-done g c words held members ready e =
 
 pub returns-in-None-clause-done : goal.returns-in-None-clause-done
 returns-in-None-clause-done g c words held members ready e =
-    wrote_done members c.args.plan c.args.program.now _ c.one_spelling.ensures.read_back c.same_ends.ensures.on_stacks ready e
+    wrote_done _ _ members c.args.plan c.args.program.now _ c.one_spelling.ensures.read_back c.same_ends.ensures.on_stacks ready e
     (writes_image _ _ c.args.plan members (said_name c.args.plan.image c.args.program.now.base _ members c.unwrap_or.ensures ready.is.base)
     (c.deref.ensures.value ∙ ready.is.made.bytes) c.in-Ok.ensures.ok) c.in-None.is
 
 pub returns-in-Err-clause-done : goal.returns-in-Err-clause-done
 returns-in-Err-clause-done g c words held members ready e =
-    image_torn members c.args.plan c.args.program.now c.torn_answer.result _ _ _ _ _ ready
+    image_torn _ _ members c.args.plan c.args.program.now c.in-Err.fault c.torn_answer.result _ _ _ _ _ ready
     (writes_part _ _ c.args.plan members (said_name c.args.plan.image c.args.program.now.base _ members c.unwrap_or.ensures ready.is.base)
-    (c.deref.ensures.value ∙ ready.is.made.bytes) c.in-Err.ensures.err) c.torn_answer.ensures.others c.torn_answer.ensures.puts
+    (c.deref.ensures.value ∙ ready.is.made.bytes) c.in-Err.ensures.err) c.torn_answer.ensures.failed c.torn_answer.ensures.wanted
+    c.torn_answer.ensures.others c.in-Err.ensures.cause c.in-Err.ensures.want c.torn_answer.ensures.puts
 
 pub returns-in-Err-clause-reported : goal.returns-in-Err-clause-reported
 returns-in-Err-clause-reported g c =
@@ -50,7 +51,9 @@ returns-in-Some-clause-leaves g c = record {
       later = omega (arith, c.in-Ok.ensures.absences);
       rose = λ a. absurd (run_no_absence c.ran_answer.result c.ran_answer.ensures.others a);
     };
+    file_want = counts_if c.in-Ok.ensures.want.later (inl (c.in-Ok.ensures.want.stayed (λ e. cc)));
     others = c.ran_answer.ensures.causes;
+    want_alone = inl (c.in-Ok.ensures.want.stayed (λ e. cc));
   };
   input = if_some_intro (g.I.Source.left c.args.input.now) _ (λ left d.
       run_lost c.outsides_grow.ensures.on_stacks (run_seen c.in-Some.asked) left
@@ -61,26 +64,14 @@ returns-in-Some-clause-leaves g c = record {
 }
 
 pub returns-in-None-clause-leaves : goal.returns-in-None-clause-leaves
-returns-in-None-clause-leaves g c = leaves_both refl refl refl (record {
-  file_fault = record { later = c.in-Ok.ensures.cause.later; rose = λ e. cc; stayed = λ _. c.in-Ok.ensures.cause.stayed (λ e. cc) };
-  absence = record { later = omega (arith, c.in-Ok.ensures.absences); rose = λ a. absurd a };
-  others = none_counts Wrote wrote_no_fault;
-})
+returns-in-None-clause-leaves g c =
+    leaves_both refl refl refl (written_ends Wrote wrote_no_fault (λ absent. absent) (c.in-Ok.ensures.cause.stayed (λ e. cc))
+    (c.in-Ok.ensures.want.stayed (λ e. cc)) c.in-Ok.ensures.absences)
 
 pub returns-in-Err-clause-leaves : goal.returns-in-Err-clause-leaves
-returns-in-Err-clause-leaves g c = leaves_both refl refl refl (record {
-  file_fault = record {
-    later = c.in-Err.ensures.cause.later;
-    rose = λ e. c.in-Err.ensures.cause.rose (ap (λ f. Err f) (c.torn_answer.ensures.failed.0 e));
-    stayed = λ n. c.in-Err.ensures.cause.stayed (λ e. n (c.torn_answer.ensures.failed.1 (err_injective _ _ e)));
-  };
-  absence = record {
-    later = omega (arith, c.in-Err.ensures.absences);
-    rose = λ a. absurd (torn_no_absence c.torn_answer.result c.torn_answer.ensures.others a);
-  };
-  others = own_counts c.torn_answer.result (torn_no_write c.torn_answer.result c.torn_answer.ensures.others)
-      (torn_no_read c.torn_answer.result c.torn_answer.ensures.others) c.torn_answer.ensures.puts;
-})
+returns-in-Err-clause-leaves g c =
+    leaves_both refl refl refl (torn_ends c.in-Err.fault c.torn_answer.result c.torn_answer.ensures.failed c.torn_answer.ensures.wanted
+    c.torn_answer.ensures.others c.in-Err.ensures.cause c.in-Err.ensures.want c.in-Err.ensures.absences c.torn_answer.ensures.puts)
 
 pub returns-in-Some-clause-settled : goal.returns-in-Some-clause-settled
 returns-in-Some-clause-settled g c = c.ran_answer.ensures.settled

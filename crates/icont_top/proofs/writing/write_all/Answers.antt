@@ -14,5 +14,6 @@ loop-text-preserved g c = record {
   some = text_more c.in-Some.text.now c.in-Some.others.now c.loop-text.rest.now c.deref.result.now c.deref-in-Some.result.now c.loop-text.invariant.some
       c.in-Some.ensures.cases.0 c.deref.ensures c.deref-in-Some.ensures.value c.in_ok-write.ensures.ok;
   faults = c.in_ok-write.ensures.cause.stayed (λ e. cc) ∙ c.loop-text.invariant.faults;
+  wants = c.in_ok-write.ensures.want.stayed (λ e. cc) ∙ c.loop-text.invariant.wants;
   absences = c.in_ok-write.ensures.absences ∙ c.loop-text.invariant.absences;
 }

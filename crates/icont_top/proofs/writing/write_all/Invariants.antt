@@ -7,6 +7,7 @@ abbrev pub invariant-loop-text : goal.invariant-loop-text
 invariant-loop-text g l = record {
   some : WritesSome (g.F.Files.held l.initial.files) (g.F.Files.held l.files) (texts_seen l.texts) (texts_seen l.rest);
   faults : g.F.Files.faults l.files ≡ g.F.Files.faults l.initial.files;
+  wants : g.F.Files.wants l.files ≡ g.F.Files.wants l.initial.files;
   absences : g.F.Files.absences l.files ≡ g.F.Files.absences l.initial.files;
 }
 

@@ -30,6 +30,7 @@ loop-file-preserved g c = record {
   sound = c.in_ok-add_file.ensures.sound c.loop-file.invariant.sound;
   same = c.in_ok-add_file.ensures.reads.files ∙ c.loop-file.invariant.same;
   faults = c.in_ok-add_file.ensures.reads.file_fault.stayed (λ is. cc) ∙ c.loop-file.invariant.faults;
+  wants = c.in_ok-add_file.ensures.reads.file_want.stayed (λ is. cc) ∙ c.loop-file.invariant.wants;
   absences = le_trans c.loop-file.invariant.absences c.in_ok-add_file.ensures.reads.absence.later;
 }
 

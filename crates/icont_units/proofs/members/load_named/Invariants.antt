@@ -12,5 +12,6 @@ invariant-loop-file g l = record {
   sound : AreSoundMembers l.members;
   same : g.F.Files.held l.files ≡ g.F.Files.held l.fn.files;
   faults : g.F.Files.faults l.files ≡ g.F.Files.faults l.fn.files;
+  wants : g.F.Files.wants l.files ≡ g.F.Files.wants l.fn.files;
   absences : g.F.Files.absences l.fn.files ≤ g.F.Files.absences l.files;
 }

@@ -26,6 +26,7 @@ loop-place-init g c =
           (with_texts [] (unit_names (units_seen c.args.members.now.units.items))));
       same = refl;
       faults = refl;
+      wants = refl;
     }
 
 pub returns-in_err-gather_unit-clause-gathered : goal.returns-in_err-gather_unit-clause-gathered
@@ -66,6 +67,7 @@ loop-place-preserved g c =
           seen c.loop-place.invariant.grows c.in_ok-gather_unit.ensures.grows;
       same = c.in_ok-gather_unit.ensures.reads.files ∙ c.loop-place.invariant.same;
       faults = c.in_ok-gather_unit.ensures.reads.file_fault.stayed (λ is. cc) ∙ c.loop-place.invariant.faults;
+      wants = c.in_ok-gather_unit.ensures.reads.file_want.stayed (λ is. cc) ∙ c.loop-place.invariant.wants;
     }
 
 pub returns-clause-gathered : goal.returns-clause-gathered

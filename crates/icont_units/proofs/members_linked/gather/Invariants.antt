@@ -19,6 +19,7 @@ invariant-loop-place g l = record {
       (texts_in l.known.keys) (flat_map links_of (take l.place (units_seen l.members.units.items)));
   same : g.F.Files.held l.files ≡ g.F.Files.held l.fn.files;
   faults : g.F.Files.faults l.files ≡ g.F.Files.faults l.fn.files;
+  wants : g.F.Files.wants l.files ≡ g.F.Files.wants l.fn.files;
 }
 
 abbrev pub decreases-loop-place : goal.decreases-loop-place

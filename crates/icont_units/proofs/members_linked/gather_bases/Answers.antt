@@ -44,4 +44,5 @@ loop-base-preserved g c = record {
       (texts_in c.gather_base.new.known.keys) (base ∷ [])) c.deref.ensures.value c.in_ok-gather_base.ensures.grows);
   same = c.in_ok-gather_base.ensures.reads.files ∙ c.loop-base.invariant.same;
   faults = c.in_ok-gather_base.ensures.reads.file_fault.stayed (λ is. cc) ∙ c.loop-base.invariant.faults;
+  wants = c.in_ok-gather_base.ensures.reads.file_want.stayed (λ is. cc) ∙ c.loop-base.invariant.wants;
 }

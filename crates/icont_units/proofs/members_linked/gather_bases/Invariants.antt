@@ -15,4 +15,5 @@ invariant-loop-base g l = record {
       (texts_in l.fn.known.keys) (texts_in l.known.keys) (texts_in (take l.base-index l.bases));
   same : g.F.Files.held l.files ≡ g.F.Files.held l.fn.files;
   faults : g.F.Files.faults l.files ≡ g.F.Files.faults l.fn.files;
+  wants : g.F.Files.wants l.files ≡ g.F.Files.wants l.fn.files;
 }

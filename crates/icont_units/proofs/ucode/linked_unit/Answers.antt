@@ -1,5 +1,5 @@
 use Rattle.std.proofs.Common.{refl}
-use Rattle.icn_answer.proofs.FaultCounts.{unmoved}
+use Rattle.icn_answer.proofs.FaultCounts.{unmoved, unwanted}
 use Rattle.icont_units.proofs.JudgedTexts.{linked, lost, no_cause, not_linked, not_text}
 use Rattle.icn_answer.proofs.ToldContent.{if_some_elim, if_some_intro}
 use Rattle.icont_units.proofs.ucode.linked_unit.Goals as goal
@@ -11,6 +11,7 @@ pub returns-in_default-clause-reads : goal.returns-in_default-clause-reads
 returns-in_default-clause-reads g c = record {
   files = refl;
   file_fault = unmoved (λ e. cc);
+  file_want = unwanted;
   absence = no_cause (g.F.Files.absences c.args.files.now) c.args.base.now c.in_default.ensures.cases.0;
 }
 

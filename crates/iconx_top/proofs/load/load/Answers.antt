@@ -1,5 +1,6 @@
 use Rattle.iconx_top.proofs.JudgedImages.{loaded, no_absence, no_file_fault, of_loading}
 use Rattle.std.proofs.Common.{inl, refl}
+use Rattle.icn_answer.proofs.FaultCounts.{counts_if}
 use Rattle.iconx_top.proofs.Absences.{judged_absences, missing_absences}
 use Rattle.iconx_top.proofs.load.load.Goals as goal
 
@@ -18,6 +19,7 @@ returns-in-Ok-clause-reads g c = record {
     rose = λ is. absurd (no_file_fault c.judge.result c.judge.ensures.others is);
     stayed = λ n. c.in-Ok.ensures.cause.stayed (λ is. cc);
   };
+  file_want = counts_if c.read.ensures.want.later (inl (c.in-Ok.ensures.want.stayed (λ is. cc)));
   absence = record { later = c.read.ensures.absence.later; rose = λ is. absurd (no_absence c.judge.result c.judge.ensures.others is) };
 }
 

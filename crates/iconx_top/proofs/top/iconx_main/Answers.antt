@@ -161,7 +161,8 @@ pub returns-in-Err-clause-causes : goal.returns-in-Err-clause-causes
 returns-in-Err-clause-causes g c = command_ends c.in-Err.kind c.refuse.result c.refuse.ensures.line
 
 pub returns-in-Err-clause-faultless : goal.returns-in-Err-clause-faultless
-returns-in-Err-clause-faultless g c = faultless_of c.refuse.result (command_ends {absences = 0} {input = g.I.Source.counts c.args.input.now}
+returns-in-Err-clause-faultless g c = faultless_of c.refuse.result (command_ends {held = g.F.Files.held c.args.files.now} {wants = 0} {absences = 0}
+    {input = g.I.Source.counts c.args.input.now}
     {left = g.I.Source.left c.args.input.now}
     {out = g.O.Sink.state c.args.out.now} c.in-Err.kind c.refuse.result c.refuse.ensures.line)
 

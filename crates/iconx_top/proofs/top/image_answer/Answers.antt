@@ -2,9 +2,9 @@ use Rattle.std.proofs.Common.{inl, ap, map, refl}
 use Rattle.std.specs.Prelude.{string_bytes}
 use Rattle.icn_value.specs.Limited.{limits_of}
 use Rattle.iconx_top.proofs.AskedAnswers.{answer_put, load_answered, run_answered}
-use Rattle.iconx_top.proofs.CallOutcomes.{asked_load, held_as, load_no_read, load_no_write, refused}
-use Rattle.icn_answer.specs.declared.answer.Answer.TheVariants.{FileFault}
-use Rattle.icn_answer.proofs.FaultCounts.{err_counts}
+use Rattle.iconx_top.proofs.CallOutcomes.{asked_load, load_no_read, load_no_write, refused}
+use Rattle.icn_answer.specs.declared.answer.Answer.TheVariants.{FileFault, NoMemory}
+use Rattle.icn_answer.proofs.FaultCounts.{counts_if, err_counts, err_wants}
 use Rattle.icn_run_answer.proofs.CountCauses.{refused_ends, absence_of, run_no_absence, run_no_file}
 use Rattle.icn_run_answer.proofs.OutsideLeft.{leaves_both}
 use Rattle.icn_run_answer.proofs.Reports.{reports_of}
@@ -27,10 +27,9 @@ returns-in-Err-clause-outcome g c words asks =
 pub returns-in-Ok-clause-outcome : goal.returns-in-Ok-clause-outcome
 returns-in-Ok-clause-outcome g c words asks =
     if_some_intro (g.F.Files.held c.args.files.now) _ (λ held e. if_some_intro (g.I.Source.left c.args.input.now) _ (λ left d.
-    held_as _ _ c.in-Ok.ensures.reads.files
-    (if_some_elim _ (g.I.Source.left c.args.input.now) left d
-    (c.run_answer.ensures.outcome words held (g.F.Files.held c.args.files.now) asks
-    (if_some_elim _ (g.F.Files.held c.args.files.now) held e c.in-Ok.ensures.loaded) e))))
+    if_some_elim _ (g.I.Source.left c.args.input.now) left d
+    (c.run_answer.ensures.outcome words held _ _ asks
+    (if_some_elim _ (g.F.Files.held c.args.files.now) held e c.in-Ok.ensures.loaded) e c.in-Ok.ensures.reads.files)))
 
 pub returns-in-Err-clause-reported : goal.returns-in-Err-clause-reported
 returns-in-Err-clause-reported g c = reports_of (load_unrun c.in-Err.answer c.in-Err.ensures.others) c.refuse.ensures.line
@@ -62,7 +61,9 @@ returns-in-Ok-clause-leaves g c = record {
       later = c.in-Ok.ensures.reads.absence.later;
       rose = λ a. absurd (run_no_absence c.run_answer.result c.run_answer.ensures.others a);
     };
+    file_want = counts_if c.in-Ok.ensures.reads.file_want.later (inl (c.in-Ok.ensures.reads.file_want.stayed (λ e. cc)));
     others = c.run_answer.ensures.causes;
+    want_alone = inl (c.in-Ok.ensures.reads.file_want.stayed (λ e. cc));
   };
   input = c.run_answer.ensures.input;
   refused = λ none. absurd (none c.run_answer.ensures.others);
@@ -74,6 +75,7 @@ pub returns-in-Err-clause-leaves : goal.returns-in-Err-clause-leaves
 returns-in-Err-clause-leaves g c =
     leaves_both refl refl refl (refused_ends c.in-Err.answer c.refuse.result (load_no_write c.in-Err.answer c.in-Err.ensures.others)
     (load_no_read c.in-Err.answer c.in-Err.ensures.others) (err_counts c.in-Err.answer FileFault c.in-Err.ensures.reads.file_fault)
+    (err_wants c.in-Err.answer NoMemory c.in-Err.ensures.reads.file_want)
     c.in-Err.ensures.reads.absence (absence_of c.in-Err.answer c.refuse.result c.refuse.ensures.line) c.refuse.ensures.line)
 
 pub returns-in-Ok-clause-files : goal.returns-in-Ok-clause-files

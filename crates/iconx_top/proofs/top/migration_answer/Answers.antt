@@ -1,7 +1,8 @@
 use Rattle.std.proofs.Common.{inl, ◌∙◌, ap, refl}
-use Rattle.icn_answer.specs.declared.answer.Answer.TheVariants.{FileFault}
-use Rattle.icn_answer.proofs.FaultCounts.{err_counts}
+use Rattle.icn_answer.specs.declared.answer.Answer.TheVariants.{FileFault, NoMemory}
+use Rattle.icn_answer.proofs.FaultCounts.{err_counts, err_wants}
 use Rattle.icn_answer.proofs.ToldContent.{if_some_elim, if_some_intro}
+use Rattle.icn_answer.proofs.TornAnswers.{only_read}
 use Rattle.icn_run_answer.proofs.CountCauses.{absence_of, after_read, refused_ends}
 use Rattle.icn_run_answer.proofs.Reports.{reports_of}
 use Rattle.iconx_top.specs.Outcomes.{left_alone}
@@ -19,14 +20,14 @@ pub returns-in-Ok-clause-outcome : goal.returns-in-Ok-clause-outcome
 returns-in-Ok-clause-outcome g c words left input out asks =
     if_some_intro (g.F.Files.held c.args.files.now) _ (λ held e.
     let loaded = if_some_elim _ (g.F.Files.held c.args.files.now) held e c.in-Ok.ensures.loaded in
-    held_before _ _ c.in-Ok.ensures.reads.files (c.new_image_answer.ensures.outcome words held left input out
+    held_before _ _ (only_read c.in-Ok.ensures.reads) (c.new_image_answer.ensures.outcome words held left input out
     (record { name = c.args.asked.image.now; bytes = loaded.0; asks = asks; there = loaded.1.0; judged = loaded.1.1 }) refl
     (c.in-Ok.ensures.reads.files ∙ e)))
 
 pub returns-in-Ok-clause-leaves : goal.returns-in-Ok-clause-leaves
 returns-in-Ok-clause-leaves g c words asks =
     if_some_intro (g.F.Files.held c.args.files.now) _ (λ held e.
-    leaves_before _ _ c.in-Ok.ensures.reads.files (c.new_image_answer.ensures.leaves words held
+    leaves_before _ _ (only_read c.in-Ok.ensures.reads) (c.new_image_answer.ensures.leaves words held
     (asked_migration c.args.asked c.in-Ok.verified asks (if_some_elim _ (g.F.Files.held c.args.files.now) held e c.in-Ok.ensures.loaded))
     (c.in-Ok.ensures.reads.files ∙ e)))
 
@@ -45,8 +46,8 @@ returns-in-Ok-clause-unwritten g c is = c.new_image_answer.ensures.unwritten is 
 
 pub returns-in-Ok-clause-causes : goal.returns-in-Ok-clause-causes
 returns-in-Ok-clause-causes g c left input out =
-    after_read c.new_image_answer.result (c.in-Ok.ensures.reads.file_fault.stayed (λ e. cc)) c.in-Ok.ensures.reads.absence.later
-    (c.new_image_answer.ensures.causes left input out)
+    after_read c.new_image_answer.result (c.in-Ok.ensures.reads.file_fault.stayed (λ e. cc)) (c.in-Ok.ensures.reads.file_want.stayed (λ e. cc))
+    c.in-Ok.ensures.reads.absence.later (c.new_image_answer.ensures.causes left input out)
 
 -- There is none
 
@@ -81,6 +82,7 @@ pub returns-in-Err-clause-causes : goal.returns-in-Err-clause-causes
 returns-in-Err-clause-causes g c left input out =
     refused_ends c.in-Err.answer c.refuse.result (load_no_write c.in-Err.answer c.in-Err.ensures.others)
     (load_no_read c.in-Err.answer c.in-Err.ensures.others) (err_counts c.in-Err.answer FileFault c.in-Err.ensures.reads.file_fault)
+    (err_wants c.in-Err.answer NoMemory c.in-Err.ensures.reads.file_want)
     c.in-Err.ensures.reads.absence (absence_of c.in-Err.answer c.refuse.result c.refuse.ensures.line) c.refuse.ensures.line
 
 pub returns-in-Ok-clause-settled : goal.returns-in-Ok-clause-settled

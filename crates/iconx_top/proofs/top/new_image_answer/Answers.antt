@@ -1,16 +1,16 @@
-use Rattle.std.proofs.Common.{◌∙◌, ap, arith, Err, refl}
+use Rattle.std.proofs.Common.{◌∙◌, refl}
 use Rattle.icn_code.specs.CodeTables.{tables_of}
 use Rattle.icn_answer.specs.declared.answer.Answer.TheVariants.{Wrote}
-use Rattle.icn_answer.proofs.FaultCounts.{no_cause, unmoved}
+use Rattle.icn_answer.proofs.FaultCounts.{no_cause, unmoved, unwanted}
 use Rattle.icn_answer.proofs.NoFaults.{wrote_no_fault}
-use Rattle.icn_answer.proofs.TornAnswers.{is_torn, torn_fault, torn_no_absence, torn_no_read, torn_no_write}
-use Rattle.icn_run_answer.proofs.CountCauses.{absence_of, none_counts, own_counts, refused_ends}
+use Rattle.icn_answer.proofs.TornAnswers.{is_torn, torn_no_absence}
+use Rattle.icn_run_answer.proofs.CountCauses.{absence_of, refused_ends, torn_ends, written_ends}
 use Rattle.icn_run_answer.proofs.Reports.{own_reports, reports_of}
 use Rattle.iconx_top.specs.Answered.{fault, writes}
-use Rattle.iconx_top.specs.Outcomes.{all_written, part_written}
+use Rattle.iconx_top.specs.Outcomes.{all_written}
 use Rattle.iconx_top.proofs.AskedAnswers.{answer_put}
 use Rattle.iconx_top.proofs.CallOutcomes.{load_no_read, load_no_write, refused}
-use Rattle.iconx_top.proofs.Migrations.{answered_too_long, asked_too_long, fault_injective, image_done, image_torn, of_image_loading, of_image_no_absence, of_image_no_file, sets_image, sets_part}
+use Rattle.iconx_top.proofs.Migrations.{answered_too_long, asked_too_long, image_done, image_torn, of_image_loading, of_image_no_absence, of_image_no_file, part_leaves, sets_image, sets_part}
 use Rattle.iconx_top.proofs.ReportLines.{load_unrun}
 use Rattle.iconx_top.proofs.top.new_image_answer.Goals as goal
 
@@ -35,29 +35,25 @@ returns-in-Ok-write-clause-answered g c words held asked e =
     writes c.args.asked.new_name.now (tables_of c.args.code.now.code) asked c.in-Ok.ensures.image.1
 
 pub returns-in-Ok-write-clause-causes : goal.returns-in-Ok-write-clause-causes
-returns-in-Ok-write-clause-causes g c left input out = record {
-  file_fault = record {
-    later = c.in-Ok-write.ensures.cause.later;
-    rose = λ e. cc;
-    stayed = λ _. c.in-Ok-write.ensures.cause.stayed (λ e. cc);
-  };
-  absence = record { later = omega (arith, c.in-Ok-write.ensures.absences); rose = λ a. absurd a };
-  others = none_counts Wrote wrote_no_fault;
-}
+returns-in-Ok-write-clause-causes g c left input out =
+    written_ends Wrote wrote_no_fault (λ absent. absent) (c.in-Ok-write.ensures.cause.stayed (λ e. cc)) (c.in-Ok-write.ensures.want.stayed (λ e. cc))
+    c.in-Ok-write.ensures.absences
 
 -- It was not written whole
 
 pub returns-in-Ok-clause-outcome : goal.returns-in-Ok-clause-outcome
 returns-in-Ok-clause-outcome g c words held left input out asked named e =
-    image_torn c.args.asked.new_name.now (tables_of c.args.code.now.code) c.torn_answer.result _ _ input out _ _ asked c.in-Ok.ensures.image.1
+    image_torn c.args.asked.new_name.now (tables_of c.args.code.now.code) c.in-Err-write.fault c.torn_answer.result _ _ input out _ _ asked
+    c.in-Ok.ensures.image.1
     (sets_part _ _ c.args.asked.new_name.now c.deref.result.now _ (c.deref.ensures.value ∙ c.in-Ok.ensures.image.0) c.in-Err-write.ensures.err)
-    c.torn_answer.ensures.others c.torn_answer.ensures.puts
+    c.torn_answer.ensures.failed c.torn_answer.ensures.wanted c.torn_answer.ensures.others c.in-Err-write.ensures.cause c.in-Err-write.ensures.want
+    c.torn_answer.ensures.puts
 
 pub returns-in-Ok-clause-leaves : goal.returns-in-Ok-clause-leaves
 returns-in-Ok-clause-leaves g c words held asked e =
-    part_written c.args.asked.new_name.now (tables_of c.args.code.now.code) (torn_fault c.torn_answer.result c.torn_answer.ensures.others) asked
-    c.in-Ok.ensures.image.1
+    part_leaves c.args.asked.new_name.now (tables_of c.args.code.now.code) c.in-Err-write.fault c.torn_answer.result _ _ asked c.in-Ok.ensures.image.1
     (sets_part _ _ c.args.asked.new_name.now c.deref.result.now _ (c.deref.ensures.value ∙ c.in-Ok.ensures.image.0) c.in-Err-write.ensures.err)
+    c.torn_answer.ensures.failed c.torn_answer.ensures.wanted c.torn_answer.ensures.others c.in-Err-write.ensures.cause c.in-Err-write.ensures.want
 
 pub returns-in-Ok-clause-reported : goal.returns-in-Ok-clause-reported
 returns-in-Ok-clause-reported g c =
@@ -68,19 +64,9 @@ returns-in-Ok-clause-answered g c words held asked e =
     fault c.torn_answer.result (is_torn c.torn_answer.result c.torn_answer.ensures.others)
 
 pub returns-in-Ok-clause-causes : goal.returns-in-Ok-clause-causes
-returns-in-Ok-clause-causes g c left input out = record {
-  file_fault = record {
-    later = c.in-Err-write.ensures.cause.later;
-    rose = λ e. c.in-Err-write.ensures.cause.rose (ap (λ f. Err f) (c.torn_answer.ensures.failed.0 e));
-    stayed = λ n. c.in-Err-write.ensures.cause.stayed (λ e. n (c.torn_answer.ensures.failed.1 (fault_injective _ _ e)));
-  };
-  absence = record {
-    later = omega (arith, c.in-Err-write.ensures.absences);
-    rose = λ a. absurd (torn_no_absence c.torn_answer.result c.torn_answer.ensures.others a);
-  };
-  others = own_counts c.torn_answer.result (torn_no_write c.torn_answer.result c.torn_answer.ensures.others)
-      (torn_no_read c.torn_answer.result c.torn_answer.ensures.others) c.torn_answer.ensures.puts;
-}
+returns-in-Ok-clause-causes g c left input out =
+    torn_ends c.in-Err-write.fault c.torn_answer.result c.torn_answer.ensures.failed c.torn_answer.ensures.wanted c.torn_answer.ensures.others
+    c.in-Err-write.ensures.cause c.in-Err-write.ensures.want c.in-Err-write.ensures.absences c.torn_answer.ensures.puts
 
 -- It would be too long, or memory was wanting
 
@@ -107,7 +93,7 @@ returns-clause-causes g c left input out =
     refused_ends c.in-Err.answer c.refuse.result
     (load_no_write c.in-Err.answer (of_image_loading c.in-Err.answer c.in-Err.ensures.others))
     (load_no_read c.in-Err.answer (of_image_loading c.in-Err.answer c.in-Err.ensures.others))
-    (unmoved (of_image_no_file c.in-Err.answer c.in-Err.ensures.others))
+    (unmoved (of_image_no_file c.in-Err.answer c.in-Err.ensures.others)) unwanted
     (no_cause (of_image_no_absence c.in-Err.answer c.in-Err.ensures.others))
     (absence_of c.in-Err.answer c.refuse.result c.refuse.ensures.line) c.refuse.ensures.line
 

@@ -12,17 +12,17 @@ use Rattle.iconx_top.proofs.AskedRuns.{run_asks, runs_broken}
 use Rattle.iconx_top.proofs.top.run_answer.Goals as goal
 
 pub returns-in-Ok-clause-outcome : goal.returns-in-Ok-clause-outcome
-returns-in-Ok-clause-outcome g c words held told asks loaded e =
+returns-in-Ok-clause-outcome g c words held before after asks loaded e same =
     if_some_intro (g.I.Source.left c.args.input.now) _ (λ left d.
     let launch = launch_with c.args.asked.arguments.now c.args.asked.limits (outside_of left) in
-    ran_outcome (tables_of c.args.code.now.code) launch c.in-Ok.ending told e
+    ran_outcome (tables_of c.args.code.now.code) launch c.in-Ok.ending before after e same
     (run_asked left launch c.args.asked.image.now c.args.code.now asks refl loaded) (c.in-Ok.ensures.ends left d))
 
 pub returns-in-Err-clause-outcome : goal.returns-in-Err-clause-outcome
-returns-in-Err-clause-outcome g c words held told asks loaded e =
+returns-in-Err-clause-outcome g c words held before after asks loaded e same =
     if_some_intro (g.I.Source.left c.args.input.now) _ (λ left d.
     let launch = launch_with c.args.asked.arguments.now c.args.asked.limits (outside_of left) in
-    rw c.broken_answer.ensures.answer (broke_outcome (tables_of c.args.code.now.code) launch c.in-Err.fault told
+    rw c.broken_answer.ensures.answer (broke_outcome (tables_of c.args.code.now.code) launch c.in-Err.fault before after same
     (run_asked left launch c.args.asked.image.now c.args.code.now asks refl loaded)
     c.in-Err.ensures.first_fault (c.in-Err.ensures.breaks left d) (c.broken_answer.ensures.behind _ _)))
 

@@ -1,7 +1,7 @@
 use Rattle.test_operations.proofs.outcome.apply_line.Goals as goal
 
 pub show_all-requires-clause-answer : goal.show_all-requires-clause-answer
-show_all-requires-clause-answer c = c.first-answer.ensures.live
+show_all-requires-clause-answer c = c.apply_operation-answer.ensures.live
 
 pub show_all-requires-clause-locals : goal.show_all-requires-clause-locals
-show_all-requires-clause-locals c = c.first-answer.ensures.locals
+show_all-requires-clause-locals c = c.apply_operation-answer.ensures.locals

@@ -5,7 +5,7 @@ use Rattle.icn_value.specs.declared.item.Item.{Item}
 use Rattle.icn_value.specs.declared.item.Item.TheVariants as Items
 use Rattle.icn_frames.specs.declared.layout.Why.{Why}
 use Rattle.icn_frames.specs.declared.layout.Cell.{Cell}
-use Rattle.icn_frames.specs.Slots.{counting}
+use Rattle.icn_frames.specs.Slots.{why_counting}
 use Rattle.icn_frames.specs.Stacks.{FlatStack, given_to}
 use Rattle.icn_frames.proofs.SoundStacks.{sound_push}
 use Rattle.icn_frames.proofs.SuspensionFrames.{sound_hung, sound_all, scan_here, suspend_is}
@@ -16,7 +16,7 @@ invariant_of-self-2 g c =
     let s = c.self.inside.cells.cells in
     let r = c.self.inside.registers in
     let h = c.in_ok-height.height in
-    let w : Why = counting c.args.count.given c.args.count.last c.args.count.step in
+    let w : Why = why_counting c.args.count.given c.args.count.last c.args.count.step in
     let t = sound_hung w s _ r r c.self.inside.address h _ (length s) r.scan c.self.invariant (sound_all s r c.self.invariant) (omega arith)
     c.bottom_of-from.ensures c.in_ok-height.ensures.height
     (scan_here w s r c.self.inside.address h r.scan c.self.invariant c.in_ok-height.ensures.height refl)
@@ -29,7 +29,7 @@ pub returns-clause-ok : goal.returns-clause-ok
 returns-clause-ok g c =
     let r = c.self.inside.registers in
     let h = c.in_ok-height.height in
-    let w : Why = counting c.args.count.given c.args.count.last c.args.count.step in
+    let w : Why = why_counting c.args.count.given c.args.count.last c.args.count.step in
     let item : Item = Items.Val (Vals.Integer c.args.count.given) in
     let m : FlatStack = record { cells = c.self.inside.cells.cells; registers = c.self.inside.registers; address = c.self.inside.address } in
     let F : List Cell → Option FlatStack = λ z. Some (record {

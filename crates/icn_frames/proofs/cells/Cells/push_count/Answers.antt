@@ -3,7 +3,7 @@ use Rattle.std.proofs.lemmas.Int.{to_z-of_z}
 use Rattle.icn_frames.specs.declared.layout.Registers.{Registers}
 use Rattle.icn_frames.specs.declared.layout.Cell.TheVariants.{Suspension}
 use Rattle.icn_frames.specs.declared.slots.CountRange.{CountRange}
-use Rattle.icn_frames.specs.Slots.{control_at, counting}
+use Rattle.icn_frames.specs.Slots.{control_at, why_counting}
 use Rattle.icn_frames.proofs.Beside.{pushed}
 use Rattle.icn_frames.proofs.cells.Cells.push_count.Goals as goal
 
@@ -21,5 +21,5 @@ returns-clause-cells g c =
     rw (← c.self.view_is)
     (pushed c.self.inside.controls.items _ c.self.inside.extras.items c.self.inside.extras.items _ _ _ _ slots
     (rw n at c.put_counted.ensures.others) (λ i d. refl)
-    (ap (λ (w : CountRange). Suspension (counting c.args.count.given w.last w.step) was c.args.address) range
-    ∙ ap (λ (w : Registers). Suspension (counting c.args.count.given c.args.count.last c.args.count.step) w c.args.address) saved))
+    (ap (λ (w : CountRange). Suspension (why_counting c.args.count.given w.last w.step) was c.args.address) range
+    ∙ ap (λ (w : Registers). Suspension (why_counting c.args.count.given c.args.count.last c.args.count.step) w c.args.address) saved))

@@ -1,6 +1,6 @@
 use Rattle.std.proofs.Common.{refl, ap, ◌∙◌}
 use Rattle.icn_frames.specs.declared.layout.Registers.{Registers}
-use Rattle.icn_frames.specs.Stacks.{opening}
+use Rattle.icn_frames.specs.Stacks.{mark_cell}
 use Rattle.icn_frames.proofs.Beside.{pushed}
 use Rattle.icn_frames.proofs.cells.Cells.push_mark.Goals as goal
 
@@ -9,4 +9,4 @@ returns-clause-cells g c =
     let n = c.len-at.ensures in
     rw (← c.self.view_is)
     (pushed c.self.inside.controls.items _ c.self.inside.extras.items _ _ _ _ _ c.push.ensures.cells (rw n at c.put_saved.ensures.others) (λ i d. refl)
-    (c.mark_slot.ensures _ _ ∙ ap (λ (w : Registers). opening c.args.label c.args.count w) (rw n at c.put_saved.ensures.is)))
+    (c.mark_slot.ensures _ _ ∙ ap (λ (w : Registers). mark_cell c.args.label c.args.count w) (rw n at c.put_saved.ensures.is)))

@@ -1,0 +1,4 @@
+use Rattle.icn_iofn.proofs.held.HeldStreamsStreams.lines.Goals as goal
+
+pub returns : goal.returns
+returns g c = record { row = c.lines_row.ensures.row; settled = c.lines_row.ensures.settled }

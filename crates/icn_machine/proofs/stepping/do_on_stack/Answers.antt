@@ -1,0 +1,66 @@
+use Rattle.std.proofs.Common.{[]}
+use Rattle.icn_value.specs.Store.{outside_of}
+use Rattle.icn_code.specs.CodeTables.{tables_of}
+use Rattle.icn_control.specs.Machines.{does}
+use Rattle.icn_machine.proofs.DoingSteps.{whole_done}
+use Rattle.icn_machine.proofs.NextSteps.{calls_none, comes_quietly, done_keeps, erring_after, ready_after, stack_applies_none}
+use Rattle.icn_machine.proofs.stepping.do_on_stack.Goals as goal
+
+pub do_stack_instruction-requires-clause-group : goal.do_stack_instruction-requires-clause-group
+do_stack_instruction-requires-clause-group g c = c.requires.group
+
+pub do_stack_instruction-requires-clause-firsts : goal.do_stack_instruction-requires-clause-firsts
+do_stack_instruction-requires-clause-firsts g c = c.requires.firsts
+
+pub do_stack_instruction-requires-clause-runs : goal.do_stack_instruction-requires-clause-runs
+do_stack_instruction-requires-clause-runs g c = c.requires.doing.runs
+
+pub do_stack_instruction-requires-clause-sound : goal.do_stack_instruction-requires-clause-sound
+do_stack_instruction-requires-clause-sound g c = c.requires.doing.sound
+
+pub do_stack_instruction-requires-clause-goes_on : goal.do_stack_instruction-requires-clause-goes_on
+do_stack_instruction-requires-clause-goes_on g c = ((outside_of []), (c.requires.doing.always (outside_of []) []).goes_on)
+
+pub do_stack_instruction-requires-clause-in_range : goal.do_stack_instruction-requires-clause-in_range
+do_stack_instruction-requires-clause-in_range g c = c.requires.doing.in_range
+
+pub do_stack_instruction-requires-clause-case_mark : goal.do_stack_instruction-requires-clause-case_mark
+do_stack_instruction-requires-clause-case_mark g c = c.requires.doing.mark
+
+pub do_stack_instruction-requires-clause-variables : goal.do_stack_instruction-requires-clause-variables
+do_stack_instruction-requires-clause-variables g c = ((outside_of []), c.requires.doing.variables (outside_of []))
+
+pub returns-clause-step : goal.returns-clause-step
+returns-clause-step g c = c.do_stack_instruction.ensures.step
+
+pub returns-clause-ready : goal.returns-clause-ready
+returns-clause-ready g c =
+    ready_after (tables_of c.args.code.now) (λ o. does (tables_of c.args.code.now) o c.args.instr c.args.m.now) c.do_stack_instruction.new.m
+    c.do_stack_instruction.result
+    (done_keeps (tables_of c.args.code.now) c.steps_keep_names.ensures.kept c.steps_keep_sizes.ensures.kept c.args.m.now c.do_stack_instruction.new.m
+    c.args.instr c.do_stack_instruction.result (calls_none c.args.instr (stack_applies_none c.args.instr c.requires.group)) c.requires.doing)
+    (comes_quietly (tables_of c.args.code.now) (λ o. does (tables_of c.args.code.now) o c.args.instr c.args.m.now) c.do_stack_instruction.new.m
+    c.do_stack_instruction.result c.do_stack_instruction.ensures.step)
+    c.do_stack_instruction.ensures.sound c.do_stack_instruction.ensures.stack
+
+pub returns-clause-erring : goal.returns-clause-erring
+returns-clause-erring g c =
+    erring_after (tables_of c.args.code.now) (λ o. does (tables_of c.args.code.now) o c.args.instr c.args.m.now) c.do_stack_instruction.new.m
+    c.do_stack_instruction.result
+    (done_keeps (tables_of c.args.code.now) c.steps_keep_names.ensures.kept c.steps_keep_sizes.ensures.kept c.args.m.now c.do_stack_instruction.new.m
+    c.args.instr c.do_stack_instruction.result (calls_none c.args.instr (stack_applies_none c.args.instr c.requires.group)) c.requires.doing)
+    (comes_quietly (tables_of c.args.code.now) (λ o. does (tables_of c.args.code.now) o c.args.instr c.args.m.now) c.do_stack_instruction.new.m
+    c.do_stack_instruction.result c.do_stack_instruction.ensures.step)
+    c.do_stack_instruction.ensures.sound c.do_stack_instruction.ensures.stack
+
+pub returns-clause-whole : goal.returns-clause-whole
+returns-clause-whole g c whole =
+    whole_done (tables_of c.args.code.now) c.args.m.now c.do_stack_instruction.new.m c.args.instr c.do_stack_instruction.result whole
+    c.do_stack_instruction.ensures.step
+    c.do_stack_instruction.ensures.no_memory
+
+pub returns-clause-within : goal.returns-clause-within
+returns-clause-within g c = record {
+  halt = c.do_stack_instruction.ensures.halt;
+  limits = c.do_stack_instruction.ensures.limits;
+}
