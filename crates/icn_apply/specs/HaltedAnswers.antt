@@ -4,8 +4,10 @@ use Rattle.icn_vars.specs.declared.outcome.Outcome.{Outcome}
 use Rattle.icn_vars.specs.declared.outcome.Halt.{Halt}
 use Rattle.icn_vars.specs.declared.stop.Stop.{Stop}
 use Rattle.icn_vars.specs.Stops.{halt_of}
+use Rattle.icn_args.specs.declared.value_outcome.ValueOutcome.{ValueOutcome}
+use Rattle.icn_args.specs.ValueOutcomes.{outcome_of}
 
 -- an answer that is no end of the program and no fault, as one that could be
-abbrev pub as_answer : Result Outcome Stop → Result Outcome Halt
-as_answer (Ok outcome) = Ok outcome
+abbrev pub as_answer : Result ValueOutcome Stop → Result Outcome Halt
+as_answer (Ok given) = Ok (outcome_of given)
 as_answer (Err stop) = Err (halt_of stop)

@@ -4,7 +4,7 @@ ghost use Rattle.icn_defs.specs.ErrorRows.{errorclear_row};
 ghost use Rattle.icn_heap.specs.Extents.{IsLive};
 ghost use Rattle.icn_heap.specs.Heaps.{extent_of};
 ghost use Rattle.icn_vars.specs.Outcomes.{IsLiveAnswer};
-ghost use Rattle.icn_vars.specs.Worlds.{KeepsItems, reach_of};
+ghost use Rattle.icn_vars.specs.Worlds.{KeepsLive, reach_of};
 ghost use Rattle.icn_args.specs.RowWords.{Answers};
 
 use icn_value::{Item, Val};
@@ -16,8 +16,7 @@ pub fn errorclear_row<L: Locals>(w: &mut World, _l: &L) -> Result<Outcome, Halt>
     requires locals { All (IsLive (extent_of w.old.heap)) (L.items _l.now) }
     ensures row { Answers w.old (L.items _l.now) w.new (L.items _l.now) errorclear_row result }
     ensures live { IsLiveAnswer (reach_of w.new (L.items _l.now)) result }
-    ensures locals { All (IsLive (extent_of w.new.heap)) (L.items _l.now) }
-    ensures kept { KeepsItems (reach_of w.old (L.items _l.now)) (reach_of w.new (L.items _l.now)) }
+    ensures kept { KeepsLive w.old (L.items _l.now) w.new (L.items _l.now) }
 {
     w.words.kept = None;
     Ok(Outcome::Gives(Item::Val(Val::Null)))

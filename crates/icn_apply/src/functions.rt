@@ -15,7 +15,7 @@ ghost use Rattle.icn_apply.specs.NamesAfter.{AnswerNamed};
 ghost use Rattle.icn_apply.specs.SizesAfter.{AnswerKeepsSizes};
 
 use crate::errors::errorclear_row;
-use icn_args::values_of;
+use icn_args::{ValueOutcome, values_of};
 use icn_convert::Names;
 use icn_iofn::exit;
 use icn_scanfn::{
@@ -114,7 +114,7 @@ fn apply_to_values<L: Locals, N: Names, S: Streams>(
         Func::Repl => as_answer(repl_row(w, l, vals)),
         Func::Reverse => as_answer(reverse_row(w, l, vals)),
         Func::Right => as_answer(field_row(w, l, Layout::Right, vals)),
-        Func::Seq => as_answer(seq_row(w, l, vals)),
+        Func::Seq => seq_row(w, l, vals),
         Func::Set => icn_structfn::set(w, l, vals),
         Func::Sort => icn_structfn::sort(w, l, names, vals),
         Func::Stop => streams.stop(vals, w, l),
@@ -130,12 +130,12 @@ fn apply_to_values<L: Locals, N: Names, S: Streams>(
     }
 }
 
-// What a row answers that neither ends the program nor meets a fault, as an answer that could.
-fn as_answer(answer: Result<Outcome, Stop>) -> Result<Outcome, Halt>
+// What a row answers that gives a value at most, and neither ends the program nor meets a fault, as an answer that could.
+fn as_answer(answer: Result<ValueOutcome, Stop>) -> Result<Outcome, Halt>
     ensures { result ≡ as_answer answer }
 {
     match answer {
-        Ok(outcome) => Ok(outcome),
+        Ok(given) => Ok(given.outcome()),
         Err(Stop::Error(number, offending)) => Err(Halt::Error(number, offending)),
         Err(Stop::NoMemory) => Err(Halt::NoMemory),
     }

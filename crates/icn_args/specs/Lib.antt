@@ -1,2 +1,3 @@
 pub mod RowWords
 pub mod ItemsLeft
+pub mod ValueOutcomes

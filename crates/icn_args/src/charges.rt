@@ -7,7 +7,7 @@ ghost use Rattle.icn_defs.specs.Rows.{costs_bytes, costs_text, costs_texts};
 ghost use Rattle.icn_heap.specs.Extents.{IsLive, IsText, text_in, value_in};
 ghost use Rattle.icn_heap.specs.Heaps.{extent_of};
 ghost use Rattle.icn_vars.specs.Stops.{IsLiveStop};
-ghost use Rattle.icn_vars.specs.Worlds.{KeepsItems, reach_of, setting_of};
+ghost use Rattle.icn_vars.specs.Worlds.{KeepsLive, setting_of};
 ghost use Rattle.icn_args.specs.RowWords.{HasText, IsPassed, the_text};
 
 use icn_convert::to_text;
@@ -29,8 +29,7 @@ pub fn text_of<L: Locals>(w: &mut World, l: &L, val: Val) -> Result<Span, Stop>
         → IsPassed (extent_of w.new.heap) (costs_text (value_in (extent_of w.old.heap) val))
         (setting_of outside w.old (L.items l.now)) (setting_of outside w.new (L.items l.now)) result }
     ensures held { MakesNoText (value_in (extent_of w.old.heap) val) → OnErr result ⊥ }
-    ensures locals { All (IsLive (extent_of w.new.heap)) (L.items l.now) }
-    ensures kept { KeepsItems (reach_of w.old (L.items l.now)) (reach_of w.new (L.items l.now)) }
+    ensures kept { KeepsLive w.old (L.items l.now) w.new (L.items l.now) }
 {
     match to_text(&mut w.heap, val)? {
         Some(span) => Ok(span),
@@ -56,8 +55,7 @@ pub fn texts_of<L: Locals>(w: &mut World, l: &L, a: Val, b: Val) -> Result<(Span
     ensures step { (outside : Outside) → IsPassed (extent_of w.new.heap)
         (costs_texts (value_in (extent_of w.old.heap) a ∷ value_in (extent_of w.old.heap) b ∷ []))
         (setting_of outside w.old (L.items l.now)) (setting_of outside w.new (L.items l.now)) result }
-    ensures locals { All (IsLive (extent_of w.new.heap)) (L.items l.now) }
-    ensures kept { KeepsItems (reach_of w.old (L.items l.now)) (reach_of w.new (L.items l.now)) }
+    ensures kept { KeepsLive w.old (L.items l.now) w.new (L.items l.now) }
 {
     let first = text_of(w, l, a)?;
     let second = text_of(w, l, b)?;
@@ -73,8 +71,7 @@ pub fn build<L: Locals>(w: &mut World, l: &L, bytes: &[u8]) -> Result<Span, Stop
     ensures stops { IfErr result (IsLiveStop (extent_of w.new.heap)) }
     ensures step { (outside : Outside) → IsPassed (extent_of w.new.heap) (costs_bytes (length bytes.now))
         (setting_of outside w.old (L.items l.now)) (setting_of outside w.new (L.items l.now)) result }
-    ensures locals { All (IsLive (extent_of w.new.heap)) (L.items l.now) }
-    ensures kept { KeepsItems (reach_of w.old (L.items l.now)) (reach_of w.new (L.items l.now)) }
+    ensures kept { KeepsLive w.old (L.items l.now) w.new (L.items l.now) }
 {
     Ok(w.heap.build(bytes)?)
 }
@@ -92,8 +89,7 @@ pub fn join<L: Locals>(w: &mut World, l: &L, a: Span, b: Span) -> Result<Span, S
     ensures step { (outside : Outside) → IsPassed (extent_of w.new.heap)
         (costs_bytes (length (text_in (extent_of w.old.heap) a ++ text_in (extent_of w.old.heap) b)))
         (setting_of outside w.old (L.items l.now)) (setting_of outside w.new (L.items l.now)) result }
-    ensures locals { All (IsLive (extent_of w.new.heap)) (L.items l.now) }
-    ensures kept { KeepsItems (reach_of w.old (L.items l.now)) (reach_of w.new (L.items l.now)) }
+    ensures kept { KeepsLive w.old (L.items l.now) w.new (L.items l.now) }
 {
     Ok(w.heap.join(a, b)?)
 }

@@ -6,7 +6,7 @@ ghost use Rattle.icn_defs.specs.Scanning.{stands, tabs_to, undo_position_again};
 ghost use Rattle.icn_heap.specs.Extents.{IsLive, text_in};
 ghost use Rattle.icn_heap.specs.Heaps.{extent_of};
 ghost use Rattle.icn_vars.specs.Outcomes.{IsLiveAnswer, IsLiveOutcome, outcome_in};
-ghost use Rattle.icn_vars.specs.Worlds.{KeepsItems, reach_of, setting_of};
+ghost use Rattle.icn_vars.specs.Worlds.{KeepsLive, reach_of, setting_of};
 ghost use Rattle.icn_vars.specs.declared.outcome.Halt.TheVariants.{NoMemory};
 ghost use Rattle.icn_args.specs.RowWords.{Answers};
 
@@ -35,8 +35,7 @@ pub fn tab_to<L: Locals>(w: &mut World, l: &L, place: u64) -> Outcome
     ensures row { (outside : Outside) → tabs_to place (setting_of outside w.old (L.items l.now))
         ≡ outcome_in (extent_of w.new.heap) result (setting_of outside w.new (L.items l.now)) }
     ensures live { IsLiveOutcome (reach_of w.new (L.items l.now)) result }
-    ensures locals { All (IsLive (extent_of w.new.heap)) (L.items l.now) }
-    ensures kept { KeepsItems (reach_of w.old (L.items l.now)) (reach_of w.new (L.items l.now)) }
+    ensures kept { KeepsLive w.old (L.items l.now) w.new (L.items l.now) }
 {
     let old = w.pair.position;
     let from = old.min(place);
@@ -53,8 +52,7 @@ pub fn undo_position_again<L: Locals>(w: &mut World, l: &L, old: u64) -> Result<
     ensures row { Answers w.old (L.items l.now) w.new (L.items l.now) (undo_position_again old) result }
     ensures memory { IfErr result (λ halt. halt ≢ NoMemory) }
     ensures live { IsLiveAnswer (reach_of w.new (L.items l.now)) result }
-    ensures locals { All (IsLive (extent_of w.new.heap)) (L.items l.now) }
-    ensures kept { KeepsItems (reach_of w.old (L.items l.now)) (reach_of w.new (L.items l.now)) }
+    ensures kept { KeepsLive w.old (L.items l.now) w.new (L.items l.now) }
 {
     let size = w.heap.bytes(w.pair.subject).len() as u64;
     if old - 1 > size {

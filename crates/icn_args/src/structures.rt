@@ -6,7 +6,7 @@ ghost use Rattle.icn_defs.specs.Rows.{new_list_of};
 ghost use Rattle.icn_heap.specs.Extents.{IsLive, value_in};
 ghost use Rattle.icn_heap.specs.Heaps.{extent_of};
 ghost use Rattle.icn_vars.specs.Stops.{IsLiveStop};
-ghost use Rattle.icn_vars.specs.Worlds.{KeepsItems, reach_of, setting_of};
+ghost use Rattle.icn_vars.specs.Worlds.{KeepsLive, setting_of};
 ghost use Rattle.icn_args.specs.RowWords.{IsFound};
 
 use icn_value::Val;
@@ -23,8 +23,7 @@ pub fn new_list<L: Locals>(w: &mut World, l: &L, items: &[Val]) -> Result<Val, S
         → IsFound (extent_of w.new.heap) (new_list_of (map (value_in (extent_of w.old.heap)) items.now))
         (setting_of outside w.old (L.items l.now)) (setting_of outside w.new (L.items l.now))
         (value_in (extent_of w.new.heap)) result }
-    ensures locals { All (IsLive (extent_of w.new.heap)) (L.items l.now) }
-    ensures kept { KeepsItems (reach_of w.old (L.items l.now)) (reach_of w.new (L.items l.now)) }
+    ensures kept { KeepsLive w.old (L.items l.now) w.new (L.items l.now) }
 {
     Ok(w.heap.list_from(items)?)
 }

@@ -59,9 +59,10 @@ abbrev pub keyword : Option KeywordName → Surroundings → Works → Choices �
 keyword (Some word) s k r st = item_or_failure (keyword_item (standing_of s st) word) k r st
 keyword None s k r st = lost
 
--- `{e1; e2; ..}`: the first, bounded, and then the rest; an empty one before the last is passed over
+-- `{e1; e2; ..}`: the first, bounded, and then the rest; an empty one before the last is passed over. No program has
+-- a row without an expression.
 abbrev pub compound : Place → Trees → Surroundings → Works → Choices → Store → Evaluation
-compound place NoTrees s k r st = give_value Null k r st
+compound place NoTrees s k r st = lost
 compound place (More e NoTrees) s k r st = eval e s k r st
 compound place (More Empty (More e es)) s k r st = compound place (More e es) s k r st
 compound place (More d (More e es)) s k r st =
@@ -70,14 +71,14 @@ compound place (More d (More e es)) s k r st =
 
 -- `(e1, e2, ..)`: the first and then the rest
 abbrev pub conjunction : Place → Trees → Surroundings → Works → Choices → Store → Evaluation
-conjunction place NoTrees s k r st = give_value Null k r st
+conjunction place NoTrees s k r st = lost
 conjunction place (More e NoTrees) s k r st = eval e s k r st
 conjunction place (More d (More e es)) s k r st =
     eval d s (Then (Parentheses place (More e es)) s and_then k) r st
 
 -- `x[i, j]` is `x[i][j]`
 abbrev pub subscripts : Program → Place → Tree → Trees → Surroundings → Works → Choices → Store → Evaluation
-subscripts program place x NoTrees s k r st = eval x s k r st
+subscripts program place x NoTrees s k r st = lost
 subscripts program place x (More i NoTrees) s k r st =
     operands program (Operating SubscriptOp) [] (More x (More i NoTrees)) s k r st
 subscripts program place x (More i (More j js)) s k r st =

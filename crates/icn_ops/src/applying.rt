@@ -4,7 +4,7 @@ ghost use Rattle.std.specs.List.{All};
 ghost use Rattle.icn_defs.specs.Applying.{operand, operation_on, operation_row};
 ghost use Rattle.icn_heap.specs.Extents.{Extent, IsLive};
 ghost use Rattle.icn_heap.specs.Heaps.{extent_of};
-ghost use Rattle.icn_vars.specs.Worlds.{IsLiveItem, Reach, item_in, reach_of};
+ghost use Rattle.icn_vars.specs.Worlds.{AreLiveThree, IsLiveItem, Reach, item_in, reach_of};
 ghost use Rattle.icn_streams.specs.Answers.{call_state};
 ghost use Rattle.icn_streams.specs.Applies.{Applies};
 
@@ -79,10 +79,7 @@ fn apply_to_operands<L: Locals, S: Streams>(
     l: &mut L,
     streams: &mut S,
 ) -> Result<Outcome, Halt>
-    requires locals { All (IsLive (extent_of w.old.heap)) (L.items l.old) }
-    requires first { IsLiveItem (reach_of w.old (L.items l.old)) x }
-    requires second { IsLiveItem (reach_of w.old (L.items l.old)) y }
-    requires third { IsLiveItem (reach_of w.old (L.items l.old)) z }
+    requires live { AreLiveThree w.old (L.items l.old) x y z }
     ensures { Applies (operation_on op (item_in (extent_of w.old.heap) x) (item_in (extent_of w.old.heap) y)
         (item_in (extent_of w.old.heap) z))
         (call_state w.old (L.items l.old) (S.state streams.old))

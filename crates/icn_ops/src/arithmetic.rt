@@ -4,13 +4,11 @@ ghost use Rattle.icn_value.specs.Store.{Setting};
 ghost use Rattle.icn_defs.specs.Arithmetic.{add_row, divide_row, multiply_row, negate_row, number_row, power_row, remainder_row, subtract_row};
 ghost use Rattle.icn_heap.specs.Extents.{Extent};
 ghost use Rattle.icn_vars.specs.Outcomes.{ComesToAnswer};
-ghost use Rattle.icn_vars.specs.Worlds.{Reach};
+ghost use Rattle.icn_vars.specs.Worlds.{AreLiveTwo, IsLiveOperand, Reach};
 ghost use Rattle.icn_ops.specs.Operands.{gives_computed};
-ghost use Rattle.std.specs.List.{All};
-ghost use Rattle.icn_heap.specs.Extents.{IsLive};
 ghost use Rattle.icn_heap.specs.Heaps.{extent_of};
 ghost use Rattle.icn_vars.specs.Outcomes.{IsLiveAnswer};
-ghost use Rattle.icn_vars.specs.Worlds.{IsLiveItem, item_in, reach_of};
+ghost use Rattle.icn_vars.specs.Worlds.{item_in, reach_of};
 ghost use Rattle.icn_args.specs.RowWords.{Answers};
 
 use crate::operands::two_numbers;
@@ -31,8 +29,7 @@ fn integer_outcome(found: Result<i64, Arith>) -> Result<Outcome, Halt>
 
 /// `+n`: the integer, or error 102.
 pub fn number_row<L: Locals>(w: &World, l: &L, x: Item) -> Result<Outcome, Halt>
-    requires locals { All (IsLive (extent_of w.now.heap)) (L.items l.now) }
-    requires first { IsLiveItem (reach_of w.now (L.items l.now)) x }
+    requires live { IsLiveOperand w.now (L.items l.now) x }
     ensures row { Answers w.now (L.items l.now) w.now (L.items l.now)
         (number_row (item_in (extent_of w.now.heap) x)) result }
     ensures live { IsLiveAnswer (reach_of w.now (L.items l.now)) result }
@@ -44,8 +41,7 @@ pub fn number_row<L: Locals>(w: &World, l: &L, x: Item) -> Result<Outcome, Halt>
 
 /// `-n`: the integer below 0 by as much as it is above, or error 102; 203 where 64 bits do not hold it.
 pub fn negate_row<L: Locals>(w: &World, l: &L, x: Item) -> Result<Outcome, Halt>
-    requires locals { All (IsLive (extent_of w.now.heap)) (L.items l.now) }
-    requires first { IsLiveItem (reach_of w.now (L.items l.now)) x }
+    requires live { IsLiveOperand w.now (L.items l.now) x }
     ensures row { Answers w.now (L.items l.now) w.now (L.items l.now)
         (negate_row (item_in (extent_of w.now.heap) x)) result }
     ensures live { IsLiveAnswer (reach_of w.now (L.items l.now)) result }
@@ -57,9 +53,7 @@ pub fn negate_row<L: Locals>(w: &World, l: &L, x: Item) -> Result<Outcome, Halt>
 
 /// `m + n`: the sum, or error 102; 203 where 64 bits do not hold it.
 pub fn add_row<L: Locals>(w: &World, l: &L, x: Item, y: Item) -> Result<Outcome, Halt>
-    requires locals { All (IsLive (extent_of w.now.heap)) (L.items l.now) }
-    requires first { IsLiveItem (reach_of w.now (L.items l.now)) x }
-    requires second { IsLiveItem (reach_of w.now (L.items l.now)) y }
+    requires live { AreLiveTwo w.now (L.items l.now) x y }
     ensures row { Answers w.now (L.items l.now) w.now (L.items l.now)
         (add_row (item_in (extent_of w.now.heap) x) (item_in (extent_of w.now.heap) y)) result }
     ensures live { IsLiveAnswer (reach_of w.now (L.items l.now)) result }
@@ -70,9 +64,7 @@ pub fn add_row<L: Locals>(w: &World, l: &L, x: Item, y: Item) -> Result<Outcome,
 
 /// `m - n`: the difference, or error 102; 203 where 64 bits do not hold it.
 pub fn subtract_row<L: Locals>(w: &World, l: &L, x: Item, y: Item) -> Result<Outcome, Halt>
-    requires locals { All (IsLive (extent_of w.now.heap)) (L.items l.now) }
-    requires first { IsLiveItem (reach_of w.now (L.items l.now)) x }
-    requires second { IsLiveItem (reach_of w.now (L.items l.now)) y }
+    requires live { AreLiveTwo w.now (L.items l.now) x y }
     ensures row { Answers w.now (L.items l.now) w.now (L.items l.now)
         (subtract_row (item_in (extent_of w.now.heap) x) (item_in (extent_of w.now.heap) y)) result }
     ensures live { IsLiveAnswer (reach_of w.now (L.items l.now)) result }
@@ -83,9 +75,7 @@ pub fn subtract_row<L: Locals>(w: &World, l: &L, x: Item, y: Item) -> Result<Out
 
 /// `m * n`: the product, or error 102; 203 where 64 bits do not hold it.
 pub fn multiply_row<L: Locals>(w: &World, l: &L, x: Item, y: Item) -> Result<Outcome, Halt>
-    requires locals { All (IsLive (extent_of w.now.heap)) (L.items l.now) }
-    requires first { IsLiveItem (reach_of w.now (L.items l.now)) x }
-    requires second { IsLiveItem (reach_of w.now (L.items l.now)) y }
+    requires live { AreLiveTwo w.now (L.items l.now) x y }
     ensures row { Answers w.now (L.items l.now) w.now (L.items l.now)
         (multiply_row (item_in (extent_of w.now.heap) x) (item_in (extent_of w.now.heap) y)) result }
     ensures live { IsLiveAnswer (reach_of w.now (L.items l.now)) result }
@@ -96,9 +86,7 @@ pub fn multiply_row<L: Locals>(w: &World, l: &L, x: Item, y: Item) -> Result<Out
 
 /// `m / n`: the quotient, truncated toward 0, or error 102; 201 at the divisor 0, 203 where 64 bits do not hold it.
 pub fn divide_row<L: Locals>(w: &World, l: &L, x: Item, y: Item) -> Result<Outcome, Halt>
-    requires locals { All (IsLive (extent_of w.now.heap)) (L.items l.now) }
-    requires first { IsLiveItem (reach_of w.now (L.items l.now)) x }
-    requires second { IsLiveItem (reach_of w.now (L.items l.now)) y }
+    requires live { AreLiveTwo w.now (L.items l.now) x y }
     ensures row { Answers w.now (L.items l.now) w.now (L.items l.now)
         (divide_row (item_in (extent_of w.now.heap) x) (item_in (extent_of w.now.heap) y)) result }
     ensures live { IsLiveAnswer (reach_of w.now (L.items l.now)) result }
@@ -109,9 +97,7 @@ pub fn divide_row<L: Locals>(w: &World, l: &L, x: Item, y: Item) -> Result<Outco
 
 /// `m % n`: the remainder, with the sign of the dividend, or error 102; 202 at the divisor 0.
 pub fn remainder_row<L: Locals>(w: &World, l: &L, x: Item, y: Item) -> Result<Outcome, Halt>
-    requires locals { All (IsLive (extent_of w.now.heap)) (L.items l.now) }
-    requires first { IsLiveItem (reach_of w.now (L.items l.now)) x }
-    requires second { IsLiveItem (reach_of w.now (L.items l.now)) y }
+    requires live { AreLiveTwo w.now (L.items l.now) x y }
     ensures row { Answers w.now (L.items l.now) w.now (L.items l.now)
         (remainder_row (item_in (extent_of w.now.heap) x) (item_in (extent_of w.now.heap) y)) result }
     ensures live { IsLiveAnswer (reach_of w.now (L.items l.now)) result }
@@ -122,9 +108,7 @@ pub fn remainder_row<L: Locals>(w: &World, l: &L, x: Item, y: Item) -> Result<Ou
 
 /// `m ^ n`: the power, or error 102; 201 at 0 to an exponent below 0, 203 where 64 bits do not hold it.
 pub fn power_row<L: Locals>(w: &World, l: &L, x: Item, y: Item) -> Result<Outcome, Halt>
-    requires locals { All (IsLive (extent_of w.now.heap)) (L.items l.now) }
-    requires first { IsLiveItem (reach_of w.now (L.items l.now)) x }
-    requires second { IsLiveItem (reach_of w.now (L.items l.now)) y }
+    requires live { AreLiveTwo w.now (L.items l.now) x y }
     ensures row { Answers w.now (L.items l.now) w.now (L.items l.now)
         (power_row (item_in (extent_of w.now.heap) x) (item_in (extent_of w.now.heap) y)) result }
     ensures live { IsLiveAnswer (reach_of w.now (L.items l.now)) result }

@@ -2,11 +2,10 @@
 ghost use Rattle.icn_value.specs.Store.{Setting};
 ghost use Rattle.icn_defs.specs.Arithmetic.{equal_row, greater_or_equal_row, greater_row, less_or_equal_row, less_row, not_equal_row};
 ghost use Rattle.icn_defs.specs.Operations.{equivalent_row, lexically_equal_row, lexically_greater_or_equal_row, lexically_greater_row, lexically_less_or_equal_row, lexically_less_row, lexically_not_equal_row, not_equivalent_row};
-ghost use Rattle.std.specs.List.{All};
 ghost use Rattle.icn_heap.specs.Extents.{Extent, IsLive, value_in};
 ghost use Rattle.icn_heap.specs.Heaps.{extent_of};
 ghost use Rattle.icn_vars.specs.Outcomes.{IsLiveAnswer};
-ghost use Rattle.icn_vars.specs.Worlds.{IsLiveItem, KeepsItems, Reach, item_in, reach_of};
+ghost use Rattle.icn_vars.specs.Worlds.{AreLiveTwo, KeepsLive, Reach, item_in, reach_of};
 ghost use Rattle.icn_args.specs.RowWords.{Answers};
 ghost use Rattle.std.specs.Prelude.{◌≡◌};
 ghost use Rattle.icn_defs.specs.Rows.{gives_value, fails_unless};
@@ -32,9 +31,7 @@ fn value_if(test: bool, val: Val) -> Outcome
 
 /// `m < n`, or error 102.
 pub fn less_row<L: Locals>(w: &World, l: &L, x: Item, y: Item) -> Result<Outcome, Halt>
-    requires locals { All (IsLive (extent_of w.now.heap)) (L.items l.now) }
-    requires first { IsLiveItem (reach_of w.now (L.items l.now)) x }
-    requires second { IsLiveItem (reach_of w.now (L.items l.now)) y }
+    requires live { AreLiveTwo w.now (L.items l.now) x y }
     ensures row { Answers w.now (L.items l.now) w.now (L.items l.now)
         (less_row (item_in (extent_of w.now.heap) x) (item_in (extent_of w.now.heap) y)) result }
     ensures live { IsLiveAnswer (reach_of w.now (L.items l.now)) result }
@@ -45,9 +42,7 @@ pub fn less_row<L: Locals>(w: &World, l: &L, x: Item, y: Item) -> Result<Outcome
 
 /// `m <= n`, or error 102.
 pub fn less_or_equal_row<L: Locals>(w: &World, l: &L, x: Item, y: Item) -> Result<Outcome, Halt>
-    requires locals { All (IsLive (extent_of w.now.heap)) (L.items l.now) }
-    requires first { IsLiveItem (reach_of w.now (L.items l.now)) x }
-    requires second { IsLiveItem (reach_of w.now (L.items l.now)) y }
+    requires live { AreLiveTwo w.now (L.items l.now) x y }
     ensures row { Answers w.now (L.items l.now) w.now (L.items l.now)
         (less_or_equal_row (item_in (extent_of w.now.heap) x) (item_in (extent_of w.now.heap) y)) result }
     ensures live { IsLiveAnswer (reach_of w.now (L.items l.now)) result }
@@ -58,9 +53,7 @@ pub fn less_or_equal_row<L: Locals>(w: &World, l: &L, x: Item, y: Item) -> Resul
 
 /// `m = n`, or error 102.
 pub fn equal_row<L: Locals>(w: &World, l: &L, x: Item, y: Item) -> Result<Outcome, Halt>
-    requires locals { All (IsLive (extent_of w.now.heap)) (L.items l.now) }
-    requires first { IsLiveItem (reach_of w.now (L.items l.now)) x }
-    requires second { IsLiveItem (reach_of w.now (L.items l.now)) y }
+    requires live { AreLiveTwo w.now (L.items l.now) x y }
     ensures row { Answers w.now (L.items l.now) w.now (L.items l.now)
         (equal_row (item_in (extent_of w.now.heap) x) (item_in (extent_of w.now.heap) y)) result }
     ensures live { IsLiveAnswer (reach_of w.now (L.items l.now)) result }
@@ -71,9 +64,7 @@ pub fn equal_row<L: Locals>(w: &World, l: &L, x: Item, y: Item) -> Result<Outcom
 
 /// `m >= n`, or error 102.
 pub fn greater_or_equal_row<L: Locals>(w: &World, l: &L, x: Item, y: Item) -> Result<Outcome, Halt>
-    requires locals { All (IsLive (extent_of w.now.heap)) (L.items l.now) }
-    requires first { IsLiveItem (reach_of w.now (L.items l.now)) x }
-    requires second { IsLiveItem (reach_of w.now (L.items l.now)) y }
+    requires live { AreLiveTwo w.now (L.items l.now) x y }
     ensures row { Answers w.now (L.items l.now) w.now (L.items l.now)
         (greater_or_equal_row (item_in (extent_of w.now.heap) x) (item_in (extent_of w.now.heap) y)) result }
     ensures live { IsLiveAnswer (reach_of w.now (L.items l.now)) result }
@@ -84,9 +75,7 @@ pub fn greater_or_equal_row<L: Locals>(w: &World, l: &L, x: Item, y: Item) -> Re
 
 /// `m > n`, or error 102.
 pub fn greater_row<L: Locals>(w: &World, l: &L, x: Item, y: Item) -> Result<Outcome, Halt>
-    requires locals { All (IsLive (extent_of w.now.heap)) (L.items l.now) }
-    requires first { IsLiveItem (reach_of w.now (L.items l.now)) x }
-    requires second { IsLiveItem (reach_of w.now (L.items l.now)) y }
+    requires live { AreLiveTwo w.now (L.items l.now) x y }
     ensures row { Answers w.now (L.items l.now) w.now (L.items l.now)
         (greater_row (item_in (extent_of w.now.heap) x) (item_in (extent_of w.now.heap) y)) result }
     ensures live { IsLiveAnswer (reach_of w.now (L.items l.now)) result }
@@ -97,9 +86,7 @@ pub fn greater_row<L: Locals>(w: &World, l: &L, x: Item, y: Item) -> Result<Outc
 
 /// `m ~= n`, or error 102.
 pub fn not_equal_row<L: Locals>(w: &World, l: &L, x: Item, y: Item) -> Result<Outcome, Halt>
-    requires locals { All (IsLive (extent_of w.now.heap)) (L.items l.now) }
-    requires first { IsLiveItem (reach_of w.now (L.items l.now)) x }
-    requires second { IsLiveItem (reach_of w.now (L.items l.now)) y }
+    requires live { AreLiveTwo w.now (L.items l.now) x y }
     ensures row { Answers w.now (L.items l.now) w.now (L.items l.now)
         (not_equal_row (item_in (extent_of w.now.heap) x) (item_in (extent_of w.now.heap) y)) result }
     ensures live { IsLiveAnswer (reach_of w.now (L.items l.now)) result }
@@ -115,14 +102,11 @@ pub fn lexically_less_row<L: Locals>(
     x: Item,
     y: Item,
 ) -> Result<Outcome, Halt>
-    requires locals { All (IsLive (extent_of w.old.heap)) (L.items l.now) }
-    requires first { IsLiveItem (reach_of w.old (L.items l.now)) x }
-    requires second { IsLiveItem (reach_of w.old (L.items l.now)) y }
+    requires live { AreLiveTwo w.old (L.items l.now) x y }
     ensures row { Answers w.old (L.items l.now) w.new (L.items l.now)
         (lexically_less_row (item_in (extent_of w.old.heap) x) (item_in (extent_of w.old.heap) y)) result }
     ensures live { IsLiveAnswer (reach_of w.new (L.items l.now)) result }
-    ensures locals { All (IsLive (extent_of w.new.heap)) (L.items l.now) }
-    ensures kept { KeepsItems (reach_of w.old (L.items l.now)) (reach_of w.new (L.items l.now)) }
+    ensures kept { KeepsLive w.old (L.items l.now) w.new (L.items l.now) }
 {
     let (order, text) = compared_texts(w, l, x, y)?;
     Ok(value_if(order.is_lt(), Val::Text(text)))
@@ -135,15 +119,12 @@ pub fn lexically_less_or_equal_row<L: Locals>(
     x: Item,
     y: Item,
 ) -> Result<Outcome, Halt>
-    requires locals { All (IsLive (extent_of w.old.heap)) (L.items l.now) }
-    requires first { IsLiveItem (reach_of w.old (L.items l.now)) x }
-    requires second { IsLiveItem (reach_of w.old (L.items l.now)) y }
+    requires live { AreLiveTwo w.old (L.items l.now) x y }
     ensures row { Answers w.old (L.items l.now) w.new (L.items l.now)
         (lexically_less_or_equal_row (item_in (extent_of w.old.heap) x) (item_in (extent_of w.old.heap) y))
         result }
     ensures live { IsLiveAnswer (reach_of w.new (L.items l.now)) result }
-    ensures locals { All (IsLive (extent_of w.new.heap)) (L.items l.now) }
-    ensures kept { KeepsItems (reach_of w.old (L.items l.now)) (reach_of w.new (L.items l.now)) }
+    ensures kept { KeepsLive w.old (L.items l.now) w.new (L.items l.now) }
 {
     let (order, text) = compared_texts(w, l, x, y)?;
     Ok(value_if(order.is_le(), Val::Text(text)))
@@ -156,14 +137,11 @@ pub fn lexically_equal_row<L: Locals>(
     x: Item,
     y: Item,
 ) -> Result<Outcome, Halt>
-    requires locals { All (IsLive (extent_of w.old.heap)) (L.items l.now) }
-    requires first { IsLiveItem (reach_of w.old (L.items l.now)) x }
-    requires second { IsLiveItem (reach_of w.old (L.items l.now)) y }
+    requires live { AreLiveTwo w.old (L.items l.now) x y }
     ensures row { Answers w.old (L.items l.now) w.new (L.items l.now)
         (lexically_equal_row (item_in (extent_of w.old.heap) x) (item_in (extent_of w.old.heap) y)) result }
     ensures live { IsLiveAnswer (reach_of w.new (L.items l.now)) result }
-    ensures locals { All (IsLive (extent_of w.new.heap)) (L.items l.now) }
-    ensures kept { KeepsItems (reach_of w.old (L.items l.now)) (reach_of w.new (L.items l.now)) }
+    ensures kept { KeepsLive w.old (L.items l.now) w.new (L.items l.now) }
 {
     let (order, text) = compared_texts(w, l, x, y)?;
     Ok(value_if(order.is_eq(), Val::Text(text)))
@@ -176,15 +154,12 @@ pub fn lexically_greater_or_equal_row<L: Locals>(
     x: Item,
     y: Item,
 ) -> Result<Outcome, Halt>
-    requires locals { All (IsLive (extent_of w.old.heap)) (L.items l.now) }
-    requires first { IsLiveItem (reach_of w.old (L.items l.now)) x }
-    requires second { IsLiveItem (reach_of w.old (L.items l.now)) y }
+    requires live { AreLiveTwo w.old (L.items l.now) x y }
     ensures row { Answers w.old (L.items l.now) w.new (L.items l.now)
         (lexically_greater_or_equal_row (item_in (extent_of w.old.heap) x) (item_in (extent_of w.old.heap) y))
         result }
     ensures live { IsLiveAnswer (reach_of w.new (L.items l.now)) result }
-    ensures locals { All (IsLive (extent_of w.new.heap)) (L.items l.now) }
-    ensures kept { KeepsItems (reach_of w.old (L.items l.now)) (reach_of w.new (L.items l.now)) }
+    ensures kept { KeepsLive w.old (L.items l.now) w.new (L.items l.now) }
 {
     let (order, text) = compared_texts(w, l, x, y)?;
     Ok(value_if(order.is_ge(), Val::Text(text)))
@@ -197,14 +172,11 @@ pub fn lexically_greater_row<L: Locals>(
     x: Item,
     y: Item,
 ) -> Result<Outcome, Halt>
-    requires locals { All (IsLive (extent_of w.old.heap)) (L.items l.now) }
-    requires first { IsLiveItem (reach_of w.old (L.items l.now)) x }
-    requires second { IsLiveItem (reach_of w.old (L.items l.now)) y }
+    requires live { AreLiveTwo w.old (L.items l.now) x y }
     ensures row { Answers w.old (L.items l.now) w.new (L.items l.now)
         (lexically_greater_row (item_in (extent_of w.old.heap) x) (item_in (extent_of w.old.heap) y)) result }
     ensures live { IsLiveAnswer (reach_of w.new (L.items l.now)) result }
-    ensures locals { All (IsLive (extent_of w.new.heap)) (L.items l.now) }
-    ensures kept { KeepsItems (reach_of w.old (L.items l.now)) (reach_of w.new (L.items l.now)) }
+    ensures kept { KeepsLive w.old (L.items l.now) w.new (L.items l.now) }
 {
     let (order, text) = compared_texts(w, l, x, y)?;
     Ok(value_if(order.is_gt(), Val::Text(text)))
@@ -217,15 +189,12 @@ pub fn lexically_not_equal_row<L: Locals>(
     x: Item,
     y: Item,
 ) -> Result<Outcome, Halt>
-    requires locals { All (IsLive (extent_of w.old.heap)) (L.items l.now) }
-    requires first { IsLiveItem (reach_of w.old (L.items l.now)) x }
-    requires second { IsLiveItem (reach_of w.old (L.items l.now)) y }
+    requires live { AreLiveTwo w.old (L.items l.now) x y }
     ensures row { Answers w.old (L.items l.now) w.new (L.items l.now)
         (lexically_not_equal_row (item_in (extent_of w.old.heap) x) (item_in (extent_of w.old.heap) y))
         result }
     ensures live { IsLiveAnswer (reach_of w.new (L.items l.now)) result }
-    ensures locals { All (IsLive (extent_of w.new.heap)) (L.items l.now) }
-    ensures kept { KeepsItems (reach_of w.old (L.items l.now)) (reach_of w.new (L.items l.now)) }
+    ensures kept { KeepsLive w.old (L.items l.now) w.new (L.items l.now) }
 {
     let (order, text) = compared_texts(w, l, x, y)?;
     Ok(value_if(order.is_ne(), Val::Text(text)))
@@ -234,9 +203,7 @@ pub fn lexically_not_equal_row<L: Locals>(
 /// `x === y`: the value at the right where both are the same; it fails elsewhere. The error is that of an operand that
 /// cannot be read.
 pub fn equivalent_row<L: Locals>(w: &World, l: &L, x: Item, y: Item) -> Result<Outcome, Halt>
-    requires locals { All (IsLive (extent_of w.now.heap)) (L.items l.now) }
-    requires first { IsLiveItem (reach_of w.now (L.items l.now)) x }
-    requires second { IsLiveItem (reach_of w.now (L.items l.now)) y }
+    requires live { AreLiveTwo w.now (L.items l.now) x y }
     ensures row { Answers w.now (L.items l.now) w.now (L.items l.now)
         (equivalent_row (item_in (extent_of w.now.heap) x) (item_in (extent_of w.now.heap) y)) result }
     ensures live { IsLiveAnswer (reach_of w.now (L.items l.now)) result }
@@ -248,9 +215,7 @@ pub fn equivalent_row<L: Locals>(w: &World, l: &L, x: Item, y: Item) -> Result<O
 /// `x ~=== y`: the value at the right where both differ; it fails elsewhere. The error is that of an operand that cannot be
 /// read.
 pub fn not_equivalent_row<L: Locals>(w: &World, l: &L, x: Item, y: Item) -> Result<Outcome, Halt>
-    requires locals { All (IsLive (extent_of w.now.heap)) (L.items l.now) }
-    requires first { IsLiveItem (reach_of w.now (L.items l.now)) x }
-    requires second { IsLiveItem (reach_of w.now (L.items l.now)) y }
+    requires live { AreLiveTwo w.now (L.items l.now) x y }
     ensures row { Answers w.now (L.items l.now) w.now (L.items l.now)
         (not_equivalent_row (item_in (extent_of w.now.heap) x) (item_in (extent_of w.now.heap) y)) result }
     ensures live { IsLiveAnswer (reach_of w.now (L.items l.now)) result }

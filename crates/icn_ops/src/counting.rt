@@ -4,11 +4,10 @@ ghost use Rattle.std.specs.Ordering.{int_eq};
 ghost use Rattle.icn_value.specs.Store.{Setting};
 ghost use Rattle.icn_defs.specs.Arithmetic.{count_from, counting_again, counts_on, to_by_row};
 ghost use Rattle.std.specs.Prelude.{◌≡◌};
-ghost use Rattle.std.specs.List.{All};
-ghost use Rattle.icn_heap.specs.Extents.{Extent, IsLive};
+ghost use Rattle.icn_heap.specs.Extents.{Extent};
 ghost use Rattle.icn_heap.specs.Heaps.{extent_of};
 ghost use Rattle.icn_vars.specs.Outcomes.{IsLiveAnswer, IsLiveOutcome, outcome_in};
-ghost use Rattle.icn_vars.specs.Worlds.{IsLiveItem, Reach, item_in, reach_of};
+ghost use Rattle.icn_vars.specs.Worlds.{AreLiveThree, Reach, item_in, reach_of};
 ghost use Rattle.icn_args.specs.RowWords.{Answers};
 
 use crate::operands::three_integers;
@@ -18,10 +17,7 @@ use icn_vars::{Halt, Locals, Outcome, World};
 
 /// `i to j by k`: the first integer, where it has not passed the end; or error 101, or 211 at a step of 0.
 pub fn to_by_row<L: Locals>(w: &World, l: &L, x: Item, y: Item, z: Item) -> Result<Outcome, Halt>
-    requires locals { All (IsLive (extent_of w.now.heap)) (L.items l.now) }
-    requires first { IsLiveItem (reach_of w.now (L.items l.now)) x }
-    requires second { IsLiveItem (reach_of w.now (L.items l.now)) y }
-    requires third { IsLiveItem (reach_of w.now (L.items l.now)) z }
+    requires live { AreLiveThree w.now (L.items l.now) x y z }
     ensures row { Answers w.now (L.items l.now) w.now (L.items l.now)
         (to_by_row (item_in (extent_of w.now.heap) x) (item_in (extent_of w.now.heap) y)
         (item_in (extent_of w.now.heap) z)) result }

@@ -7,7 +7,7 @@ ghost use Rattle.icn_defs.specs.Operations.{concatenate_lists_row};
 ghost use Rattle.icn_heap.specs.Extents.{IsLive, value_in};
 ghost use Rattle.icn_heap.specs.Heaps.{extent_of, heap_of};
 ghost use Rattle.icn_vars.specs.Outcomes.{IsLiveAnswer};
-ghost use Rattle.icn_vars.specs.Worlds.{IsLiveItem, KeepsItems, item_in, reach_of};
+ghost use Rattle.icn_vars.specs.Worlds.{AreLiveTwo, KeepsLive, item_in, reach_of};
 ghost use Rattle.icn_args.specs.RowWords.{Answers};
 
 use crate::operands::two_lists;
@@ -24,14 +24,11 @@ pub fn concatenate_lists_row<L: Locals>(
     x: Item,
     y: Item,
 ) -> Result<Outcome, Halt>
-    requires locals { All (IsLive (extent_of w.old.heap)) (L.items l.now) }
-    requires first { IsLiveItem (reach_of w.old (L.items l.now)) x }
-    requires second { IsLiveItem (reach_of w.old (L.items l.now)) y }
+    requires live { AreLiveTwo w.old (L.items l.now) x y }
     ensures row { Answers w.old (L.items l.now) w.new (L.items l.now)
         (concatenate_lists_row (item_in (extent_of w.old.heap) x) (item_in (extent_of w.old.heap) y)) result }
     ensures live { IsLiveAnswer (reach_of w.new (L.items l.now)) result }
-    ensures locals { All (IsLive (extent_of w.new.heap)) (L.items l.now) }
-    ensures kept { KeepsItems (reach_of w.old (L.items l.now)) (reach_of w.new (L.items l.now)) }
+    ensures kept { KeepsLive w.old (L.items l.now) w.new (L.items l.now) }
 {
     let (first, second) = two_lists(w, l, x, y)?;
     let Ok(items) = items_of_both(&w.heap, first, second) else {

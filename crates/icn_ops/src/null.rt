@@ -3,11 +3,10 @@ ghost use Rattle.std.specs.Prelude.{◌≡◌};
 ghost use Rattle.icn_value.specs.Store.{Setting};
 ghost use Rattle.icn_defs.specs.Rows.{gives, fails_unless};
 ghost use Rattle.icn_defs.specs.Operations.{dereference_row, is_not_null_row, is_null_row, size_row};
-ghost use Rattle.std.specs.List.{All};
-ghost use Rattle.icn_heap.specs.Extents.{Extent, IsLive};
+ghost use Rattle.icn_heap.specs.Extents.{Extent};
 ghost use Rattle.icn_heap.specs.Heaps.{extent_of};
 ghost use Rattle.icn_vars.specs.Outcomes.{IsLiveAnswer, IsLiveOutcome, outcome_in};
-ghost use Rattle.icn_vars.specs.Worlds.{IsLiveItem, Reach, item_in, reach_of};
+ghost use Rattle.icn_vars.specs.Worlds.{IsLiveOperand, IsLiveItem, Reach, item_in, reach_of};
 ghost use Rattle.icn_args.specs.RowWords.{Answers};
 
 use icn_args::is_null;
@@ -29,8 +28,7 @@ pub fn item_if(test: bool, item: Item) -> Outcome
 
 /// `/x`: the item itself where its value is null; it fails elsewhere.
 pub fn is_null_row<L: Locals>(w: &World, l: &L, x: Item) -> Result<Outcome, Halt>
-    requires locals { All (IsLive (extent_of w.now.heap)) (L.items l.now) }
-    requires first { IsLiveItem (reach_of w.now (L.items l.now)) x }
+    requires live { IsLiveOperand w.now (L.items l.now) x }
     ensures row { Answers w.now (L.items l.now) w.now (L.items l.now)
         (is_null_row (item_in (extent_of w.now.heap) x)) result }
     ensures live { IsLiveAnswer (reach_of w.now (L.items l.now)) result }
@@ -41,8 +39,7 @@ pub fn is_null_row<L: Locals>(w: &World, l: &L, x: Item) -> Result<Outcome, Halt
 
 /// `\x`: the item itself where its value is not null; it fails elsewhere.
 pub fn is_not_null_row<L: Locals>(w: &World, l: &L, x: Item) -> Result<Outcome, Halt>
-    requires locals { All (IsLive (extent_of w.now.heap)) (L.items l.now) }
-    requires first { IsLiveItem (reach_of w.now (L.items l.now)) x }
+    requires live { IsLiveOperand w.now (L.items l.now) x }
     ensures row { Answers w.now (L.items l.now) w.now (L.items l.now)
         (is_not_null_row (item_in (extent_of w.now.heap) x)) result }
     ensures live { IsLiveAnswer (reach_of w.now (L.items l.now)) result }
@@ -53,8 +50,7 @@ pub fn is_not_null_row<L: Locals>(w: &World, l: &L, x: Item) -> Result<Outcome, 
 
 /// `.x`: the value. The error is that of an operand that cannot be read.
 pub fn dereference_row<L: Locals>(w: &World, l: &L, x: Item) -> Result<Outcome, Halt>
-    requires locals { All (IsLive (extent_of w.now.heap)) (L.items l.now) }
-    requires first { IsLiveItem (reach_of w.now (L.items l.now)) x }
+    requires live { IsLiveOperand w.now (L.items l.now) x }
     ensures row { Answers w.now (L.items l.now) w.now (L.items l.now)
         (dereference_row (item_in (extent_of w.now.heap) x)) result }
     ensures live { IsLiveAnswer (reach_of w.now (L.items l.now)) result }
@@ -65,8 +61,7 @@ pub fn dereference_row<L: Locals>(w: &World, l: &L, x: Item) -> Result<Outcome, 
 
 /// `*x`: the size, or error 112 about the value.
 pub fn size_row<L: Locals>(w: &World, l: &L, x: Item) -> Result<Outcome, Halt>
-    requires locals { All (IsLive (extent_of w.now.heap)) (L.items l.now) }
-    requires first { IsLiveItem (reach_of w.now (L.items l.now)) x }
+    requires live { IsLiveOperand w.now (L.items l.now) x }
     ensures row { Answers w.now (L.items l.now) w.now (L.items l.now)
         (size_row (item_in (extent_of w.now.heap) x)) result }
     ensures live { IsLiveAnswer (reach_of w.now (L.items l.now)) result }

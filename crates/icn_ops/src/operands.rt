@@ -1,13 +1,12 @@
 // Two operands, as the rows of two operands want them.
 ghost use Rattle.std.specs.Prelude.{ℕ, ℤ, IfErr, IfOk, OnOk};
-ghost use Rattle.std.specs.List.{All};
 ghost use Rattle.std.specs.declared.cmp.Ordering.{Ordering};
 ghost use Rattle.icn_value.specs.Store.{Outside};
 ghost use Rattle.icn_value.specs.declared.val.Val.TheVariants.{List};
 ghost use Rattle.icn_heap.specs.Extents.{IsLive, IsText, text_in, values_in};
 ghost use Rattle.icn_heap.specs.Heaps.{extent_of};
 ghost use Rattle.icn_vars.specs.Stops.{IsLiveStop};
-ghost use Rattle.icn_vars.specs.Worlds.{IsLiveItem, IsShortItem, KeepsItems, item_in, reach_of, setting_of};
+ghost use Rattle.icn_vars.specs.Worlds.{AreLiveThree, AreLiveTwo, IsLiveOperand, IsShortItem, KeepsLive, item_in, setting_of};
 ghost use Rattle.icn_args.specs.RowWords.{IsFound};
 ghost use Rattle.icn_ops.specs.Operands as operands;
 ghost use Rattle.icn_ops.specs.Operands.{ordered_text_in, texts_in, three_in};
@@ -19,9 +18,7 @@ use std::cmp::Ordering;
 
 /// The values of two operands. The error is that of an operand that cannot be read.
 pub fn two_values<L: Locals>(w: &World, l: &L, x: Item, y: Item) -> Result<(Val, Val), Stop>
-    requires locals { All (IsLive (extent_of w.now.heap)) (L.items l.now) }
-    requires first { IsLiveItem (reach_of w.now (L.items l.now)) x }
-    requires second { IsLiveItem (reach_of w.now (L.items l.now)) y }
+    requires live { AreLiveTwo w.now (L.items l.now) x y }
     ensures first_live { IfOk result (λ two. IsLive (extent_of w.now.heap) two.0) }
     ensures second_live { IfOk result (λ two. IsLive (extent_of w.now.heap) two.1) }
     ensures short { OnOk result (IsShortItem x) }
@@ -38,9 +35,7 @@ pub fn two_values<L: Locals>(w: &World, l: &L, x: Item, y: Item) -> Result<(Val,
 
 /// The integers of two operands. The error is 102 about the first that is none, or that of an operand that cannot be read.
 pub fn two_numbers<L: Locals>(w: &World, l: &L, x: Item, y: Item) -> Result<(i64, i64), Stop>
-    requires locals { All (IsLive (extent_of w.now.heap)) (L.items l.now) }
-    requires first { IsLiveItem (reach_of w.now (L.items l.now)) x }
-    requires second { IsLiveItem (reach_of w.now (L.items l.now)) y }
+    requires live { AreLiveTwo w.now (L.items l.now) x y }
     ensures stops { IfErr result (IsLiveStop (extent_of w.now.heap)) }
     ensures found { (outside : Outside) → IsFound (extent_of w.now.heap)
         (operands.two_numbers (item_in (extent_of w.now.heap) x) (item_in (extent_of w.now.heap) y))
@@ -61,9 +56,7 @@ pub fn compared_numbers<L: Locals>(
     x: Item,
     y: Item,
 ) -> Result<(Ordering, i64), Stop>
-    requires locals { All (IsLive (extent_of w.now.heap)) (L.items l.now) }
-    requires first { IsLiveItem (reach_of w.now (L.items l.now)) x }
-    requires second { IsLiveItem (reach_of w.now (L.items l.now)) y }
+    requires live { AreLiveTwo w.now (L.items l.now) x y }
     ensures stops { IfErr result (IsLiveStop (extent_of w.now.heap)) }
     ensures found { (outside : Outside) → IsFound (extent_of w.now.heap)
         (operands.compared_numbers (item_in (extent_of w.now.heap) x) (item_in (extent_of w.now.heap) y))
@@ -77,9 +70,7 @@ pub fn compared_numbers<L: Locals>(
 /// The texts of two operands. Those that are made are charged. The error is 103 about the first that has none, 306 where the
 /// limit refuses the charge, or that of an operand that cannot be read.
 pub fn two_texts<L: Locals>(w: &mut World, l: &L, x: Item, y: Item) -> Result<(Span, Span), Stop>
-    requires locals { All (IsLive (extent_of w.old.heap)) (L.items l.now) }
-    requires first { IsLiveItem (reach_of w.old (L.items l.now)) x }
-    requires second { IsLiveItem (reach_of w.old (L.items l.now)) y }
+    requires live { AreLiveTwo w.old (L.items l.now) x y }
     ensures first_live { IfOk result (λ two. IsText (extent_of w.new.heap) two.0) }
     ensures second_live { IfOk result (λ two. IsText (extent_of w.new.heap) two.1) }
     ensures stops { IfErr result (IsLiveStop (extent_of w.new.heap)) }
@@ -87,8 +78,7 @@ pub fn two_texts<L: Locals>(w: &mut World, l: &L, x: Item, y: Item) -> Result<(S
         (operands.two_texts (item_in (extent_of w.old.heap) x) (item_in (extent_of w.old.heap) y))
         (setting_of outside w.old (L.items l.now)) (setting_of outside w.new (L.items l.now))
         (texts_in (extent_of w.new.heap)) result }
-    ensures locals { All (IsLive (extent_of w.new.heap)) (L.items l.now) }
-    ensures kept { KeepsItems (reach_of w.old (L.items l.now)) (reach_of w.new (L.items l.now)) }
+    ensures kept { KeepsLive w.old (L.items l.now) w.new (L.items l.now) }
 {
     let (a, b) = two_values(w, l, x, y)?;
     check_text(a)?;
@@ -104,17 +94,14 @@ pub fn compared_texts<L: Locals>(
     x: Item,
     y: Item,
 ) -> Result<(Ordering, Span), Stop>
-    requires locals { All (IsLive (extent_of w.old.heap)) (L.items l.now) }
-    requires first { IsLiveItem (reach_of w.old (L.items l.now)) x }
-    requires second { IsLiveItem (reach_of w.old (L.items l.now)) y }
+    requires live { AreLiveTwo w.old (L.items l.now) x y }
     ensures live { IfOk result (λ two. IsText (extent_of w.new.heap) two.1) }
     ensures stops { IfErr result (IsLiveStop (extent_of w.new.heap)) }
     ensures found { (outside : Outside) → IsFound (extent_of w.new.heap)
         (operands.compared_texts (item_in (extent_of w.old.heap) x) (item_in (extent_of w.old.heap) y))
         (setting_of outside w.old (L.items l.now)) (setting_of outside w.new (L.items l.now))
         (ordered_text_in (extent_of w.new.heap)) result }
-    ensures locals { All (IsLive (extent_of w.new.heap)) (L.items l.now) }
-    ensures kept { KeepsItems (reach_of w.old (L.items l.now)) (reach_of w.new (L.items l.now)) }
+    ensures kept { KeepsLive w.old (L.items l.now) w.new (L.items l.now) }
 {
     let (s, t) = two_texts(w, l, x, y)?;
     Ok((w.heap.bytes(s).cmp(w.heap.bytes(t)), t))
@@ -123,15 +110,13 @@ pub fn compared_texts<L: Locals>(
 /// The text of an operand. One that is made is charged. The error is 103 about a value that has none, 306 where the limit
 /// refuses the charge, or that of an operand that cannot be read.
 pub fn one_text<L: Locals>(w: &mut World, l: &L, x: Item) -> Result<Span, Stop>
-    requires locals { All (IsLive (extent_of w.old.heap)) (L.items l.now) }
-    requires first { IsLiveItem (reach_of w.old (L.items l.now)) x }
+    requires live { IsLiveOperand w.old (L.items l.now) x }
     ensures live { IfOk result (IsText (extent_of w.new.heap)) }
     ensures stops { IfErr result (IsLiveStop (extent_of w.new.heap)) }
     ensures found { (outside : Outside) → IsFound (extent_of w.new.heap)
         (operands.one_text (item_in (extent_of w.old.heap) x)) (setting_of outside w.old (L.items l.now))
         (setting_of outside w.new (L.items l.now)) (text_in (extent_of w.new.heap)) result }
-    ensures locals { All (IsLive (extent_of w.new.heap)) (L.items l.now) }
-    ensures kept { KeepsItems (reach_of w.old (L.items l.now)) (reach_of w.new (L.items l.now)) }
+    ensures kept { KeepsLive w.old (L.items l.now) w.new (L.items l.now) }
 {
     let val = deref(w, l, x)?;
     check_text(val)?;
@@ -141,9 +126,7 @@ pub fn one_text<L: Locals>(w: &mut World, l: &L, x: Item) -> Result<Span, Stop>
 /// The numbers of the lists that two operands are. The error is 108 about the first that is none, or that of an operand that
 /// cannot be read.
 pub fn two_lists<L: Locals>(w: &World, l: &L, x: Item, y: Item) -> Result<(u32, u32), Stop>
-    requires locals { All (IsLive (extent_of w.now.heap)) (L.items l.now) }
-    requires first { IsLiveItem (reach_of w.now (L.items l.now)) x }
-    requires second { IsLiveItem (reach_of w.now (L.items l.now)) y }
+    requires live { AreLiveTwo w.now (L.items l.now) x y }
     ensures first_live { IfOk result (λ two. IsLive (extent_of w.now.heap) (List two.0)) }
     ensures second_live { IfOk result (λ two. IsLive (extent_of w.now.heap) (List two.1)) }
     ensures stops { IfErr result (IsLiveStop (extent_of w.now.heap)) }
@@ -166,10 +149,7 @@ pub fn three_integers<L: Locals>(
     y: Item,
     z: Item,
 ) -> Result<(i64, i64, i64), Stop>
-    requires locals { All (IsLive (extent_of w.now.heap)) (L.items l.now) }
-    requires first { IsLiveItem (reach_of w.now (L.items l.now)) x }
-    requires second { IsLiveItem (reach_of w.now (L.items l.now)) y }
-    requires third { IsLiveItem (reach_of w.now (L.items l.now)) z }
+    requires live { AreLiveThree w.now (L.items l.now) x y z }
     ensures stops { IfErr result (IsLiveStop (extent_of w.now.heap)) }
     ensures found { (outside : Outside) → IsFound (extent_of w.now.heap)
         (operands.three_integers (item_in (extent_of w.now.heap) x) (item_in (extent_of w.now.heap) y)
@@ -191,10 +171,7 @@ pub fn three_values<L: Locals>(
     y: Item,
     z: Item,
 ) -> Result<(Val, Val, Val), Stop>
-    requires locals { All (IsLive (extent_of w.now.heap)) (L.items l.now) }
-    requires first { IsLiveItem (reach_of w.now (L.items l.now)) x }
-    requires second { IsLiveItem (reach_of w.now (L.items l.now)) y }
-    requires third { IsLiveItem (reach_of w.now (L.items l.now)) z }
+    requires live { AreLiveThree w.now (L.items l.now) x y z }
     ensures first_live { IfOk result (λ three. IsLive (extent_of w.now.heap) three.0) }
     ensures second_live { IfOk result (λ three. IsLive (extent_of w.now.heap) three.1) }
     ensures third_live { IfOk result (λ three. IsLive (extent_of w.now.heap) three.2) }

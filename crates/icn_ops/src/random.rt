@@ -6,7 +6,7 @@ ghost use Rattle.icn_defs.specs.Elements.{random_by, random_number, random_of, r
 ghost use Rattle.icn_heap.specs.Extents.{IsLive, value_in};
 ghost use Rattle.icn_heap.specs.Heaps.{extent_of};
 ghost use Rattle.icn_vars.specs.Outcomes.{IsLiveAnswer};
-ghost use Rattle.icn_vars.specs.Worlds.{IsLiveItem, IsShortItem, KeepsItems, item_in, reach_of};
+ghost use Rattle.icn_vars.specs.Worlds.{IsLiveOperand, IsLiveItem, IsShortItem, KeepsLive, item_in, reach_of};
 ghost use Rattle.icn_args.specs.RowWords.{Answers, HasText, the_text};
 
 use crate::elements::{set_count, table_count};
@@ -20,13 +20,11 @@ use icn_vars::{Halt, Locals, Outcome, World, deref};
 /// are 205 about an integer below 1, 113 about a value that has no elements to pick from, and 306 where a text that is made passes
 /// its limit.
 pub fn random_row<L: Locals>(w: &mut World, l: &L, x: Item) -> Result<Outcome, Halt>
-    requires locals { All (IsLive (extent_of w.old.heap)) (L.items l.now) }
-    requires first { IsLiveItem (reach_of w.old (L.items l.now)) x }
+    requires live { IsLiveOperand w.old (L.items l.now) x }
     ensures row { Answers w.old (L.items l.now) w.new (L.items l.now)
         (random_row (item_in (extent_of w.old.heap) x)) result }
     ensures live { IsLiveAnswer (reach_of w.new (L.items l.now)) result }
-    ensures locals { All (IsLive (extent_of w.new.heap)) (L.items l.now) }
-    ensures kept { KeepsItems (reach_of w.old (L.items l.now)) (reach_of w.new (L.items l.now)) }
+    ensures kept { KeepsLive w.old (L.items l.now) w.new (L.items l.now) }
 {
     let val = deref(w, l, x)?;
     random_by(w, l, x, val)
@@ -43,8 +41,7 @@ fn random_by<L: Locals>(w: &mut World, l: &L, x: Item, val: Val) -> Result<Outco
         (random_by (item_in (extent_of w.old.heap) x) (value_in (extent_of w.old.heap) val)
         (held_integer (value_in (extent_of w.old.heap) val))) result }
     ensures live { IsLiveAnswer (reach_of w.new (L.items l.now)) result }
-    ensures locals { All (IsLive (extent_of w.new.heap)) (L.items l.now) }
-    ensures kept { KeepsItems (reach_of w.old (L.items l.now)) (reach_of w.new (L.items l.now)) }
+    ensures kept { KeepsLive w.old (L.items l.now) w.new (L.items l.now) }
 {
     match val {
         Val::Integer(n) => random_number(w, l, val, n),
@@ -66,8 +63,7 @@ fn random_number<L: Locals>(w: &mut World, l: &L, val: Val, n: i64) -> Result<Ou
     ensures row { Answers w.old (L.items l.now) w.new (L.items l.now)
         (random_number (value_in (extent_of w.old.heap) val) n) result }
     ensures live { IsLiveAnswer (reach_of w.new (L.items l.now)) result }
-    ensures locals { All (IsLive (extent_of w.new.heap)) (L.items l.now) }
-    ensures kept { KeepsItems (reach_of w.old (L.items l.now)) (reach_of w.new (L.items l.now)) }
+    ensures kept { KeepsLive w.old (L.items l.now) w.new (L.items l.now) }
 {
     if n > 0 {
         w.words.random = random_step(w.words.random);
@@ -89,8 +85,7 @@ fn random_byte<L: Locals>(w: &mut World, l: &L, x: Item, val: Val) -> Result<Out
         (random_of (item_in (extent_of w.old.heap) x) (value_in (extent_of w.old.heap) val)
         (Textual (the_text (value_in (extent_of w.old.heap) val)))) result }
     ensures live { IsLiveAnswer (reach_of w.new (L.items l.now)) result }
-    ensures locals { All (IsLive (extent_of w.new.heap)) (L.items l.now) }
-    ensures kept { KeepsItems (reach_of w.old (L.items l.now)) (reach_of w.new (L.items l.now)) }
+    ensures kept { KeepsLive w.old (L.items l.now) w.new (L.items l.now) }
 {
     let text = text_of(w, l, val)?;
     let size = text_length(&w.heap, text);
@@ -113,8 +108,7 @@ fn random_item<L: Locals>(w: &mut World, l: &L, x: Item, list: u32) -> Result<Ou
         (random_of (item_in (extent_of w.old.heap) x) (value_in (extent_of w.old.heap) (ListVal list))
         (Listed list)) result }
     ensures live { IsLiveAnswer (reach_of w.new (L.items l.now)) result }
-    ensures locals { All (IsLive (extent_of w.new.heap)) (L.items l.now) }
-    ensures kept { KeepsItems (reach_of w.old (L.items l.now)) (reach_of w.new (L.items l.now)) }
+    ensures kept { KeepsLive w.old (L.items l.now) w.new (L.items l.now) }
 {
     let size = list_count(&w.heap, list);
     if size > 0 {
@@ -135,8 +129,7 @@ fn random_member<L: Locals>(w: &mut World, l: &L, x: Item, set: u32) -> Result<O
         (random_of (item_in (extent_of w.old.heap) x) (value_in (extent_of w.old.heap) (Set set))
         (Collected set)) result }
     ensures live { IsLiveAnswer (reach_of w.new (L.items l.now)) result }
-    ensures locals { All (IsLive (extent_of w.new.heap)) (L.items l.now) }
-    ensures kept { KeepsItems (reach_of w.old (L.items l.now)) (reach_of w.new (L.items l.now)) }
+    ensures kept { KeepsLive w.old (L.items l.now) w.new (L.items l.now) }
 {
     let size = set_count(&w.heap, set);
     if size > 0 {
@@ -159,8 +152,7 @@ fn random_value<L: Locals>(w: &mut World, l: &L, x: Item, table: u32) -> Result<
         (random_of (item_in (extent_of w.old.heap) x) (value_in (extent_of w.old.heap) (Table table))
         (Tabled table)) result }
     ensures live { IsLiveAnswer (reach_of w.new (L.items l.now)) result }
-    ensures locals { All (IsLive (extent_of w.new.heap)) (L.items l.now) }
-    ensures kept { KeepsItems (reach_of w.old (L.items l.now)) (reach_of w.new (L.items l.now)) }
+    ensures kept { KeepsLive w.old (L.items l.now) w.new (L.items l.now) }
 {
     let size = table_count(&w.heap, table);
     if size > 0 {
@@ -186,8 +178,7 @@ fn random_field<L: Locals>(w: &mut World, l: &L, x: Item, rec: u32) -> Result<Ou
         (random_of (item_in (extent_of w.old.heap) x) (value_in (extent_of w.old.heap) (Rec rec))
         (Recorded rec)) result }
     ensures live { IsLiveAnswer (reach_of w.new (L.items l.now)) result }
-    ensures locals { All (IsLive (extent_of w.new.heap)) (L.items l.now) }
-    ensures kept { KeepsItems (reach_of w.old (L.items l.now)) (reach_of w.new (L.items l.now)) }
+    ensures kept { KeepsLive w.old (L.items l.now) w.new (L.items l.now) }
 {
     let size = field_count(&w.heap, rec);
     if size > 0 {

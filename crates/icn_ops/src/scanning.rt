@@ -6,7 +6,7 @@ ghost use Rattle.icn_defs.specs.Scanning.{tab_match_row};
 ghost use Rattle.icn_heap.specs.Extents.{IsLive, IsText, text_in};
 ghost use Rattle.icn_heap.specs.Heaps.{extent_of};
 ghost use Rattle.icn_vars.specs.Outcomes.{IsLiveAnswer, IsLiveOutcome, outcome_in};
-ghost use Rattle.icn_vars.specs.Worlds.{IsLiveItem, KeepsItems, item_in, reach_of, setting_of};
+ghost use Rattle.icn_vars.specs.Worlds.{IsLiveOperand, KeepsLive, item_in, reach_of, setting_of};
 ghost use Rattle.icn_args.specs.RowWords.{Answers};
 ghost use Rattle.icn_ops.specs.Operands.{matches_here};
 
@@ -18,13 +18,11 @@ use icn_vars::{Halt, Locals, Outcome, World};
 /// `=s`: the text, where it stands at the position in the subject, which then is behind it; or error 103, or 306 where the text that is
 /// made for it passes its limit.
 pub fn tab_match_row<L: Locals>(w: &mut World, l: &L, x: Item) -> Result<Outcome, Halt>
-    requires locals { All (IsLive (extent_of w.old.heap)) (L.items l.now) }
-    requires first { IsLiveItem (reach_of w.old (L.items l.now)) x }
+    requires live { IsLiveOperand w.old (L.items l.now) x }
     ensures row { Answers w.old (L.items l.now) w.new (L.items l.now)
         (tab_match_row (item_in (extent_of w.old.heap) x)) result }
     ensures live { IsLiveAnswer (reach_of w.new (L.items l.now)) result }
-    ensures locals { All (IsLive (extent_of w.new.heap)) (L.items l.now) }
-    ensures kept { KeepsItems (reach_of w.old (L.items l.now)) (reach_of w.new (L.items l.now)) }
+    ensures kept { KeepsLive w.old (L.items l.now) w.new (L.items l.now) }
 {
     let wanted = one_text(w, l, x)?;
     Ok(match_here(w, l, wanted))
@@ -38,8 +36,7 @@ fn match_here<L: Locals>(w: &mut World, l: &L, wanted: Span) -> Outcome
         → matches_here (text_in (extent_of w.old.heap) wanted) (setting_of outside w.old (L.items l.now))
         ≡ outcome_in (extent_of w.new.heap) result (setting_of outside w.new (L.items l.now)) }
     ensures live { IsLiveOutcome (reach_of w.new (L.items l.now)) result }
-    ensures locals { All (IsLive (extent_of w.new.heap)) (L.items l.now) }
-    ensures kept { KeepsItems (reach_of w.old (L.items l.now)) (reach_of w.new (L.items l.now)) }
+    ensures kept { KeepsLive w.old (L.items l.now) w.new (L.items l.now) }
 {
     let place = w.pair.position;
     let subject = w.heap.bytes(w.pair.subject);

@@ -10,7 +10,7 @@ ghost use Rattle.icn_heap.specs.Extents.{IsLive, value_in};
 ghost use Rattle.icn_heap.specs.Heaps.{extent_of, heap_of};
 ghost use Rattle.icn_vars.specs.Outcomes.{IsLiveAnswer};
 ghost use Rattle.icn_vars.specs.Stops.{IsLiveStop};
-ghost use Rattle.icn_vars.specs.Worlds.{IsLiveItem, IsShortItem, KeepsItems, item_in, reach_of};
+ghost use Rattle.icn_vars.specs.Worlds.{AreLiveThree, IsLiveItem, IsShortItem, KeepsLive, item_in, reach_of};
 ghost use Rattle.icn_args.specs.RowWords.{Answers, IsFound, HasText, the_text};
 ghost use Rattle.icn_ops.specs.Sections.{second_of};
 
@@ -43,16 +43,12 @@ pub fn section_row<L: Locals>(
     y: Item,
     z: Item,
 ) -> Result<Outcome, Halt>
-    requires locals { All (IsLive (extent_of w.old.heap)) (L.items l.now) }
-    requires first { IsLiveItem (reach_of w.old (L.items l.now)) x }
-    requires second { IsLiveItem (reach_of w.old (L.items l.now)) y }
-    requires third { IsLiveItem (reach_of w.old (L.items l.now)) z }
+    requires live { AreLiveThree w.old (L.items l.now) x y z }
     ensures row { Answers w.old (L.items l.now) w.new (L.items l.now)
         (section_row (item_in (extent_of w.old.heap) x) (item_in (extent_of w.old.heap) y)
         (item_in (extent_of w.old.heap) z)) result }
     ensures live { IsLiveAnswer (reach_of w.new (L.items l.now)) result }
-    ensures locals { All (IsLive (extent_of w.new.heap)) (L.items l.now) }
-    ensures kept { KeepsItems (reach_of w.old (L.items l.now)) (reach_of w.new (L.items l.now)) }
+    ensures kept { KeepsLive w.old (L.items l.now) w.new (L.items l.now) }
 {
     section_by(Second::Whole, w, l, x, y, z)
 }
@@ -66,16 +62,12 @@ pub fn section_plus_row<L: Locals>(
     y: Item,
     z: Item,
 ) -> Result<Outcome, Halt>
-    requires locals { All (IsLive (extent_of w.old.heap)) (L.items l.now) }
-    requires first { IsLiveItem (reach_of w.old (L.items l.now)) x }
-    requires second { IsLiveItem (reach_of w.old (L.items l.now)) y }
-    requires third { IsLiveItem (reach_of w.old (L.items l.now)) z }
+    requires live { AreLiveThree w.old (L.items l.now) x y z }
     ensures row { Answers w.old (L.items l.now) w.new (L.items l.now)
         (section_plus_row (item_in (extent_of w.old.heap) x) (item_in (extent_of w.old.heap) y)
         (item_in (extent_of w.old.heap) z)) result }
     ensures live { IsLiveAnswer (reach_of w.new (L.items l.now)) result }
-    ensures locals { All (IsLive (extent_of w.new.heap)) (L.items l.now) }
-    ensures kept { KeepsItems (reach_of w.old (L.items l.now)) (reach_of w.new (L.items l.now)) }
+    ensures kept { KeepsLive w.old (L.items l.now) w.new (L.items l.now) }
 {
     section_by(Second::Ahead, w, l, x, y, z)
 }
@@ -88,16 +80,12 @@ pub fn section_minus_row<L: Locals>(
     y: Item,
     z: Item,
 ) -> Result<Outcome, Halt>
-    requires locals { All (IsLive (extent_of w.old.heap)) (L.items l.now) }
-    requires first { IsLiveItem (reach_of w.old (L.items l.now)) x }
-    requires second { IsLiveItem (reach_of w.old (L.items l.now)) y }
-    requires third { IsLiveItem (reach_of w.old (L.items l.now)) z }
+    requires live { AreLiveThree w.old (L.items l.now) x y z }
     ensures row { Answers w.old (L.items l.now) w.new (L.items l.now)
         (section_minus_row (item_in (extent_of w.old.heap) x) (item_in (extent_of w.old.heap) y)
         (item_in (extent_of w.old.heap) z)) result }
     ensures live { IsLiveAnswer (reach_of w.new (L.items l.now)) result }
-    ensures locals { All (IsLive (extent_of w.new.heap)) (L.items l.now) }
-    ensures kept { KeepsItems (reach_of w.old (L.items l.now)) (reach_of w.new (L.items l.now)) }
+    ensures kept { KeepsLive w.old (L.items l.now) w.new (L.items l.now) }
 {
     section_by(Second::Back, w, l, x, y, z)
 }
@@ -111,16 +99,12 @@ fn section_by<L: Locals>(
     y: Item,
     z: Item,
 ) -> Result<Outcome, Halt>
-    requires locals { All (IsLive (extent_of w.old.heap)) (L.items l.now) }
-    requires first { IsLiveItem (reach_of w.old (L.items l.now)) x }
-    requires second { IsLiveItem (reach_of w.old (L.items l.now)) y }
-    requires third { IsLiveItem (reach_of w.old (L.items l.now)) z }
+    requires live { AreLiveThree w.old (L.items l.now) x y z }
     ensures row { Answers w.old (L.items l.now) w.new (L.items l.now)
         (section_by (second_of kind) (item_in (extent_of w.old.heap) x) (item_in (extent_of w.old.heap) y)
         (item_in (extent_of w.old.heap) z)) result }
     ensures live { IsLiveAnswer (reach_of w.new (L.items l.now)) result }
-    ensures locals { All (IsLive (extent_of w.new.heap)) (L.items l.now) }
-    ensures kept { KeepsItems (reach_of w.old (L.items l.now)) (reach_of w.new (L.items l.now)) }
+    ensures kept { KeepsLive w.old (L.items l.now) w.new (L.items l.now) }
 {
     let (val, from, to) = three_values(w, l, x, y, z)?;
     section_of(kind, w, l, x, val, from, to)
@@ -148,8 +132,7 @@ fn section_of<L: Locals>(
         (value_in (extent_of w.old.heap) from) (value_in (extent_of w.old.heap) to)
         (group_of (value_in (extent_of w.old.heap) val))) result }
     ensures live { IsLiveAnswer (reach_of w.new (L.items l.now)) result }
-    ensures locals { All (IsLive (extent_of w.new.heap)) (L.items l.now) }
-    ensures kept { KeepsItems (reach_of w.old (L.items l.now)) (reach_of w.new (L.items l.now)) }
+    ensures kept { KeepsLive w.old (L.items l.now) w.new (L.items l.now) }
 {
     match val {
         Val::Integer(_) => text_section(kind, w, l, x, val, from, to),
@@ -182,8 +165,7 @@ fn text_section<L: Locals>(
         (value_in (extent_of w.old.heap) from) (value_in (extent_of w.old.heap) to)
         (Textual (the_text (value_in (extent_of w.old.heap) val)))) result }
     ensures live { IsLiveAnswer (reach_of w.new (L.items l.now)) result }
-    ensures locals { All (IsLive (extent_of w.new.heap)) (L.items l.now) }
-    ensures kept { KeepsItems (reach_of w.old (L.items l.now)) (reach_of w.new (L.items l.now)) }
+    ensures kept { KeepsLive w.old (L.items l.now) w.new (L.items l.now) }
 {
     let (m, n) = positions(kind, &w.heap, from, to)?;
     let text = text_of(w, l, val)?;
@@ -215,8 +197,7 @@ fn list_section<L: Locals>(
         (item_in (extent_of w.old.heap) x) (value_in (extent_of w.old.heap) (ListVal list))
         (value_in (extent_of w.old.heap) from) (value_in (extent_of w.old.heap) to) (Listed list)) result }
     ensures live { IsLiveAnswer (reach_of w.new (L.items l.now)) result }
-    ensures locals { All (IsLive (extent_of w.new.heap)) (L.items l.now) }
-    ensures kept { KeepsItems (reach_of w.old (L.items l.now)) (reach_of w.new (L.items l.now)) }
+    ensures kept { KeepsLive w.old (L.items l.now) w.new (L.items l.now) }
 {
     let (m, n) = positions(kind, &w.heap, from, to)?;
     match places(m, n, list_count(&w.heap, list)) {
@@ -241,8 +222,7 @@ fn new_section<L: Locals>(
     ensures row { Answers w.old (L.items l.now) w.new (L.items l.now)
         (gives_list (slice_range (list_at (heap_of w.old.heap) list).items from to)) result }
     ensures live { IsLiveAnswer (reach_of w.new (L.items l.now)) result }
-    ensures locals { All (IsLive (extent_of w.new.heap)) (L.items l.now) }
-    ensures kept { KeepsItems (reach_of w.old (L.items l.now)) (reach_of w.new (L.items l.now)) }
+    ensures kept { KeepsLive w.old (L.items l.now) w.new (L.items l.now) }
 {
     let Ok(items) = w.heap.section(list, from, to) else {
         return Err(Halt::NoMemory);

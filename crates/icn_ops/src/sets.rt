@@ -10,7 +10,7 @@ ghost use Rattle.icn_heap.specs.Extents.{Extent, IsLive, value_in};
 ghost use Rattle.icn_heap.specs.Heaps.{extent_of, heap_of};
 ghost use Rattle.icn_vars.specs.Outcomes.{IsLiveAnswer};
 ghost use Rattle.icn_vars.specs.Stops.{IsLiveStop};
-ghost use Rattle.icn_vars.specs.Worlds.{IsLiveItem, KeepsItems, item_in, reach_of, setting_of};
+ghost use Rattle.icn_vars.specs.Worlds.{AreLiveTwo, KeepsLive, item_in, reach_of, setting_of};
 ghost use Rattle.icn_args.specs.RowWords.{Answers, IsFound};
 ghost use Rattle.icn_ops.specs.Operands.{csets_in};
 ghost use Rattle.icn_ops.specs.Operands as operands;
@@ -23,14 +23,11 @@ use icn_vars::{Halt, Locals, Outcome, Stop, World};
 
 /// `x ++ y`: the members of either set or cset, those of the first set first; or error 120, or 307 where the cells of a set pass their limit.
 pub fn union_row<L: Locals>(w: &mut World, l: &L, x: Item, y: Item) -> Result<Outcome, Halt>
-    requires locals { All (IsLive (extent_of w.old.heap)) (L.items l.now) }
-    requires first { IsLiveItem (reach_of w.old (L.items l.now)) x }
-    requires second { IsLiveItem (reach_of w.old (L.items l.now)) y }
+    requires live { AreLiveTwo w.old (L.items l.now) x y }
     ensures row { Answers w.old (L.items l.now) w.new (L.items l.now)
         (union_row (item_in (extent_of w.old.heap) x) (item_in (extent_of w.old.heap) y)) result }
     ensures live { IsLiveAnswer (reach_of w.new (L.items l.now)) result }
-    ensures locals { All (IsLive (extent_of w.new.heap)) (L.items l.now) }
-    ensures kept { KeepsItems (reach_of w.old (L.items l.now)) (reach_of w.new (L.items l.now)) }
+    ensures kept { KeepsLive w.old (L.items l.now) w.new (L.items l.now) }
 {
     let (a, b) = two_values(w, l, x, y)?;
     match two_sets(a, b) {
@@ -47,14 +44,11 @@ pub fn union_row<L: Locals>(w: &mut World, l: &L, x: Item, y: Item) -> Result<Ou
 
 /// `x -- y`: the members of the first set or cset that the second lacks; or error 120, or 307 where the cells of a set pass their limit.
 pub fn difference_row<L: Locals>(w: &mut World, l: &L, x: Item, y: Item) -> Result<Outcome, Halt>
-    requires locals { All (IsLive (extent_of w.old.heap)) (L.items l.now) }
-    requires first { IsLiveItem (reach_of w.old (L.items l.now)) x }
-    requires second { IsLiveItem (reach_of w.old (L.items l.now)) y }
+    requires live { AreLiveTwo w.old (L.items l.now) x y }
     ensures row { Answers w.old (L.items l.now) w.new (L.items l.now)
         (difference_row (item_in (extent_of w.old.heap) x) (item_in (extent_of w.old.heap) y)) result }
     ensures live { IsLiveAnswer (reach_of w.new (L.items l.now)) result }
-    ensures locals { All (IsLive (extent_of w.new.heap)) (L.items l.now) }
-    ensures kept { KeepsItems (reach_of w.old (L.items l.now)) (reach_of w.new (L.items l.now)) }
+    ensures kept { KeepsLive w.old (L.items l.now) w.new (L.items l.now) }
 {
     let (a, b) = two_values(w, l, x, y)?;
     match two_sets(a, b) {
@@ -71,14 +65,11 @@ pub fn difference_row<L: Locals>(w: &mut World, l: &L, x: Item, y: Item) -> Resu
 
 /// `x ** y`: the members of the first set or cset that the second has; or error 120, or 307 where the cells of a set pass their limit.
 pub fn intersection_row<L: Locals>(w: &mut World, l: &L, x: Item, y: Item) -> Result<Outcome, Halt>
-    requires locals { All (IsLive (extent_of w.old.heap)) (L.items l.now) }
-    requires first { IsLiveItem (reach_of w.old (L.items l.now)) x }
-    requires second { IsLiveItem (reach_of w.old (L.items l.now)) y }
+    requires live { AreLiveTwo w.old (L.items l.now) x y }
     ensures row { Answers w.old (L.items l.now) w.new (L.items l.now)
         (intersection_row (item_in (extent_of w.old.heap) x) (item_in (extent_of w.old.heap) y)) result }
     ensures live { IsLiveAnswer (reach_of w.new (L.items l.now)) result }
-    ensures locals { All (IsLive (extent_of w.new.heap)) (L.items l.now) }
-    ensures kept { KeepsItems (reach_of w.old (L.items l.now)) (reach_of w.new (L.items l.now)) }
+    ensures kept { KeepsLive w.old (L.items l.now) w.new (L.items l.now) }
 {
     let (a, b) = two_values(w, l, x, y)?;
     match two_sets(a, b) {
@@ -142,8 +133,7 @@ fn new_union<L: Locals>(w: &mut World, l: &L, first: u32, second: u32) -> Result
         ++ difference (set_at (heap_of w.old.heap) second) (set_at (heap_of w.old.heap) first)))
         (setting_of outside w.old (L.items l.now)) (setting_of outside w.new (L.items l.now))
         (value_in (extent_of w.new.heap)) result }
-    ensures locals { All (IsLive (extent_of w.new.heap)) (L.items l.now) }
-    ensures kept { KeepsItems (reach_of w.old (L.items l.now)) (reach_of w.new (L.items l.now)) }
+    ensures kept { KeepsLive w.old (L.items l.now) w.new (L.items l.now) }
 {
     Ok(w.heap.union(first, second)?)
 }
@@ -160,8 +150,7 @@ fn new_difference<L: Locals>(w: &mut World, l: &L, first: u32, second: u32) -> R
         (new_set_of (difference (set_at (heap_of w.old.heap) first) (set_at (heap_of w.old.heap) second)))
         (setting_of outside w.old (L.items l.now)) (setting_of outside w.new (L.items l.now))
         (value_in (extent_of w.new.heap)) result }
-    ensures locals { All (IsLive (extent_of w.new.heap)) (L.items l.now) }
-    ensures kept { KeepsItems (reach_of w.old (L.items l.now)) (reach_of w.new (L.items l.now)) }
+    ensures kept { KeepsLive w.old (L.items l.now) w.new (L.items l.now) }
 {
     Ok(w.heap.difference(first, second)?)
 }
@@ -178,8 +167,7 @@ fn new_intersection<L: Locals>(w: &mut World, l: &L, first: u32, second: u32) ->
         (new_set_of (intersection (set_at (heap_of w.old.heap) first) (set_at (heap_of w.old.heap) second)))
         (setting_of outside w.old (L.items l.now)) (setting_of outside w.new (L.items l.now))
         (value_in (extent_of w.new.heap)) result }
-    ensures locals { All (IsLive (extent_of w.new.heap)) (L.items l.now) }
-    ensures kept { KeepsItems (reach_of w.old (L.items l.now)) (reach_of w.new (L.items l.now)) }
+    ensures kept { KeepsLive w.old (L.items l.now) w.new (L.items l.now) }
 {
     Ok(w.heap.intersection(first, second)?)
 }

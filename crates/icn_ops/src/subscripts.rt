@@ -7,7 +7,7 @@ ghost use Rattle.icn_defs.specs.Variables.{subscript_of, subscript_row};
 ghost use Rattle.icn_heap.specs.Extents.{IsLive, value_in};
 ghost use Rattle.icn_heap.specs.Heaps.{extent_of};
 ghost use Rattle.icn_vars.specs.Outcomes.{IsLiveAnswer};
-ghost use Rattle.icn_vars.specs.Worlds.{IsLiveItem, IsShortItem, KeepsItems, item_in, reach_of};
+ghost use Rattle.icn_vars.specs.Worlds.{AreLiveTwo, IsLiveItem, IsShortItem, KeepsLive, item_in, reach_of};
 ghost use Rattle.icn_args.specs.RowWords.{Answers, HasText, the_text};
 
 use crate::operands::two_values;
@@ -23,14 +23,11 @@ use icn_vars::{Halt, Locals, Outcome, World};
 /// position stands before none. The errors are 114 about a value that has none of these, 101, and 306 where a text that is made
 /// passes its limit.
 pub fn subscript_row<L: Locals>(w: &mut World, l: &L, x: Item, y: Item) -> Result<Outcome, Halt>
-    requires locals { All (IsLive (extent_of w.old.heap)) (L.items l.now) }
-    requires first { IsLiveItem (reach_of w.old (L.items l.now)) x }
-    requires second { IsLiveItem (reach_of w.old (L.items l.now)) y }
+    requires live { AreLiveTwo w.old (L.items l.now) x y }
     ensures row { Answers w.old (L.items l.now) w.new (L.items l.now)
         (subscript_row (item_in (extent_of w.old.heap) x) (item_in (extent_of w.old.heap) y)) result }
     ensures live { IsLiveAnswer (reach_of w.new (L.items l.now)) result }
-    ensures locals { All (IsLive (extent_of w.new.heap)) (L.items l.now) }
-    ensures kept { KeepsItems (reach_of w.old (L.items l.now)) (reach_of w.new (L.items l.now)) }
+    ensures kept { KeepsLive w.old (L.items l.now) w.new (L.items l.now) }
 {
     let (val, at) = two_values(w, l, x, y)?;
     subscript_of(w, l, x, val, at)
@@ -54,8 +51,7 @@ fn subscript_of<L: Locals>(
         (subscript_of (item_in (extent_of w.old.heap) x) (value_in (extent_of w.old.heap) val)
         (value_in (extent_of w.old.heap) at) (group_of (value_in (extent_of w.old.heap) val))) result }
     ensures live { IsLiveAnswer (reach_of w.new (L.items l.now)) result }
-    ensures locals { All (IsLive (extent_of w.new.heap)) (L.items l.now) }
-    ensures kept { KeepsItems (reach_of w.old (L.items l.now)) (reach_of w.new (L.items l.now)) }
+    ensures kept { KeepsLive w.old (L.items l.now) w.new (L.items l.now) }
 {
     match val {
         Val::Integer(_) => text_subscript(w, l, x, val, at),
@@ -90,8 +86,7 @@ fn text_subscript<L: Locals>(
         (value_in (extent_of w.old.heap) at) (Textual (the_text (value_in (extent_of w.old.heap) val))))
         result }
     ensures live { IsLiveAnswer (reach_of w.new (L.items l.now)) result }
-    ensures locals { All (IsLive (extent_of w.new.heap)) (L.items l.now) }
-    ensures kept { KeepsItems (reach_of w.old (L.items l.now)) (reach_of w.new (L.items l.now)) }
+    ensures kept { KeepsLive w.old (L.items l.now) w.new (L.items l.now) }
 {
     let n = integer_of(&w.heap, at)?;
     let text = text_of(w, l, val)?;

@@ -1,10 +1,8 @@
 // Texts and csets that are put together.
 ghost use Rattle.icn_defs.specs.Operations.{complement_row, concatenate_row};
-ghost use Rattle.std.specs.List.{All};
-ghost use Rattle.icn_heap.specs.Extents.{IsLive};
 ghost use Rattle.icn_heap.specs.Heaps.{extent_of};
 ghost use Rattle.icn_vars.specs.Outcomes.{IsLiveAnswer};
-ghost use Rattle.icn_vars.specs.Worlds.{IsLiveItem, KeepsItems, item_in, reach_of};
+ghost use Rattle.icn_vars.specs.Worlds.{AreLiveTwo, IsLiveOperand, KeepsLive, item_in, reach_of};
 ghost use Rattle.icn_args.specs.RowWords.{Answers};
 
 use crate::operands::two_texts;
@@ -14,8 +12,7 @@ use icn_vars::{Halt, Locals, Outcome, World, deref};
 
 /// `~c`: the bytes that are no members, or error 104.
 pub fn complement_row<L: Locals>(w: &World, l: &L, x: Item) -> Result<Outcome, Halt>
-    requires locals { All (IsLive (extent_of w.now.heap)) (L.items l.now) }
-    requires first { IsLiveItem (reach_of w.now (L.items l.now)) x }
+    requires live { IsLiveOperand w.now (L.items l.now) x }
     ensures row { Answers w.now (L.items l.now) w.now (L.items l.now)
         (complement_row (item_in (extent_of w.now.heap) x)) result }
     ensures live { IsLiveAnswer (reach_of w.now (L.items l.now)) result }
@@ -27,14 +24,11 @@ pub fn complement_row<L: Locals>(w: &World, l: &L, x: Item) -> Result<Outcome, H
 
 /// `s || t`: the bytes of both, or error 103; 306 where the texts that are made for it, or it, pass their limit.
 pub fn concatenate_row<L: Locals>(w: &mut World, l: &L, x: Item, y: Item) -> Result<Outcome, Halt>
-    requires locals { All (IsLive (extent_of w.old.heap)) (L.items l.now) }
-    requires first { IsLiveItem (reach_of w.old (L.items l.now)) x }
-    requires second { IsLiveItem (reach_of w.old (L.items l.now)) y }
+    requires live { AreLiveTwo w.old (L.items l.now) x y }
     ensures row { Answers w.old (L.items l.now) w.new (L.items l.now)
         (concatenate_row (item_in (extent_of w.old.heap) x) (item_in (extent_of w.old.heap) y)) result }
     ensures live { IsLiveAnswer (reach_of w.new (L.items l.now)) result }
-    ensures locals { All (IsLive (extent_of w.new.heap)) (L.items l.now) }
-    ensures kept { KeepsItems (reach_of w.old (L.items l.now)) (reach_of w.new (L.items l.now)) }
+    ensures kept { KeepsLive w.old (L.items l.now) w.new (L.items l.now) }
 {
     let (s, t) = two_texts(w, l, x, y)?;
     let text = join(w, l, s, t)?;

@@ -11,7 +11,7 @@ ghost use Rattle.icn_vars.specs.Assignments.{takes_no_memory};
 ghost use Rattle.icn_vars.specs.declared.outcome.Halt.TheVariants.{NoMemory};
 ghost use Rattle.icn_vars.specs.Outcomes.{IsLiveAnswer, IsOld, mover_of};
 ghost use Rattle.icn_vars.specs.Stops.{IsLiveStop};
-ghost use Rattle.icn_vars.specs.Worlds.{IsLiveItem, IsLiveVariable, KeepsItems, Reach, item_in, reach_of, variable_in};
+ghost use Rattle.icn_vars.specs.Worlds.{AreLiveTwo, IsLiveItem, IsLiveVariable, KeepsLive, Reach, item_in, reach_of, variable_in};
 ghost use Rattle.icn_args.specs.RowWords.{Answers, IsFound};
 
 use icn_value::{Item, Mover, Residual, Val, VarRef};
@@ -38,14 +38,11 @@ fn variable_of(item: Item) -> Result<VarRef, Stop>
 /// `x` is no variable, or that of the assignment.
 #[tactic(auto, using(icn_vars::proofs::KeptItems::keeps_items_refl))]
 pub fn assign_row<L: Locals>(w: &mut World, l: &mut L, x: Item, y: Item) -> Result<Outcome, Halt>
-    requires locals { All (IsLive (extent_of w.old.heap)) (L.items l.old) }
-    requires first { IsLiveItem (reach_of w.old (L.items l.old)) x }
-    requires second { IsLiveItem (reach_of w.old (L.items l.old)) y }
+    requires live { AreLiveTwo w.old (L.items l.old) x y }
     ensures row { Answers w.old (L.items l.old) w.new (L.items l.new)
         (assign_row (item_in (extent_of w.old.heap) x) (item_in (extent_of w.old.heap) y)) result }
     ensures live { IsLiveAnswer (reach_of w.new (L.items l.new)) result }
-    ensures locals { All (IsLive (extent_of w.new.heap)) (L.items l.new) }
-    ensures kept { KeepsItems (reach_of w.old (L.items l.old)) (reach_of w.new (L.items l.new)) }
+    ensures kept { KeepsLive w.old (L.items l.old) w.new (L.items l.new) }
 {
     let val = deref(w, l, y)?;
     let target = variable_of(x)?;
@@ -59,14 +56,11 @@ pub fn assign_row<L: Locals>(w: &mut World, l: &mut L, x: Item, y: Item) -> Resu
 /// variable, or that of an assignment.
 #[tactic(auto, using(icn_vars::proofs::KeptItems::keeps_items_refl))]
 pub fn swap_row<L: Locals>(w: &mut World, l: &mut L, x: Item, y: Item) -> Result<Outcome, Halt>
-    requires locals { All (IsLive (extent_of w.old.heap)) (L.items l.old) }
-    requires first { IsLiveItem (reach_of w.old (L.items l.old)) x }
-    requires second { IsLiveItem (reach_of w.old (L.items l.old)) y }
+    requires live { AreLiveTwo w.old (L.items l.old) x y }
     ensures row { Answers w.old (L.items l.old) w.new (L.items l.new)
         (swap_row (item_in (extent_of w.old.heap) x) (item_in (extent_of w.old.heap) y)) result }
     ensures live { IsLiveAnswer (reach_of w.new (L.items l.new)) result }
-    ensures locals { All (IsLive (extent_of w.new.heap)) (L.items l.new) }
-    ensures kept { KeepsItems (reach_of w.old (L.items l.old)) (reach_of w.new (L.items l.new)) }
+    ensures kept { KeepsLive w.old (L.items l.old) w.new (L.items l.new) }
 {
     let of_left = deref(w, l, x)?;
     let of_right = deref(w, l, y)?;
@@ -87,14 +81,11 @@ pub fn reversible_assign_row<L: Locals>(
     x: Item,
     y: Item,
 ) -> Result<Outcome, Halt>
-    requires locals { All (IsLive (extent_of w.old.heap)) (L.items l.old) }
-    requires first { IsLiveItem (reach_of w.old (L.items l.old)) x }
-    requires second { IsLiveItem (reach_of w.old (L.items l.old)) y }
+    requires live { AreLiveTwo w.old (L.items l.old) x y }
     ensures row { Answers w.old (L.items l.old) w.new (L.items l.new)
         (reversible_assign_row (item_in (extent_of w.old.heap) x) (item_in (extent_of w.old.heap) y)) result }
     ensures live { IsLiveAnswer (reach_of w.new (L.items l.new)) result }
-    ensures locals { All (IsLive (extent_of w.new.heap)) (L.items l.new) }
-    ensures kept { KeepsItems (reach_of w.old (L.items l.old)) (reach_of w.new (L.items l.new)) }
+    ensures kept { KeepsLive w.old (L.items l.old) w.new (L.items l.new) }
 {
     let old = deref(w, l, x)?;
     let val = deref(w, l, y)?;
@@ -123,8 +114,7 @@ pub fn undo_assign_again<L: Locals>(
     ensures memory { takes_no_memory (variable_in (extent_of w.old.heap) variable) ≡ true
         → IfErr result (λ halt. halt ≢ NoMemory) }
     ensures live { IsLiveAnswer (reach_of w.new (L.items l.new)) result }
-    ensures locals { All (IsLive (extent_of w.new.heap)) (L.items l.new) }
-    ensures kept { KeepsItems (reach_of w.old (L.items l.old)) (reach_of w.new (L.items l.new)) }
+    ensures kept { KeepsLive w.old (L.items l.old) w.new (L.items l.new) }
 {
     undo(w, l, variable, old)?;
     Ok(Outcome::Fails)
@@ -139,14 +129,11 @@ pub fn reversible_swap_row<L: Locals>(
     x: Item,
     y: Item,
 ) -> Result<Outcome, Halt>
-    requires locals { All (IsLive (extent_of w.old.heap)) (L.items l.old) }
-    requires first { IsLiveItem (reach_of w.old (L.items l.old)) x }
-    requires second { IsLiveItem (reach_of w.old (L.items l.old)) y }
+    requires live { AreLiveTwo w.old (L.items l.old) x y }
     ensures row { Answers w.old (L.items l.old) w.new (L.items l.new)
         (reversible_swap_row (item_in (extent_of w.old.heap) x) (item_in (extent_of w.old.heap) y)) result }
     ensures live { IsLiveAnswer (reach_of w.new (L.items l.new)) result }
-    ensures locals { All (IsLive (extent_of w.new.heap)) (L.items l.new) }
-    ensures kept { KeepsItems (reach_of w.old (L.items l.old)) (reach_of w.new (L.items l.new)) }
+    ensures kept { KeepsLive w.old (L.items l.old) w.new (L.items l.new) }
 {
     let old_left = deref(w, l, x)?;
     let old_right = deref(w, l, y)?;
@@ -189,8 +176,7 @@ pub fn undo_exchange_again<L: Locals>(
         → takes_no_memory (variable_in (extent_of w.old.heap) right) ≡ true
         → IfErr result (λ halt. halt ≢ NoMemory) }
     ensures live { IsLiveAnswer (reach_of w.new (L.items l.new)) result }
-    ensures locals { All (IsLive (extent_of w.new.heap)) (L.items l.new) }
-    ensures kept { KeepsItems (reach_of w.old (L.items l.old)) (reach_of w.new (L.items l.new)) }
+    ensures kept { KeepsLive w.old (L.items l.old) w.new (L.items l.new) }
 {
     undo_exchange(w, l, mover, left, right, old_left, old_right)?;
     Ok(Outcome::Fails)

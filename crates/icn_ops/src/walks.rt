@@ -7,7 +7,7 @@ ghost use Rattle.icn_defs.specs.Elements.{elements_of, elements_row, text_elemen
 ghost use Rattle.icn_heap.specs.Extents.{IsLive, value_in};
 ghost use Rattle.icn_heap.specs.Heaps.{extent_of};
 ghost use Rattle.icn_vars.specs.Outcomes.{IsLiveAnswer};
-ghost use Rattle.icn_vars.specs.Worlds.{IsLiveItem, KeepsItems, item_in, reach_of};
+ghost use Rattle.icn_vars.specs.Worlds.{IsLiveOperand, IsLiveItem, KeepsLive, item_in, reach_of};
 ghost use Rattle.icn_args.specs.RowWords.{Answers, HasText, the_text};
 ghost use Rattle.icn_streams.specs.Answers.{call_state};
 ghost use Rattle.icn_streams.specs.Applies.{Applies};
@@ -35,8 +35,7 @@ pub fn elements_row<L: Locals, S: Streams>(
     x: Item,
     streams: &mut S,
 ) -> Result<Outcome, Halt>
-    requires locals { All (IsLive (extent_of w.old.heap)) (L.items l.now) }
-    requires first { IsLiveItem (reach_of w.old (L.items l.now)) x }
+    requires live { IsLiveOperand w.old (L.items l.now) x }
     ensures { Applies (elements_row (item_in (extent_of w.old.heap) x)) (call_state w.old (L.items l.now)
         (S.state streams.old))
         (call_state w.new (L.items l.now)
@@ -60,8 +59,7 @@ fn elements_of<L: Locals>(w: &mut World, l: &L, x: Item, val: Val) -> Result<Out
         (elements_of (item_in (extent_of w.old.heap) x) (value_in (extent_of w.old.heap) val)
         (group_of (value_in (extent_of w.old.heap) val))) result }
     ensures live { IsLiveAnswer (reach_of w.new (L.items l.now)) result }
-    ensures locals { All (IsLive (extent_of w.new.heap)) (L.items l.now) }
-    ensures kept { KeepsItems (reach_of w.old (L.items l.now)) (reach_of w.new (L.items l.now)) }
+    ensures kept { KeepsLive w.old (L.items l.now) w.new (L.items l.now) }
 {
     match val {
         Val::Integer(_) => text_elements(w, l, x, val),
@@ -87,8 +85,7 @@ fn text_elements<L: Locals>(w: &mut World, l: &L, x: Item, val: Val) -> Result<O
         (text_elements (text_variable (item_in (extent_of w.old.heap) x) (value_in (extent_of w.old.heap)
         val)) (value_in (extent_of w.old.heap) val) (the_text (value_in (extent_of w.old.heap) val))) result }
     ensures live { IsLiveAnswer (reach_of w.new (L.items l.now)) result }
-    ensures locals { All (IsLive (extent_of w.new.heap)) (L.items l.now) }
-    ensures kept { KeepsItems (reach_of w.old (L.items l.now)) (reach_of w.new (L.items l.now)) }
+    ensures kept { KeepsLive w.old (L.items l.now) w.new (L.items l.now) }
 {
     match text_holder(x, val) {
         Some(variable) => variable_bytes_from(w, l, variable, 0),

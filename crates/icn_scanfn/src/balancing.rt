@@ -8,7 +8,7 @@ ghost use Rattle.icn_heap.specs.Extents.{IsLive, IsText, text_in, value_in};
 ghost use Rattle.icn_heap.specs.Heaps.{extent_of};
 ghost use Rattle.icn_vars.specs.Outcomes.{IsLiveAnswer, IsLiveOutcome, IsSearch, outcome_in};
 ghost use Rattle.icn_vars.specs.Stops.{IsLiveStop};
-ghost use Rattle.icn_vars.specs.Worlds.{KeepsItems, reach_of, setting_of};
+ghost use Rattle.icn_vars.specs.Worlds.{AreLiveArguments, KeepsLive, reach_of, setting_of};
 ghost use Rattle.icn_args.specs.RowWords.{Answers, IsFound};
 ghost use Rattle.icn_scanfn.specs.Regions.{searched_in};
 ghost use Rattle.icn_scanfn.specs.Searches.{balanced_in, balanced_sets, sets_of};
@@ -37,13 +37,11 @@ pub struct Sets {
 /// csets are null. The errors are 104, 103, 101, 306 and want of memory.
 #[tactic(auto, using(icn_vars::proofs::KeptItems::keeps_items_refl))]
 pub fn bal_row<L: Locals>(w: &mut World, l: &L, args: &[Val]) -> Result<Outcome, Halt>
-    requires locals { All (IsLive (extent_of w.old.heap)) (L.items l.now) }
-    requires args { All (IsLive (extent_of w.old.heap)) args.now }
+    requires live { AreLiveArguments w.old (L.items l.now) args.now }
     ensures row { Answers w.old (L.items l.now) w.new (L.items l.now)
         (bal_row (map (value_in (extent_of w.old.heap)) args.now)) result }
     ensures live { IsLiveAnswer (reach_of w.new (L.items l.now)) result }
-    ensures locals { All (IsLive (extent_of w.new.heap)) (L.items l.now) }
-    ensures kept { KeepsItems (reach_of w.old (L.items l.now)) (reach_of w.new (L.items l.now)) }
+    ensures kept { KeepsLive w.old (L.items l.now) w.new (L.items l.now) }
 {
     let sets = balanced_sets(&w.heap, args)?;
     let searched = charged_region(w, l, args, 3)?;

@@ -1,13 +1,12 @@
 // The functions that search for a text or for the bytes of a cset.
 ghost use Rattle.std.specs.Prelude.{◌≡◌, ◌+◌, map};
-ghost use Rattle.std.specs.List.{All};
 ghost use Rattle.icn_value.specs.Members.{members_of};
 ghost use Rattle.icn_value.specs.Store.{Outside};
 ghost use Rattle.icn_defs.specs.Scanning.{among_from, find_row, found_from, upto_row};
-ghost use Rattle.icn_heap.specs.Extents.{IsLive, IsText, text_in, value_in};
+ghost use Rattle.icn_heap.specs.Extents.{IsText, text_in, value_in};
 ghost use Rattle.icn_heap.specs.Heaps.{extent_of};
 ghost use Rattle.icn_vars.specs.Outcomes.{IsLiveAnswer, IsLiveOutcome, IsSearch, outcome_in};
-ghost use Rattle.icn_vars.specs.Worlds.{KeepsItems, reach_of, setting_of};
+ghost use Rattle.icn_vars.specs.Worlds.{AreLiveArguments, KeepsLive, reach_of, setting_of};
 ghost use Rattle.icn_args.specs.RowWords.{Answers};
 ghost use Rattle.icn_scanfn.specs.Regions.{searched_in};
 ghost use Rattle.icn_scanfn.specs.Searches.{find_in, upto_in};
@@ -22,13 +21,11 @@ use icn_vars::{Halt, Locals, Outcome, World};
 /// `find(s1, s, i, j)`: each place of a part of a text at which another text stands, from the first on; it fails where there is none.
 /// The errors are 103, 101, 306 and want of memory.
 pub fn find_row<L: Locals>(w: &mut World, l: &L, args: &[Val]) -> Result<Outcome, Halt>
-    requires locals { All (IsLive (extent_of w.old.heap)) (L.items l.now) }
-    requires args { All (IsLive (extent_of w.old.heap)) args.now }
+    requires live { AreLiveArguments w.old (L.items l.now) args.now }
     ensures row { Answers w.old (L.items l.now) w.new (L.items l.now)
         (find_row (map (value_in (extent_of w.old.heap)) args.now)) result }
     ensures live { IsLiveAnswer (reach_of w.new (L.items l.now)) result }
-    ensures locals { All (IsLive (extent_of w.new.heap)) (L.items l.now) }
-    ensures kept { KeepsItems (reach_of w.old (L.items l.now)) (reach_of w.new (L.items l.now)) }
+    ensures kept { KeepsLive w.old (L.items l.now) w.new (L.items l.now) }
 {
     let (wanted, searched) = text_search(w, l, args)?;
     Ok(find_in(w, l, wanted, searched))
@@ -106,13 +103,11 @@ pub fn found_again<L: Locals>(
 /// `upto(c, s, i, j)`: each place of a part of a text before a byte of the cset, from the first on; it fails where there is none. The
 /// errors are 104, 103, 101, 306 and want of memory.
 pub fn upto_row<L: Locals>(w: &mut World, l: &L, args: &[Val]) -> Result<Outcome, Halt>
-    requires locals { All (IsLive (extent_of w.old.heap)) (L.items l.now) }
-    requires args { All (IsLive (extent_of w.old.heap)) args.now }
+    requires live { AreLiveArguments w.old (L.items l.now) args.now }
     ensures row { Answers w.old (L.items l.now) w.new (L.items l.now)
         (upto_row (map (value_in (extent_of w.old.heap)) args.now)) result }
     ensures live { IsLiveAnswer (reach_of w.new (L.items l.now)) result }
-    ensures locals { All (IsLive (extent_of w.new.heap)) (L.items l.now) }
-    ensures kept { KeepsItems (reach_of w.old (L.items l.now)) (reach_of w.new (L.items l.now)) }
+    ensures kept { KeepsLive w.old (L.items l.now) w.new (L.items l.now) }
 {
     let (wanted, searched) = cset_search(w, l, args)?;
     Ok(upto_in(w, l, wanted, searched))

@@ -6,7 +6,7 @@ ghost use Rattle.icn_defs.specs.Scanning.{move_row, plain_position, pos_row, tab
 ghost use Rattle.icn_heap.specs.Extents.{IsLive, text_in, value_in};
 ghost use Rattle.icn_heap.specs.Heaps.{extent_of};
 ghost use Rattle.icn_vars.specs.Outcomes.{IsLiveAnswer, IsLiveOutcome, outcome_in};
-ghost use Rattle.icn_vars.specs.Worlds.{KeepsItems, reach_of, setting_of};
+ghost use Rattle.icn_vars.specs.Worlds.{AreLiveArguments, KeepsLive, reach_of, setting_of};
 ghost use Rattle.icn_args.specs.RowWords.{Answers};
 ghost use Rattle.icn_scanfn.specs.Moves.{moves_by, tabs_by, tests_position};
 
@@ -18,13 +18,11 @@ use icn_vars::{Halt, Locals, Outcome, World, position_of};
 /// `tab(i)`: moves to a position of the subject, and gives the bytes between it and the old place; it fails where the position is
 /// out of range. The error is 101.
 pub fn tab_row<L: Locals>(w: &mut World, l: &L, args: &[Val]) -> Result<Outcome, Halt>
-    requires locals { All (IsLive (extent_of w.old.heap)) (L.items l.now) }
-    requires args { All (IsLive (extent_of w.old.heap)) args.now }
+    requires live { AreLiveArguments w.old (L.items l.now) args.now }
     ensures row { Answers w.old (L.items l.now) w.new (L.items l.now)
         (tab_row (map (value_in (extent_of w.old.heap)) args.now)) result }
     ensures live { IsLiveAnswer (reach_of w.new (L.items l.now)) result }
-    ensures locals { All (IsLive (extent_of w.new.heap)) (L.items l.now) }
-    ensures kept { KeepsItems (reach_of w.old (L.items l.now)) (reach_of w.new (L.items l.now)) }
+    ensures kept { KeepsLive w.old (L.items l.now) w.new (L.items l.now) }
 {
     let n = integer_of(&w.heap, arg(args, 0))?;
     Ok(tab_by(w, l, n))
@@ -36,8 +34,7 @@ fn tab_by<L: Locals>(w: &mut World, l: &L, n: i64) -> Outcome
     ensures row { (outside : Outside) → tabs_by n (setting_of outside w.old (L.items l.now))
         ≡ outcome_in (extent_of w.new.heap) result (setting_of outside w.new (L.items l.now)) }
     ensures live { IsLiveOutcome (reach_of w.new (L.items l.now)) result }
-    ensures locals { All (IsLive (extent_of w.new.heap)) (L.items l.now) }
-    ensures kept { KeepsItems (reach_of w.old (L.items l.now)) (reach_of w.new (L.items l.now)) }
+    ensures kept { KeepsLive w.old (L.items l.now) w.new (L.items l.now) }
 {
     short_text(&w.heap, w.pair.subject);
     let size = w.heap.bytes(w.pair.subject).len() as u64;
@@ -50,13 +47,11 @@ fn tab_by<L: Locals>(w: &mut World, l: &L, n: i64) -> Outcome
 /// `move(i)`: moves so many bytes on in the subject, or back below 0, and gives those between; it fails where there are not so many.
 /// The error is 101.
 pub fn move_row<L: Locals>(w: &mut World, l: &L, args: &[Val]) -> Result<Outcome, Halt>
-    requires locals { All (IsLive (extent_of w.old.heap)) (L.items l.now) }
-    requires args { All (IsLive (extent_of w.old.heap)) args.now }
+    requires live { AreLiveArguments w.old (L.items l.now) args.now }
     ensures row { Answers w.old (L.items l.now) w.new (L.items l.now)
         (move_row (map (value_in (extent_of w.old.heap)) args.now)) result }
     ensures live { IsLiveAnswer (reach_of w.new (L.items l.now)) result }
-    ensures locals { All (IsLive (extent_of w.new.heap)) (L.items l.now) }
-    ensures kept { KeepsItems (reach_of w.old (L.items l.now)) (reach_of w.new (L.items l.now)) }
+    ensures kept { KeepsLive w.old (L.items l.now) w.new (L.items l.now) }
 {
     let n = integer_of(&w.heap, arg(args, 0))?;
     Ok(move_by(w, l, n))
@@ -68,8 +63,7 @@ fn move_by<L: Locals>(w: &mut World, l: &L, n: i64) -> Outcome
     ensures row { (outside : Outside) → moves_by n (setting_of outside w.old (L.items l.now))
         ≡ outcome_in (extent_of w.new.heap) result (setting_of outside w.new (L.items l.now)) }
     ensures live { IsLiveOutcome (reach_of w.new (L.items l.now)) result }
-    ensures locals { All (IsLive (extent_of w.new.heap)) (L.items l.now) }
-    ensures kept { KeepsItems (reach_of w.old (L.items l.now)) (reach_of w.new (L.items l.now)) }
+    ensures kept { KeepsLive w.old (L.items l.now) w.new (L.items l.now) }
 {
     short_text(&w.heap, w.pair.subject);
     let size = w.heap.bytes(w.pair.subject).len() as u64;

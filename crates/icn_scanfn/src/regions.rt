@@ -12,7 +12,7 @@ ghost use Rattle.icn_heap.specs.Extents.{Extent, IsLive, IsText, text_in, value_
 ghost use Rattle.icn_heap.specs.Heaps.{extent_of};
 ghost use Rattle.icn_vars.specs.Outcomes.{IsSearch};
 ghost use Rattle.icn_vars.specs.Stops.{IsLiveStop};
-ghost use Rattle.icn_vars.specs.Worlds.{KeepsItems, reach_of, setting_of};
+ghost use Rattle.icn_vars.specs.Worlds.{AreLiveArguments, KeepsLive, setting_of};
 ghost use Rattle.icn_args.specs.RowWords.{IsFound, HasText};
 ghost use Rattle.icn_scanfn.specs.Regions.{charged_region, given_in, searched_in};
 
@@ -76,8 +76,7 @@ pub fn charged_region<L: Locals>(
     args: &[Val],
     place: usize,
 ) -> Result<Searched, Stop>
-    requires locals { All (IsLive (extent_of w.old.heap)) (L.items l.now) }
-    requires args { All (IsLive (extent_of w.old.heap)) args.now }
+    requires live { AreLiveArguments w.old (L.items l.now) args.now }
     requires place { place < 2 ^ 32 }
     ensures found { (outside : Outside)
         → IsFound (extent_of w.new.heap)
@@ -86,8 +85,7 @@ pub fn charged_region<L: Locals>(
         (searched_in (extent_of w.new.heap)) result }
     ensures live { IfOk result (λ searched. IsText (extent_of w.new.heap) searched.text) }
     ensures stops { IfErr result (IsLiveStop (extent_of w.new.heap)) }
-    ensures locals { All (IsLive (extent_of w.new.heap)) (L.items l.now) }
-    ensures kept { KeepsItems (reach_of w.old (L.items l.now)) (reach_of w.new (L.items l.now)) }
+    ensures kept { KeepsLive w.old (L.items l.now) w.new (L.items l.now) }
 {
     let given = region_from(w, args, place)?;
     let text = text_of(w, l, given.val)?;

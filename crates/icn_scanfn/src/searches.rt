@@ -1,12 +1,11 @@
 // What searches are given, as arguments.
 ghost use Rattle.std.specs.Prelude.{IfErr, IfOk, map};
-ghost use Rattle.std.specs.List.{All};
 ghost use Rattle.icn_value.specs.Members.{members_of};
 ghost use Rattle.icn_value.specs.Store.{Outside};
-ghost use Rattle.icn_heap.specs.Extents.{IsLive, IsText, text_in, value_in};
+ghost use Rattle.icn_heap.specs.Extents.{IsText, text_in, value_in};
 ghost use Rattle.icn_heap.specs.Heaps.{extent_of};
 ghost use Rattle.icn_vars.specs.Stops.{IsLiveStop};
-ghost use Rattle.icn_vars.specs.Worlds.{KeepsItems, reach_of, setting_of};
+ghost use Rattle.icn_vars.specs.Worlds.{AreLiveArguments, KeepsLive, setting_of};
 ghost use Rattle.icn_args.specs.RowWords.{IsFound};
 ghost use Rattle.icn_scanfn.specs.Regions.{searched_in};
 ghost use Rattle.icn_scanfn.specs.Searches.{cset_search, text_search};
@@ -19,16 +18,14 @@ use icn_vars::{Locals, Stop, World};
 /// A cset, and a text with two positions. The errors are 104, 103, 101, 306 and want of memory.
 #[tactic(auto, using(icn_vars::proofs::KeptItems::keeps_items_refl))]
 pub fn cset_search<L: Locals>(w: &mut World, l: &L, args: &[Val]) -> Result<(Cset, Searched), Stop>
-    requires locals { All (IsLive (extent_of w.old.heap)) (L.items l.now) }
-    requires args { All (IsLive (extent_of w.old.heap)) args.now }
+    requires live { AreLiveArguments w.old (L.items l.now) args.now }
     ensures found { (outside : Outside)
         → IsFound (extent_of w.new.heap) (cset_search (map (value_in (extent_of w.old.heap)) args.now))
         (setting_of outside w.old (L.items l.now)) (setting_of outside w.new (L.items l.now))
         (λ two. (members_of two.0, searched_in (extent_of w.new.heap) two.1)) result }
     ensures live { IfOk result (λ two. IsText (extent_of w.new.heap) two.1.text) }
     ensures stops { IfErr result (IsLiveStop (extent_of w.new.heap)) }
-    ensures locals { All (IsLive (extent_of w.new.heap)) (L.items l.now) }
-    ensures kept { KeepsItems (reach_of w.old (L.items l.now)) (reach_of w.new (L.items l.now)) }
+    ensures kept { KeepsLive w.old (L.items l.now) w.new (L.items l.now) }
 {
     let wanted = cset_of(&w.heap, arg(args, 0))?;
     let searched = charged_region(w, l, args, 1)?;
@@ -38,8 +35,7 @@ pub fn cset_search<L: Locals>(w: &mut World, l: &L, args: &[Val]) -> Result<(Cse
 /// A text, and another one with two positions. The errors are 103, 101, 306 and want of memory.
 #[tactic(auto, using(icn_vars::proofs::KeptItems::keeps_items_refl))]
 pub fn text_search<L: Locals>(w: &mut World, l: &L, args: &[Val]) -> Result<(Span, Searched), Stop>
-    requires locals { All (IsLive (extent_of w.old.heap)) (L.items l.now) }
-    requires args { All (IsLive (extent_of w.old.heap)) args.now }
+    requires live { AreLiveArguments w.old (L.items l.now) args.now }
     ensures found { (outside : Outside)
         → IsFound (extent_of w.new.heap) (text_search (map (value_in (extent_of w.old.heap)) args.now))
         (setting_of outside w.old (L.items l.now)) (setting_of outside w.new (L.items l.now))
@@ -47,8 +43,7 @@ pub fn text_search<L: Locals>(w: &mut World, l: &L, args: &[Val]) -> Result<(Spa
     ensures wanted { IfOk result (λ two. IsText (extent_of w.new.heap) two.0) }
     ensures live { IfOk result (λ two. IsText (extent_of w.new.heap) two.1.text) }
     ensures stops { IfErr result (IsLiveStop (extent_of w.new.heap)) }
-    ensures locals { All (IsLive (extent_of w.new.heap)) (L.items l.now) }
-    ensures kept { KeepsItems (reach_of w.old (L.items l.now)) (reach_of w.new (L.items l.now)) }
+    ensures kept { KeepsLive w.old (L.items l.now) w.new (L.items l.now) }
 {
     let val = arg(args, 0);
     check_text(val)?;

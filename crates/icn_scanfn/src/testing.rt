@@ -1,13 +1,12 @@
 // The functions that test a text at its first place.
 ghost use Rattle.std.specs.Prelude.{◌≡◌, ◌&&◌, ◌^◌, ◌<◌, ◌≤◌, ◌+◌, length, map, nat_lt, MatchBool, ⊤};
-ghost use Rattle.std.specs.List.{All};
 ghost use Rattle.icn_value.specs.Members.{contains, members_of};
 ghost use Rattle.icn_value.specs.Store.{Outside, Setting};
 ghost use Rattle.icn_defs.specs.Scanning.{any_row, byte_behind, gives_position, many_row, match_row};
-ghost use Rattle.icn_heap.specs.Extents.{Extent, IsLive, IsText, text_in, value_in};
+ghost use Rattle.icn_heap.specs.Extents.{Extent, IsText, text_in, value_in};
 ghost use Rattle.icn_heap.specs.Heaps.{extent_of};
 ghost use Rattle.icn_vars.specs.Outcomes.{IsLiveAnswer, IsLiveOutcome, outcome_in};
-ghost use Rattle.icn_vars.specs.Worlds.{KeepsItems, Reach, reach_of};
+ghost use Rattle.icn_vars.specs.Worlds.{AreLiveArguments, KeepsLive, Reach, reach_of};
 ghost use Rattle.icn_args.specs.RowWords.{Answers};
 ghost use Rattle.icn_scanfn.specs.Regions.{searched_in};
 ghost use Rattle.icn_scanfn.specs.Searches.{any_in, many_in, match_in};
@@ -23,13 +22,11 @@ use icn_vars::{Halt, Locals, Outcome, World};
 /// `any(c, s, i, j)`: the place behind the first byte of a part of a text, where that byte is of the cset; else it fails. The errors
 /// are 104, 103, 101, 306 and want of memory.
 pub fn any_row<L: Locals>(w: &mut World, l: &L, args: &[Val]) -> Result<Outcome, Halt>
-    requires locals { All (IsLive (extent_of w.old.heap)) (L.items l.now) }
-    requires args { All (IsLive (extent_of w.old.heap)) args.now }
+    requires live { AreLiveArguments w.old (L.items l.now) args.now }
     ensures row { Answers w.old (L.items l.now) w.new (L.items l.now)
         (any_row (map (value_in (extent_of w.old.heap)) args.now)) result }
     ensures live { IsLiveAnswer (reach_of w.new (L.items l.now)) result }
-    ensures locals { All (IsLive (extent_of w.new.heap)) (L.items l.now) }
-    ensures kept { KeepsItems (reach_of w.old (L.items l.now)) (reach_of w.new (L.items l.now)) }
+    ensures kept { KeepsLive w.old (L.items l.now) w.new (L.items l.now) }
 {
     let (wanted, searched) = cset_search(w, l, args)?;
     Ok(any_in(&w.heap, &wanted, searched))
@@ -70,13 +67,11 @@ fn has_behind(wanted: &Cset, text: &[u8], from: u64, to: u64) -> bool
 /// `many(c, s, i, j)`: the place behind all bytes of the cset with which a part of a text begins; it fails where there are none. The
 /// errors are 104, 103, 101, 306 and want of memory.
 pub fn many_row<L: Locals>(w: &mut World, l: &L, args: &[Val]) -> Result<Outcome, Halt>
-    requires locals { All (IsLive (extent_of w.old.heap)) (L.items l.now) }
-    requires args { All (IsLive (extent_of w.old.heap)) args.now }
+    requires live { AreLiveArguments w.old (L.items l.now) args.now }
     ensures row { Answers w.old (L.items l.now) w.new (L.items l.now)
         (many_row (map (value_in (extent_of w.old.heap)) args.now)) result }
     ensures live { IsLiveAnswer (reach_of w.new (L.items l.now)) result }
-    ensures locals { All (IsLive (extent_of w.new.heap)) (L.items l.now) }
-    ensures kept { KeepsItems (reach_of w.old (L.items l.now)) (reach_of w.new (L.items l.now)) }
+    ensures kept { KeepsLive w.old (L.items l.now) w.new (L.items l.now) }
 {
     let (wanted, searched) = cset_search(w, l, args)?;
     Ok(many_in(&w.heap, &wanted, searched))
@@ -107,13 +102,11 @@ fn many_in(heap: &Heap, wanted: &Cset, searched: Searched) -> Outcome
 /// `match(s1, s, i, j)`: the place behind a text with which a part of another one begins; it fails where that begins otherwise. The
 /// errors are 103, 101, 306 and want of memory.
 pub fn match_row<L: Locals>(w: &mut World, l: &L, args: &[Val]) -> Result<Outcome, Halt>
-    requires locals { All (IsLive (extent_of w.old.heap)) (L.items l.now) }
-    requires args { All (IsLive (extent_of w.old.heap)) args.now }
+    requires live { AreLiveArguments w.old (L.items l.now) args.now }
     ensures row { Answers w.old (L.items l.now) w.new (L.items l.now)
         (match_row (map (value_in (extent_of w.old.heap)) args.now)) result }
     ensures live { IsLiveAnswer (reach_of w.new (L.items l.now)) result }
-    ensures locals { All (IsLive (extent_of w.new.heap)) (L.items l.now) }
-    ensures kept { KeepsItems (reach_of w.old (L.items l.now)) (reach_of w.new (L.items l.now)) }
+    ensures kept { KeepsLive w.old (L.items l.now) w.new (L.items l.now) }
 {
     let (wanted, searched) = text_search(w, l, args)?;
     Ok(match_in(&w.heap, wanted, searched))

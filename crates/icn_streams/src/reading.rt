@@ -10,7 +10,7 @@ ghost use Rattle.icn_heap.specs.Extents.{IsLive, IsText, text_in};
 ghost use Rattle.icn_heap.specs.Heaps.{extent_of};
 ghost use Rattle.icn_vars.specs.Stops.{IsLiveStop, StopsPassing};
 ghost use Rattle.icn_vars.specs.Outcomes.{IsLiveHalt};
-ghost use Rattle.icn_vars.specs.Worlds.{KeepsItems, reach_of, setting_of};
+ghost use Rattle.icn_vars.specs.Worlds.{KeepsLive, reach_of, setting_of};
 ghost use Rattle.icn_streams.specs.Answers.{call_state};
 ghost use Rattle.icn_streams.specs.Handed.{call_streams};
 ghost use Rattle.icn_streams.specs.Readings.{InputCause, Reads, ReadsOfSome, asked_in};
@@ -46,8 +46,7 @@ pub fn read_text<L: Locals, I: Source>(
     ensures called { (I.counts input.new).calls ≡ one_more (I.counts input.old).calls }
     ensures live { IfOk result (λ found. IfSome found (IsText (extent_of w.new.heap))) }
     ensures halts { IfErr result (IsLiveHalt (reach_of w.new (L.items l.now))) }
-    ensures locals { All (IsLive (extent_of w.new.heap)) (L.items l.now) }
-    ensures kept { KeepsItems (reach_of w.old (L.items l.now)) (reach_of w.new (L.items l.now)) }
+    ensures kept { KeepsLive w.old (L.items l.now) w.new (L.items l.now) }
 {
     match fill(ask, input, buffer) {
         Ok(true) => Ok(Some(text_of(w, l, buffer)?)),
@@ -68,8 +67,7 @@ fn text_of<L: Locals>(w: &mut World, l: &L, bytes: &[u8]) -> Result<Span, Stop>
         (setting_of outside w.old (L.items l.now)) (setting_of outside w.new (L.items l.now)))
         (StopsPassing (extent_of w.new.heap) (costs_bytes (length bytes.now))
         (setting_of outside w.old (L.items l.now)) (setting_of outside w.new (L.items l.now))) }
-    ensures locals { All (IsLive (extent_of w.new.heap)) (L.items l.now) }
-    ensures kept { KeepsItems (reach_of w.old (L.items l.now)) (reach_of w.new (L.items l.now)) }
+    ensures kept { KeepsLive w.old (L.items l.now) w.new (L.items l.now) }
 {
     Ok(w.heap.build(bytes)?)
 }

@@ -6,9 +6,9 @@ use Rattle.icn_value.specs.Values.{Item, Text, Val}
 use Rattle.icn_value.specs.Store.{Heap, Setting, having_heap}
 use Rattle.icn_defs.specs.Rows.{Row, Error as ErrorOutcome, Gives as GivesOutcome, builds}
 use Rattle.icn_vars.specs.Assignments.{IsError}
-use Rattle.icn_vars.specs.declared.outcome.Outcome.{Outcome}
 use Rattle.icn_vars.specs.declared.stop.Stop.{Stop}
 use Rattle.icn_vars.specs.declared.stop.Stop.TheVariants.{Error, NoMemory}
+use Rattle.icn_args.specs.declared.value_outcome.ValueOutcome.{ValueOutcome}
 use Rattle.icn_strfn.specs.Stopping.{RefusesFirst}
 
 gives_no_error : (item : Item) (after at : Setting) → GivesOutcome item after ≡ ErrorOutcome 306 None at → ⊥
@@ -24,10 +24,10 @@ builds_within text setting at fits =
     ≡ GivesOutcome (Val (Text text)) (having_heap (λ heap. record heap { strings = heap.strings + length text }) setting) = rw test refl in
     λ is. gives_no_error (Val (Text text)) (having_heap (λ heap. record heap { strings = heap.strings + length text }) setting) at (sym given ∙ is)
 
-wants_no_error : (result : Result Outcome Stop) → result ≡ Err NoMemory → result ≡ Err (Error 306 None) → ⊥
+wants_no_error : (result : Result ValueOutcome Stop) → result ≡ Err NoMemory → result ≡ Err (Error 306 None) → ⊥
 wants_no_error result wanting is = cc
 
-within_by : (heap : Heap) (text : List ℕ) (result : Result Outcome Stop) (fits : Bool)
+within_by : (heap : Heap) (text : List ℕ) (result : Result ValueOutcome Stop) (fits : Bool)
     → nat_le (heap.strings + length text) heap.bounds.strings ≡ fits → RefusesFirst heap text result → result ≡ Err NoMemory
     → heap.strings + length text ≤ heap.bounds.strings
 within_by heap text result true test first wanting = leb-true (heap.strings + length text) heap.bounds.strings test
@@ -35,7 +35,7 @@ within_by heap text result false test first wanting =
     absurd (wants_no_error result wanting (first (leb-false (heap.strings + length text) heap.bounds.strings test)))
 
 -- a row that builds a text, and wants memory for it, does not come to the limit
-pub limit_before : (row : Row) (text : List ℕ) (before between at : Setting) (result : Result Outcome Stop) → row before ≡ builds text between
+pub limit_before : (row : Row) (text : List ℕ) (before between at : Setting) (result : Result ValueOutcome Stop) → row before ≡ builds text between
     → RefusesFirst between.world.heap text result → result ≡ Err NoMemory → row before ≢ ErrorOutcome 306 None at
 limit_before row text before between at result same first wanting =
     let heap : Heap = between.world.heap in
@@ -43,7 +43,7 @@ limit_before row text before between at result same first wanting =
     λ is. builds_within text between at fits (sym same ∙ is)
 
 -- what was stopped by an error wants no memory
-pub error_no_want : (stop : Stop) (result : Result Outcome Stop) → IsErrAnd result (λ other. other ≡ stop) → IsError stop → result ≡ Err NoMemory → ⊥
-error_no_want stop (Ok outcome) same is wanting = absurd same
+pub error_no_want : (stop : Stop) (result : Result ValueOutcome Stop) → IsErrAnd result (λ other. other ≡ stop) → IsError stop → result ≡ Err NoMemory → ⊥
+error_no_want stop (Ok given) same is wanting = absurd same
 error_no_want stop (Err other) same is wanting =
     let none : other ≡ NoMemory = cc in subst IsError (sym same ∙ none) is

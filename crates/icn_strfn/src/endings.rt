@@ -2,26 +2,24 @@
 ghost use Rattle.std.specs.Prelude.{◌≡◌, ◌+◌, ◌<◌, ◌≤◌, ◌^◌, pos, MatchBool};
 ghost use Rattle.std.specs.List.{All};
 ghost use Rattle.icn_value.specs.Values.{Text};
-ghost use Rattle.icn_value.specs.declared.item.Item.TheVariants.{Val as ValItem};
 ghost use Rattle.icn_value.specs.declared.val.Val.TheVariants.{Integer as IntegerVal, Text as TextVal};
 ghost use Rattle.icn_defs.specs.Rows.{builds, gives_value};
 ghost use Rattle.icn_heap.specs.Extents.{IsLive};
 ghost use Rattle.icn_heap.specs.Heaps.{extent_of, heap_of};
-ghost use Rattle.icn_vars.specs.Worlds.{KeepsItems, reach_of};
+ghost use Rattle.icn_vars.specs.Worlds.{KeepsLive, reach_of};
 ghost use Rattle.icn_strfn.specs.Stopping.{Gives, IsLiveGiven};
 
-use icn_args::build;
+use icn_args::{ValueOutcome, build};
 use icn_heap::Heap;
-use icn_value::{Item, Span, Val};
-use icn_vars::{Locals, Outcome, Stop, World};
+use icn_value::{Span, Val};
+use icn_vars::{Locals, Stop, World};
 
 /// A new text of these bytes, which is charged. The errors are 306 and want of memory.
-pub fn build_text<L: Locals>(w: &mut World, l: &L, bytes: &[u8]) -> Result<Outcome, Stop>
+pub fn build_text<L: Locals>(w: &mut World, l: &L, bytes: &[u8]) -> Result<ValueOutcome, Stop>
     requires { All (IsLive (extent_of w.old.heap)) (L.items l.now) }
     ensures row { Gives w.old w.new (L.items l.now) (builds bytes.now) result }
     ensures live { IsLiveGiven (reach_of w.new (L.items l.now)) result }
-    ensures locals { All (IsLive (extent_of w.new.heap)) (L.items l.now) }
-    ensures kept { KeepsItems (reach_of w.old (L.items l.now)) (reach_of w.new (L.items l.now)) }
+    ensures kept { KeepsLive w.old (L.items l.now) w.new (L.items l.now) }
 {
     let span = build(w, l, bytes)?;
     Ok(text(span))
@@ -42,27 +40,26 @@ pub fn lacks_room(heap: &Heap, bytes: u64) -> bool
 
 /// A text of these bytes, which costs nothing. The error is want of memory.
 #[tactic(auto, using(icn_vars::proofs::GrowingWorlds::grows, icn_vars::proofs::GrowingWorlds::locals_grow))]
-pub fn hold_text<L: Locals>(w: &mut World, l: &L, bytes: &[u8]) -> Result<Outcome, Stop>
+pub fn hold_text<L: Locals>(w: &mut World, l: &L, bytes: &[u8]) -> Result<ValueOutcome, Stop>
     requires { All (IsLive (extent_of w.old.heap)) (L.items l.now) }
     ensures row { Gives w.old w.new (L.items l.now) (gives_value (Text bytes.now)) result }
     ensures live { IsLiveGiven (reach_of w.new (L.items l.now)) result }
-    ensures locals { All (IsLive (extent_of w.new.heap)) (L.items l.now) }
-    ensures kept { KeepsItems (reach_of w.old (L.items l.now)) (reach_of w.new (L.items l.now)) }
+    ensures kept { KeepsLive w.old (L.items l.now) w.new (L.items l.now) }
 {
     let span = w.heap.hold(bytes)?;
     Ok(text(span))
 }
 
 /// A byte as an integer.
-pub fn byte_given(byte: u8) -> Outcome
-    ensures { result ≡ Outcome.Gives (ValItem (IntegerVal (pos byte))) }
+pub fn byte_given(byte: u8) -> ValueOutcome
+    ensures { result ≡ ValueOutcome.Gives (IntegerVal (pos byte)) }
 {
-    Outcome::Gives(Item::Val(Val::Integer(i64::from(byte))))
+    ValueOutcome::Gives(Val::Integer(i64::from(byte)))
 }
 
 /// The row gives this text.
-pub fn text(span: Span) -> Outcome
-    ensures { result ≡ Outcome.Gives (ValItem (TextVal span)) }
+pub fn text(span: Span) -> ValueOutcome
+    ensures { result ≡ ValueOutcome.Gives (TextVal span) }
 {
-    Outcome::Gives(Item::Val(Val::Text(span)))
+    ValueOutcome::Gives(Val::Text(span))
 }

@@ -9,20 +9,21 @@ ghost use Rattle.icn_defs.specs.Rows.{arithmetic_error};
 ghost use Rattle.icn_defs.specs.Strings.{abs_row, iand_row, icom_row, integer_row, ior_row, ishift_row, ixor_row, seq_row, sequence_again};
 ghost use Rattle.icn_heap.specs.Extents.{Extent, IsLive, value_in};
 ghost use Rattle.icn_heap.specs.Heaps.{extent_of};
+ghost use Rattle.icn_args.specs.RowWords.{Answers};
 ghost use Rattle.icn_vars.specs.Outcomes.{ComesToAnswer, IsLiveAnswer};
 ghost use Rattle.icn_vars.specs.Worlds.{Reach, reach_of};
 ghost use Rattle.icn_strfn.specs.Stopping.{Gives, IsLiveGiven};
 
 use crate::defaults::or_one;
 use crate::integers::{absolute_value, shift_integer};
-use icn_args::arg;
+use icn_args::{ValueOutcome, arg};
 use icn_convert::to_integer;
 use icn_text::{Arith, add};
 use icn_value::{Item, Residual, Val};
 use icn_vars::{Halt, Locals, Outcome, Stop, World};
 
 /// `abs(n)`: the absolute value, or error 102; 203 where 64 bits do not hold it.
-pub fn abs_row<L: Locals>(w: &World, l: &L, args: &[Val]) -> Result<Outcome, Stop>
+pub fn abs_row<L: Locals>(w: &World, l: &L, args: &[Val]) -> Result<ValueOutcome, Stop>
     requires { All (IsLive (extent_of w.now.heap)) args.now }
     ensures row { Gives w.now w.now (L.items l.now)
         (abs_row (map (value_in (extent_of w.now.heap)) args.now)) result }
@@ -36,7 +37,7 @@ pub fn abs_row<L: Locals>(w: &World, l: &L, args: &[Val]) -> Result<Outcome, Sto
 }
 
 /// `iand(i, j)`: the bits that are set in both, or error 101.
-pub fn iand_row<L: Locals>(w: &World, l: &L, args: &[Val]) -> Result<Outcome, Stop>
+pub fn iand_row<L: Locals>(w: &World, l: &L, args: &[Val]) -> Result<ValueOutcome, Stop>
     requires { All (IsLive (extent_of w.now.heap)) args.now }
     ensures row { Gives w.now w.now (L.items l.now)
         (iand_row (map (value_in (extent_of w.now.heap)) args.now)) result }
@@ -52,7 +53,7 @@ pub fn iand_row<L: Locals>(w: &World, l: &L, args: &[Val]) -> Result<Outcome, St
 }
 
 /// `ior(i, j)`: the bits that are set in either, or error 101.
-pub fn ior_row<L: Locals>(w: &World, l: &L, args: &[Val]) -> Result<Outcome, Stop>
+pub fn ior_row<L: Locals>(w: &World, l: &L, args: &[Val]) -> Result<ValueOutcome, Stop>
     requires { All (IsLive (extent_of w.now.heap)) args.now }
     ensures row { Gives w.now w.now (L.items l.now)
         (ior_row (map (value_in (extent_of w.now.heap)) args.now)) result }
@@ -68,7 +69,7 @@ pub fn ior_row<L: Locals>(w: &World, l: &L, args: &[Val]) -> Result<Outcome, Sto
 }
 
 /// `ixor(i, j)`: the bits that are set in one of them alone, or error 101.
-pub fn ixor_row<L: Locals>(w: &World, l: &L, args: &[Val]) -> Result<Outcome, Stop>
+pub fn ixor_row<L: Locals>(w: &World, l: &L, args: &[Val]) -> Result<ValueOutcome, Stop>
     requires { All (IsLive (extent_of w.now.heap)) args.now }
     ensures row { Gives w.now w.now (L.items l.now)
         (ixor_row (map (value_in (extent_of w.now.heap)) args.now)) result }
@@ -84,7 +85,7 @@ pub fn ixor_row<L: Locals>(w: &World, l: &L, args: &[Val]) -> Result<Outcome, St
 }
 
 /// `icom(i)`: the bits that are not set, or error 101.
-pub fn icom_row<L: Locals>(w: &World, l: &L, args: &[Val]) -> Result<Outcome, Stop>
+pub fn icom_row<L: Locals>(w: &World, l: &L, args: &[Val]) -> Result<ValueOutcome, Stop>
     requires { All (IsLive (extent_of w.now.heap)) args.now }
     ensures row { Gives w.now w.now (L.items l.now)
         (icom_row (map (value_in (extent_of w.now.heap)) args.now)) result }
@@ -98,7 +99,7 @@ pub fn icom_row<L: Locals>(w: &World, l: &L, args: &[Val]) -> Result<Outcome, St
 }
 
 /// `ishift(i, j)`: the bits moved to the left, or below 0 to the right with zeros, or error 101.
-pub fn ishift_row<L: Locals>(w: &World, l: &L, args: &[Val]) -> Result<Outcome, Stop>
+pub fn ishift_row<L: Locals>(w: &World, l: &L, args: &[Val]) -> Result<ValueOutcome, Stop>
     requires { All (IsLive (extent_of w.now.heap)) args.now }
     ensures row { Gives w.now w.now (L.items l.now)
         (ishift_row (map (value_in (extent_of w.now.heap)) args.now)) result }
@@ -114,7 +115,7 @@ pub fn ishift_row<L: Locals>(w: &World, l: &L, args: &[Val]) -> Result<Outcome, 
 }
 
 /// `integer(x)` and `numeric(x)`: the integer that a value converts to; it fails where there is none.
-pub fn integer_row<L: Locals>(w: &World, l: &L, args: &[Val]) -> Result<Outcome, Stop>
+pub fn integer_row<L: Locals>(w: &World, l: &L, args: &[Val]) -> Result<ValueOutcome, Stop>
     requires { All (IsLive (extent_of w.now.heap)) args.now }
     ensures row { Gives w.now w.now (L.items l.now)
         (integer_row (map (value_in (extent_of w.now.heap)) args.now)) result }
@@ -122,24 +123,24 @@ pub fn integer_row<L: Locals>(w: &World, l: &L, args: &[Val]) -> Result<Outcome,
 {
     match to_integer(&w.heap, arg(args, 0)) {
         Some(n) => Ok(integer(n)),
-        None => Ok(Outcome::Fails),
+        None => Ok(ValueOutcome::Fails),
     }
 }
 
 /// `seq(i, j)`: the integers from `i` on by `j`, both 1 where they are null; or error 101, or 211 at a step of 0.
-pub fn seq_row<L: Locals>(w: &World, l: &L, args: &[Val]) -> Result<Outcome, Stop>
+pub fn seq_row<L: Locals>(w: &World, l: &L, args: &[Val]) -> Result<Outcome, Halt>
     requires { All (IsLive (extent_of w.now.heap)) args.now }
-    ensures row { Gives w.now w.now (L.items l.now)
+    ensures row { Answers w.now (L.items l.now) w.now (L.items l.now)
         (seq_row (map (value_in (extent_of w.now.heap)) args.now)) result }
-    ensures live { IsLiveGiven (reach_of w.now (L.items l.now)) result }
+    ensures live { IsLiveAnswer (reach_of w.now (L.items l.now)) result }
 {
     let first = or_one(arg(args, 0));
     let second = or_one(arg(args, 1));
     match (to_integer(&w.heap, first), to_integer(&w.heap, second)) {
-        (Some(_), Some(0)) => Err(Stop::Error(211, None)),
+        (Some(_), Some(0)) => Err(Halt::Error(211, None)),
         (Some(n), Some(step)) => Ok(sequence_from(n, step)),
-        (Some(_), None) => Err(Stop::Error(101, Some(second))),
-        (None, _) => Err(Stop::Error(101, Some(first))),
+        (Some(_), None) => Err(Halt::Error(101, Some(second))),
+        (None, _) => Err(Halt::Error(101, Some(first))),
     }
 }
 
@@ -156,8 +157,8 @@ pub fn sequence_again(given: i64, step: i64) -> Result<Outcome, Halt>
 }
 
 // An integer that was computed, or the error of its operation.
-fn integer_outcome(found: Result<i64, Arith>) -> Result<Outcome, Stop>
-    ensures { MatchResult found (λ n. result ≡ Ok (Outcome.Gives (ValItem (Integer n))))
+fn integer_outcome(found: Result<i64, Arith>) -> Result<ValueOutcome, Stop>
+    ensures { MatchResult found (λ n. result ≡ Ok (ValueOutcome.Gives (Integer n)))
         (λ why. result ≡ Err (Stop.Error (arithmetic_error why) None)) }
 {
     match found {
@@ -186,8 +187,8 @@ fn sequence_from(given: i64, step: i64) -> Outcome
     )
 }
 
-fn integer(n: i64) -> Outcome
-    ensures { result ≡ Outcome.Gives (ValItem (Integer n)) }
+fn integer(n: i64) -> ValueOutcome
+    ensures { result ≡ ValueOutcome.Gives (Integer n) }
 {
-    Outcome::Gives(Item::Val(Val::Integer(n)))
+    ValueOutcome::Gives(Val::Integer(n))
 }

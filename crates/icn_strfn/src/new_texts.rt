@@ -5,7 +5,7 @@ ghost use Rattle.icn_defs.specs.Rows.{builds};
 ghost use Rattle.icn_defs.specs.Strings.{map_byte};
 ghost use Rattle.icn_heap.specs.Extents.{IsLive, IsText, text_in};
 ghost use Rattle.icn_heap.specs.Heaps.{extent_of, heap_of};
-ghost use Rattle.icn_vars.specs.Worlds.{KeepsItems, reach_of};
+ghost use Rattle.icn_vars.specs.Worlds.{KeepsLive, reach_of};
 ghost use Rattle.icn_strfn.specs.Layouts.{laid_out};
 ghost use Rattle.icn_strfn.specs.Stopping.{Gives, IsLiveGiven, RefusesFirst};
 ghost use Rattle.icn_strfn.specs.TextArguments.{IsArgument, argument_bytes};
@@ -15,13 +15,14 @@ use crate::fields::{repeat_text, reverse_text};
 use crate::layouts::{Layout, laid_out};
 use crate::mapping::map_bytes;
 use crate::text_arguments::TextArgument;
+use icn_args::ValueOutcome;
 use icn_heap::Heap;
 use icn_value::Span;
-use icn_vars::{Locals, Outcome, Stop, World};
+use icn_vars::{Locals, Stop, World};
 
 /// A text from its end to its start, which is charged. The errors are 306, before it is made, and want of memory.
 #[tactic(auto, using(icn_vars::proofs::KeptItems::keeps_items_refl))]
-pub fn build_reversed<L: Locals>(w: &mut World, l: &L, span: Span) -> Result<Outcome, Stop>
+pub fn build_reversed<L: Locals>(w: &mut World, l: &L, span: Span) -> Result<ValueOutcome, Stop>
     requires locals { All (IsLive (extent_of w.old.heap)) (L.items l.now) }
     requires text { IsText (extent_of w.old.heap) span }
     ensures row { Gives w.old w.new (L.items l.now)
@@ -29,8 +30,7 @@ pub fn build_reversed<L: Locals>(w: &mut World, l: &L, span: Span) -> Result<Out
     ensures limits { RefusesFirst (heap_of w.old.heap) (reverse (text_in (extent_of w.old.heap) span))
         result }
     ensures live { IsLiveGiven (reach_of w.new (L.items l.now)) result }
-    ensures locals { All (IsLive (extent_of w.new.heap)) (L.items l.now) }
-    ensures kept { KeepsItems (reach_of w.old (L.items l.now)) (reach_of w.new (L.items l.now)) }
+    ensures kept { KeepsLive w.old (L.items l.now) w.new (L.items l.now) }
 {
     let len = w.heap.bytes(span).len() as u64;
     if lacks_room(&w.heap, len) {
@@ -47,7 +47,7 @@ pub fn build_repeated<L: Locals>(
     l: &L,
     span: Span,
     count: u64,
-) -> Result<Outcome, Stop>
+) -> Result<ValueOutcome, Stop>
     requires locals { All (IsLive (extent_of w.old.heap)) (L.items l.now) }
     requires text { IsText (extent_of w.old.heap) span }
     ensures row { Gives w.old w.new (L.items l.now)
@@ -55,8 +55,7 @@ pub fn build_repeated<L: Locals>(
     ensures limits { RefusesFirst (heap_of w.old.heap)
         (concat (replicate count (text_in (extent_of w.old.heap) span))) result }
     ensures live { IsLiveGiven (reach_of w.new (L.items l.now)) result }
-    ensures locals { All (IsLive (extent_of w.new.heap)) (L.items l.now) }
-    ensures kept { KeepsItems (reach_of w.old (L.items l.now)) (reach_of w.new (L.items l.now)) }
+    ensures kept { KeepsLive w.old (L.items l.now) w.new (L.items l.now) }
 {
     let len = w.heap.bytes(span).len() as u64;
     if lacks_copies(&w.heap, count, len) {
@@ -85,7 +84,7 @@ pub fn build_laid_out<L: Locals>(
     span: Span,
     width: u64,
     fill: TextArgument,
-) -> Result<Outcome, Stop>
+) -> Result<ValueOutcome, Stop>
     requires locals { All (IsLive (extent_of w.old.heap)) (L.items l.now) }
     requires text { IsText (extent_of w.old.heap) span }
     requires fill { IsArgument (extent_of w.old.heap) fill }
@@ -94,8 +93,7 @@ pub fn build_laid_out<L: Locals>(
     ensures limits { RefusesFirst (heap_of w.old.heap) (laid_out layout
         (text_in (extent_of w.old.heap) span) width (argument_bytes (extent_of w.old.heap) fill)) result }
     ensures live { IsLiveGiven (reach_of w.new (L.items l.now)) result }
-    ensures locals { All (IsLive (extent_of w.new.heap)) (L.items l.now) }
-    ensures kept { KeepsItems (reach_of w.old (L.items l.now)) (reach_of w.new (L.items l.now)) }
+    ensures kept { KeepsLive w.old (L.items l.now) w.new (L.items l.now) }
 {
     if lacks_room(&w.heap, width) {
         return Err(Stop::Error(306, None));
@@ -118,7 +116,7 @@ pub fn build_mapped<L: Locals>(
     span: Span,
     from: TextArgument,
     to: TextArgument,
-) -> Result<Outcome, Stop>
+) -> Result<ValueOutcome, Stop>
     requires locals { All (IsLive (extent_of w.old.heap)) (L.items l.now) }
     requires text { IsText (extent_of w.old.heap) span }
     requires from { IsArgument (extent_of w.old.heap) from }
@@ -130,8 +128,7 @@ pub fn build_mapped<L: Locals>(
         (argument_bytes (extent_of w.old.heap) from) (argument_bytes (extent_of w.old.heap) to))
         (text_in (extent_of w.old.heap) span)) result }
     ensures live { IsLiveGiven (reach_of w.new (L.items l.now)) result }
-    ensures locals { All (IsLive (extent_of w.new.heap)) (L.items l.now) }
-    ensures kept { KeepsItems (reach_of w.old (L.items l.now)) (reach_of w.new (L.items l.now)) }
+    ensures kept { KeepsLive w.old (L.items l.now) w.new (L.items l.now) }
 {
     let len = w.heap.bytes(span).len() as u64;
     if lacks_room(&w.heap, len) {

@@ -8,7 +8,7 @@ ghost use Rattle.icn_convert.specs.TextCharges.{MakesNoText};
 ghost use Rattle.icn_heap.specs.Extents.{Extent, IsLive, IsText, text_in, value_in};
 ghost use Rattle.icn_heap.specs.Heaps.{extent_of};
 ghost use Rattle.icn_vars.specs.Stops.{IsLiveStop};
-ghost use Rattle.icn_vars.specs.Worlds.{KeepsItems, reach_of, setting_of};
+ghost use Rattle.icn_vars.specs.Worlds.{KeepsLive, setting_of};
 ghost use Rattle.icn_args.specs.RowWords.{HasText, IsPassed, the_text};
 ghost use Rattle.icn_strfn.specs.TextArguments.{IsArgument, argument_bytes, default_bytes, or_default};
 
@@ -132,8 +132,7 @@ pub fn text_argument<L: Locals>(
         → IsPassed (extent_of w.new.heap) (costs_text (value_in (extent_of w.old.heap) val))
         (setting_of outside w.old (L.items l.now)) (setting_of outside w.new (L.items l.now)) result }
     ensures held { MakesNoText (value_in (extent_of w.old.heap) val) → OnErr result ⊥ }
-    ensures locals { All (IsLive (extent_of w.new.heap)) (L.items l.now) }
-    ensures kept { KeepsItems (reach_of w.old (L.items l.now)) (reach_of w.new (L.items l.now)) }
+    ensures kept { KeepsLive w.old (L.items l.now) w.new (L.items l.now) }
 {
     match val {
         Val::Null => Ok(TextArgument::Missing(default)),
@@ -170,8 +169,7 @@ pub fn two_texts<L: Locals>(
         (setting_of outside w.old (L.items l.now)) (setting_of outside w.new (L.items l.now)) result }
     ensures held { MakesNoText (value_in (extent_of w.old.heap) val)
         → MakesNoText (value_in (extent_of w.old.heap) other) → OnErr result ⊥ }
-    ensures locals { All (IsLive (extent_of w.new.heap)) (L.items l.now) }
-    ensures kept { KeepsItems (reach_of w.old (L.items l.now)) (reach_of w.new (L.items l.now)) }
+    ensures kept { KeepsLive w.old (L.items l.now) w.new (L.items l.now) }
 {
     let text = text_of(w, l, val)?;
     let argument = text_argument(w, l, other, default)?;

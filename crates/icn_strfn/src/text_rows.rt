@@ -1,12 +1,11 @@
 // The functions over texts.
 ghost use Rattle.std.specs.Prelude.{◌≡◌, map};
-ghost use Rattle.std.specs.List.{All};
 ghost use Rattle.icn_convert.specs.TextCharges.{MakesNoText};
 ghost use Rattle.icn_defs.specs.Arguments.{arg};
 ghost use Rattle.icn_defs.specs.Strings.{ord_row, repl_row, reverse_row, string_row, trim_row};
-ghost use Rattle.icn_heap.specs.Extents.{IsLive, value_in};
+ghost use Rattle.icn_heap.specs.Extents.{value_in};
 ghost use Rattle.icn_heap.specs.Heaps.{extent_of};
-ghost use Rattle.icn_vars.specs.Worlds.{KeepsItems, reach_of};
+ghost use Rattle.icn_vars.specs.Worlds.{AreLiveArguments, KeepsLive, reach_of};
 ghost use Rattle.icn_strfn.specs.Stopping.{Gives, IsLiveGiven, LimitsRow};
 
 use crate::defaults::or_blank;
@@ -15,25 +14,23 @@ use crate::integers::natural_number;
 use crate::new_texts::{build_repeated, build_reversed};
 use crate::text_arguments::{lacks_text, text_len};
 use crate::trimming::trimmed_len;
-use icn_args::{arg, text_of};
+use icn_args::{ValueOutcome, arg, text_of};
 use icn_convert::{to_cset, to_integer};
 use icn_value::Val;
-use icn_vars::{Locals, Outcome, Stop, World};
+use icn_vars::{Locals, Stop, World};
 
 /// `string(x)`: the text that a value converts to; it fails where there is none. The errors are 306 and want of memory.
 #[tactic(auto, using(icn_vars::proofs::KeptItems::keeps_items_refl))]
-pub fn string_row<L: Locals>(w: &mut World, l: &L, args: &[Val]) -> Result<Outcome, Stop>
-    requires locals { All (IsLive (extent_of w.old.heap)) (L.items l.now) }
-    requires args { All (IsLive (extent_of w.old.heap)) args.now }
+pub fn string_row<L: Locals>(w: &mut World, l: &L, args: &[Val]) -> Result<ValueOutcome, Stop>
+    requires live { AreLiveArguments w.old (L.items l.now) args.now }
     ensures row { Gives w.old w.new (L.items l.now)
         (string_row (map (value_in (extent_of w.old.heap)) args.now)) result }
     ensures live { IsLiveGiven (reach_of w.new (L.items l.now)) result }
-    ensures locals { All (IsLive (extent_of w.new.heap)) (L.items l.now) }
-    ensures kept { KeepsItems (reach_of w.old (L.items l.now)) (reach_of w.new (L.items l.now)) }
+    ensures kept { KeepsLive w.old (L.items l.now) w.new (L.items l.now) }
 {
     let val = arg(args, 0);
     if lacks_text(val) {
-        return Ok(Outcome::Fails);
+        return Ok(ValueOutcome::Fails);
     }
     let span = text_of(w, l, val)?;
     Ok(text(span))
@@ -42,14 +39,12 @@ pub fn string_row<L: Locals>(w: &mut World, l: &L, args: &[Val]) -> Result<Outco
 /// `ord(s)`: the byte of a text of one byte, or error 103; 205 where there is another number of bytes. Others are 306 and want
 /// of memory.
 #[tactic(auto, using(icn_vars::proofs::KeptItems::keeps_items_refl))]
-pub fn ord_row<L: Locals>(w: &mut World, l: &L, args: &[Val]) -> Result<Outcome, Stop>
-    requires locals { All (IsLive (extent_of w.old.heap)) (L.items l.now) }
-    requires args { All (IsLive (extent_of w.old.heap)) args.now }
+pub fn ord_row<L: Locals>(w: &mut World, l: &L, args: &[Val]) -> Result<ValueOutcome, Stop>
+    requires live { AreLiveArguments w.old (L.items l.now) args.now }
     ensures row { Gives w.old w.new (L.items l.now)
         (ord_row (map (value_in (extent_of w.old.heap)) args.now)) result }
     ensures live { IsLiveGiven (reach_of w.new (L.items l.now)) result }
-    ensures locals { All (IsLive (extent_of w.new.heap)) (L.items l.now) }
-    ensures kept { KeepsItems (reach_of w.old (L.items l.now)) (reach_of w.new (L.items l.now)) }
+    ensures kept { KeepsLive w.old (L.items l.now) w.new (L.items l.now) }
 {
     let val = arg(args, 0);
     if lacks_text(val) {
@@ -65,17 +60,15 @@ pub fn ord_row<L: Locals>(w: &mut World, l: &L, args: &[Val]) -> Result<Outcome,
 
 /// `reverse(s)`: a text from its end to its start, or error 103. Others are 306 and want of memory.
 #[tactic(auto, using(icn_vars::proofs::KeptItems::keeps_items_refl))]
-pub fn reverse_row<L: Locals>(w: &mut World, l: &L, args: &[Val]) -> Result<Outcome, Stop>
-    requires locals { All (IsLive (extent_of w.old.heap)) (L.items l.now) }
-    requires args { All (IsLive (extent_of w.old.heap)) args.now }
+pub fn reverse_row<L: Locals>(w: &mut World, l: &L, args: &[Val]) -> Result<ValueOutcome, Stop>
+    requires live { AreLiveArguments w.old (L.items l.now) args.now }
     ensures row { Gives w.old w.new (L.items l.now)
         (reverse_row (map (value_in (extent_of w.old.heap)) args.now)) result }
     ensures limits { MakesNoText (arg (map (value_in (extent_of w.old.heap)) args.now) 0)
         → LimitsRow w.old (L.items l.now)
         (reverse_row (map (value_in (extent_of w.old.heap)) args.now)) result }
     ensures live { IsLiveGiven (reach_of w.new (L.items l.now)) result }
-    ensures locals { All (IsLive (extent_of w.new.heap)) (L.items l.now) }
-    ensures kept { KeepsItems (reach_of w.old (L.items l.now)) (reach_of w.new (L.items l.now)) }
+    ensures kept { KeepsLive w.old (L.items l.now) w.new (L.items l.now) }
 {
     let val = arg(args, 0);
     if lacks_text(val) {
@@ -87,16 +80,14 @@ pub fn reverse_row<L: Locals>(w: &mut World, l: &L, args: &[Val]) -> Result<Outc
 
 /// `repl(s, i)`: a text so many times, or error 103 or 101; 205 below 0. Others are 306 and want of memory.
 #[tactic(auto, using(icn_vars::proofs::KeptItems::keeps_items_refl))]
-pub fn repl_row<L: Locals>(w: &mut World, l: &L, args: &[Val]) -> Result<Outcome, Stop>
-    requires locals { All (IsLive (extent_of w.old.heap)) (L.items l.now) }
-    requires args { All (IsLive (extent_of w.old.heap)) args.now }
+pub fn repl_row<L: Locals>(w: &mut World, l: &L, args: &[Val]) -> Result<ValueOutcome, Stop>
+    requires live { AreLiveArguments w.old (L.items l.now) args.now }
     ensures row { Gives w.old w.new (L.items l.now)
         (repl_row (map (value_in (extent_of w.old.heap)) args.now)) result }
     ensures limits { MakesNoText (arg (map (value_in (extent_of w.old.heap)) args.now) 0)
         → LimitsRow w.old (L.items l.now) (repl_row (map (value_in (extent_of w.old.heap)) args.now)) result }
     ensures live { IsLiveGiven (reach_of w.new (L.items l.now)) result }
-    ensures locals { All (IsLive (extent_of w.new.heap)) (L.items l.now) }
-    ensures kept { KeepsItems (reach_of w.old (L.items l.now)) (reach_of w.new (L.items l.now)) }
+    ensures kept { KeepsLive w.old (L.items l.now) w.new (L.items l.now) }
 {
     let val = arg(args, 0);
     let times = arg(args, 1);
@@ -116,14 +107,12 @@ pub fn repl_row<L: Locals>(w: &mut World, l: &L, args: &[Val]) -> Result<Outcome
 /// `trim(s, c)`: a text without the bytes at its end that a cset has, a blank where it is null; or error 103 or 104. Others are
 /// 306 and want of memory.
 #[tactic(auto, using(icn_vars::proofs::KeptItems::keeps_items_refl))]
-pub fn trim_row<L: Locals>(w: &mut World, l: &L, args: &[Val]) -> Result<Outcome, Stop>
-    requires locals { All (IsLive (extent_of w.old.heap)) (L.items l.now) }
-    requires args { All (IsLive (extent_of w.old.heap)) args.now }
+pub fn trim_row<L: Locals>(w: &mut World, l: &L, args: &[Val]) -> Result<ValueOutcome, Stop>
+    requires live { AreLiveArguments w.old (L.items l.now) args.now }
     ensures row { Gives w.old w.new (L.items l.now)
         (trim_row (map (value_in (extent_of w.old.heap)) args.now)) result }
     ensures live { IsLiveGiven (reach_of w.new (L.items l.now)) result }
-    ensures locals { All (IsLive (extent_of w.new.heap)) (L.items l.now) }
-    ensures kept { KeepsItems (reach_of w.old (L.items l.now)) (reach_of w.new (L.items l.now)) }
+    ensures kept { KeepsLive w.old (L.items l.now) w.new (L.items l.now) }
 {
     let val = arg(args, 0);
     let set = or_blank(arg(args, 1));

@@ -1,2 +1,3 @@
-pub mod Growth
+pub mod HeldRanges
+pub mod AddedBytes
 pub mod KeptRegions

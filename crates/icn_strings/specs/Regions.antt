@@ -1,7 +1,8 @@
 -- What a region holds, and what it has charged. How it holds the bytes is no caller's matter: callers know of these
 -- words what the contracts and the laws say.
-use Rattle.std.specs.Prelude.{◌≡◌, ℕ, ◌+◌, ◌<◌, ◌≤◌, List, length, take, drop}
+use Rattle.std.specs.Prelude.{◌≡◌, ℕ, List, take, drop}
 use Rattle.std.proofs.Props.{props}
+use Rattle.icn_strings.specs.Chunks.{AreHeld}
 use Rattle.icn_strings.specs.declared.byte_range.ByteRange.{ByteRange}
 use Rattle.icn_strings.specs.declared.region.Region.{Region}
 
@@ -13,17 +14,17 @@ limit_of region = region.limit
 unfoldable pub sum_of : Region → ℕ
 sum_of region = region.sum
 
--- the range names bytes that the region holds, or none at all
+-- the range names bytes that the region holds, together in one of its chunks, or none at all
 unfoldable pub IsHeld : Region → ByteRange → Type 0
-IsHeld region range = 0 < range.len → range.start + range.len ≤ length region.bytes.items
+IsHeld region range = AreHeld region.closed.items region.last range
 
 -- the range is of the region: a record, so that a proof finds the region and the range in it
 pub record IsOf (region : Region) (range : ByteRange) : Type 0 where
   pub held : IsHeld region range
 
--- the bytes of a range
+-- the bytes of a range, of all that were written
 unfoldable pub bytes_of : Region → ByteRange → List ℕ
-bytes_of region range = take range.len (drop range.start region.bytes.items)
+bytes_of region range = take range.len (drop range.start region.written.bytes)
 
 -- every range is still a range, with the same bytes, and the limit is the same
 pub record KeepsRanges (old new : Region) : Type 0 where

@@ -1,28 +1,28 @@
-// Bytes of a buffer, copied to its end.
-ghost use Rattle.std.specs.Prelude.{◌≡◌, ◌+◌, ◌-◌, ◌≤◌, ◌++◌, slice_range, OnOk, OnErr, vec_len};
+// Bytes of chunks, copied behind the last of them.
+ghost use Rattle.std.specs.Prelude.{◌≡◌, ◌+◌, ◌++◌, ℕ, List, take, drop};
+ghost use Rattle.std.specs.List.{All, AllPairs};
+ghost use Rattle.icn_strings.specs.Chunks.{AreHeld, HasItsPart, EndsBefore, HasRoom, IsLast};
 
-use std::alloc::AllocError;
-use std::ops::Range;
+use crate::byte_range::ByteRange;
+use crate::chunk::Chunk;
+use crate::lookup::bytes_in;
 
-/// Appends the bytes of the first range and then of the second. The room is taken before, so that a failure leaves
-/// no part.
-pub fn append_both(
-    bytes: &mut Vec<u8>,
-    first: Range<usize>,
-    second: Range<usize>,
-) -> Result<(), AllocError>
-    requires first_ordered { first.start ≤ first.end }
-    requires first_within { first.end ≤ vec_len bytes.old }
-    requires second_ordered { second.start ≤ second.end }
-    requires second_within { second.end ≤ vec_len bytes.old }
-    ensures ok { OnOk result (bytes.new.items ≡ bytes.old.items ++ (slice_range bytes.old.items first.start
-        first.end ++ slice_range bytes.old.items second.start second.end)) }
-    ensures len { OnOk result
-        (vec_len bytes.new ≡ vec_len bytes.old + ((first.end - first.start) + (second.end - second.start))) }
-    ensures err { OnErr result (bytes.new.items ≡ bytes.old.items) }
+/// Adds the bytes of a range to the last chunk, which has room for them. They lie in this chunk or in one of the others.
+pub fn copy_behind(last: &mut Chunk, closed: &[Chunk], range: ByteRange)
+    requires order { AllPairs EndsBefore closed.now }
+    requires held { AreHeld closed.now last.old range }
+    requires room { HasRoom last.old range.len }
+    ensures first { last.new.first ≡ last.old.first }
+    ensures bytes { (all : List ℕ) → All (HasItsPart all) closed.now → IsLast all last.old
+        → last.new.bytes.items ≡ last.old.bytes.items ++ take range.len (drop range.start all) }
+    ensures room { (count : ℕ) → HasRoom last.old (range.len + count) → HasRoom last.new count }
 {
-    bytes.reserve((first.end - first.start) + (second.end - second.start))?;
-    bytes.extend_from_within(first)?;
-    bytes.extend_from_within(second)?;
-    Ok(())
+    if range.len == 0 {
+        return;
+    }
+    if last.holds(range) {
+        last.add_part(range);
+        return;
+    }
+    last.add(bytes_in(closed, range));
 }

@@ -1,9 +1,12 @@
 //! The strings of a program's heap: a region that holds their bytes, and charges them against a limit.
 #![tactic(auto)]
 
+mod all_bytes;
 mod byte_range;
+mod chunk;
 mod copy;
 mod full;
+mod lookup;
 mod region;
 mod region_laws;
 

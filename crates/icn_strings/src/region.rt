@@ -1,39 +1,59 @@
 // The region of strings.
-ghost use Rattle.std.specs.Prelude.{◌≡◌, ◌+◌, ◌-◌, ◌^◌, ◌<◌, ◌≤◌, ◌↔◌, ◌++◌, length, slice_range, OnOk, OnErr, IfOk, vec_len};
+ghost use Rattle.std.specs.Prelude.{◌≡◌, ◌+◌, ◌-◌, ◌^◌, ◌<◌, ◌≤◌, ◌↔◌, ◌++◌, ℕ, length, OnOk, OnErr, IfOk};
+ghost use Rattle.icn_strings.specs.Chunks.{end_of, HasRoom, AreSoundChunks, AreSoundChunks-prop};
 
+use crate::all_bytes::AllBytes;
 use crate::byte_range::ByteRange;
-use crate::copy::append_both;
+use crate::chunk::Chunk;
+use crate::copy::copy_behind;
 use crate::full::RegionFull;
+use crate::lookup::bytes_in;
 use std::alloc::{AllocError, Global};
-use std::ops::Range;
+use std::mem;
 
 // A region has fewer bytes, so that every position in a string is an `i64`, the one behind its last byte too.
 const MOST: u64 = i64::MAX as u64;
+
+// How many bytes a chunk has room for, unless the string that opens it is longer.
+const ROOM: usize = 65536;
 
 /// The strings of a program's heap.
 ///
 /// A string that is built or joined is charged by its length, in bytes, and what is charged never passes the limit.
 /// One that is held is not charged. Nothing is given back, and the bytes of a range never change.
+///
+/// The bytes lie in chunks. What is written goes behind all bytes, into the last chunk, as long as it has room; it never grows, so that
+/// nothing is moved, and a range lies in one chunk.
 #[derive(Drop)]
 pub struct Region {
-    bytes: Vec<u8>,
+    alloc: Global,
+    // the chunks to which nothing is added any more
+    closed: Vec<Chunk>,
+    last: Chunk,
+    written: AllBytes,
     sum: u64,
     limit: u64,
-    ghost within: { sum ≤ limit },
-    ghost short: { length bytes.items < 2 ^ 63 - 1 },
+    ghost sound: { AreSoundChunks written.bytes closed.items last sum limit } by { AreSoundChunks-prop
+        written.bytes closed.items last sum limit },
 }
 
 impl Region {
     ghost use Rattle.icn_strings.specs.Regions.{limit_of, sum_of, IsOf, bytes_of, KeepsRanges, IsUnchanged};
 
     /// A region without strings that charges at most `limit` bytes. It takes no memory until a string has bytes.
-    #[tactic(auto, unfolding(crate::specs::Regions::limit_of, crate::specs::Regions::sum_of))]
+    #[tactic(auto, using(crate::proofs::AddedBytes::sound_new), unfolding(crate::specs::Regions::limit_of, crate::specs::Regions::sum_of))]
     pub fn new(alloc: Global, limit: u64) -> Region
         ensures limit { limit_of result ≡ limit }
         ensures sum { sum_of result ≡ 0 }
     {
         Region {
-            bytes: Vec::new(alloc),
+            alloc,
+            closed: Vec::new(alloc),
+            last: Chunk {
+                first: 0,
+                bytes: Vec::new(alloc),
+            },
+            written: AllBytes::nothing(),
             sum: 0,
             limit,
         }
@@ -67,7 +87,8 @@ impl Region {
         Ok(range)
     }
 
-    /// Makes a string of the bytes of `a` and then those of `b`, and charges both, whatever was there already.
+    /// Makes a string of the bytes of `a` and then those of `b`, and charges both, whatever was there already: where `a` ends where all
+    /// bytes end, and the chunk has room, those of `b` alone are written, and none where `b` lies right behind `a`.
     ///
     /// The limit is looked at before memory: `Strings` comes exactly where it would be passed, and `NoMemory` only
     /// where it would not. Either leaves the region as it was.
@@ -102,7 +123,7 @@ impl Region {
     /// Makes a string of these bytes without a charge, for literals and for results that cost nothing.
     ///
     /// The error is want of memory, and leaves the region as it was.
-    #[tactic(auto, using(crate::proofs::Growth::growth), unfolding(crate::specs::Regions::limit_of, crate::specs::Regions::sum_of, crate::specs::Regions::IsHeld, crate::specs::Regions::bytes_of))]
+    #[tactic(auto, using(crate::proofs::KeptRegions::keeps_then))]
     pub fn hold(&mut self, bytes: &[u8]) -> Result<ByteRange, AllocError>
         ensures of { IfOk result (IsOf self.new) }
         ensures len { IfOk result (λ range. range.len ≡ length bytes.now) }
@@ -112,43 +133,101 @@ impl Region {
 
         ensures err { OnErr result (IsUnchanged self.old self.new) }
     {
-        let start = self.bytes.len() as u64;
-        if bytes.len() as u64 >= MOST - start {
+        let start = self.end();
+        let len = bytes.len() as u64;
+        if len >= MOST - start {
             return Err(AllocError);
         }
-        self.bytes.extend_from_slice(bytes)?;
-        Ok(ByteRange {
-            start,
-            len: bytes.len() as u64,
-        })
+        self.make_room(len)?;
+        self.add(bytes);
+        Ok(ByteRange { start, len })
     }
 
     /// The bytes of a string. It takes no memory.
+    #[tactic(auto, unfolding(crate::specs::Regions::IsHeld, crate::specs::Regions::bytes_of))]
     pub fn bytes(&self, range: ByteRange) -> &[u8]
         requires { IsOf self.now range }
         ensures { result.now ≡ bytes_of self.now range }
     {
-        &self.bytes[self.range(range)]
-    }
-
-    // Where the bytes of a range lie in the buffer.
-    #[tactic(auto, unfolding(crate::specs::Regions::IsHeld, crate::specs::Regions::bytes_of))]
-    fn range(&self, range: ByteRange) -> Range<usize>
-        requires { IsOf self.now range }
-        ensures ordered { result.start ≤ result.end }
-        ensures within { result.end ≤ vec_len self.now.bytes }
-        ensures len { result.end - result.start ≡ range.len }
-        ensures bytes { slice_range self.now.bytes.items result.start result.end ≡ bytes_of self.now range }
-    {
         if range.len == 0 {
-            return 0..0;
+            return &[];
         }
-        let start = range.start as usize;
-        start..start + range.len as usize
+        if self.last.holds(range) {
+            return self.last.part(range);
+        }
+        bytes_in(&self.closed, range)
     }
 
-    // Holds the bytes of `a` and then those of `b`, without a charge.
-    #[tactic(auto, using(crate::proofs::Growth::growth), unfolding(crate::specs::Regions::limit_of, crate::specs::Regions::sum_of, crate::specs::Regions::IsHeld, crate::specs::Regions::bytes_of))]
+    // Where all bytes end.
+    fn end(&self) -> u64
+        ensures end { result ≡ length self.now.written.bytes }
+        ensures short { result < 2 ^ 63 - 1 }
+    {
+        self.last.first + self.last.bytes.len() as u64
+    }
+
+    // Has the last chunk room for so many bytes more: the present one, or a new one.
+    fn make_room(&mut self, len: u64) -> Result<(), AllocError>
+        ensures room { OnOk result (HasRoom self.new.last len) }
+        ensures written { self.new.written ≡ self.old.written }
+        ensures sum { sum_of self.new ≡ sum_of self.old }
+        ensures kept { KeepsRanges self.old self.new }
+        ensures err { OnErr result (IsUnchanged self.old self.new) }
+    {
+        if self.last.has_room(len) {
+            return Ok(());
+        }
+        self.open_chunk(len)
+    }
+
+    // Opens a chunk behind the others, with room for so many bytes or more.
+    #[tactic(auto, using(crate::proofs::KeptRegions::keeps_same, crate::proofs::KeptRegions::unchanged), unfolding(crate::specs::Regions::sum_of))]
+    fn open_chunk(&mut self, len: u64) -> Result<(), AllocError>
+        ensures room { OnOk result (HasRoom self.new.last len) }
+        ensures written { self.new.written ≡ self.old.written }
+        ensures sum { sum_of self.new ≡ sum_of self.old }
+        ensures kept { KeepsRanges self.old self.new }
+        ensures err { OnErr result (IsUnchanged self.old self.new) }
+    {
+        let first = self.end();
+        let bytes = Vec::with_capacity(self.alloc, ROOM.max(len as usize))?;
+        self.closed.reserve(1)?;
+        let before = mem::replace(&mut self.last, Chunk { first, bytes });
+        self.closed.push_reserved(before);
+        Ok(())
+    }
+
+    // Writes these bytes into the last chunk, which has room for them.
+    #[tactic(auto, unfolding(crate::specs::Regions::sum_of))]
+    fn add(&mut self, bytes: &[u8])
+        requires room { HasRoom self.old.last (length bytes.now) }
+        requires short { length self.old.written.bytes + length bytes.now < 2 ^ 63 - 1 }
+        ensures written { self.new.written.bytes ≡ self.old.written.bytes ++ bytes.now }
+        ensures first { self.new.last.first ≡ self.old.last.first }
+        ensures sum { sum_of self.new ≡ sum_of self.old }
+        ensures kept { KeepsRanges self.old self.new }
+    {
+        self.last.add(bytes);
+        self.written = AllBytes::up_to(&self.written, &self.last);
+    }
+
+    // Writes the bytes of a range once more, into the last chunk, which has room for them.
+    #[tactic(auto, unfolding(crate::specs::Regions::sum_of))]
+    fn add_copy(&mut self, range: ByteRange)
+        requires of { IsOf self.old range }
+        requires room { HasRoom self.old.last range.len }
+        requires short { length self.old.written.bytes + range.len < 2 ^ 63 - 1 }
+        ensures written { self.new.written.bytes ≡ self.old.written.bytes ++ bytes_of self.old range }
+        ensures first { self.new.last.first ≡ self.old.last.first }
+        ensures room { (count : ℕ) → HasRoom self.old.last (range.len + count) → HasRoom self.new.last count }
+        ensures sum { sum_of self.new ≡ sum_of self.old }
+        ensures kept { KeepsRanges self.old self.new }
+    {
+        copy_behind(&mut self.last, &self.closed, range);
+        self.written = AllBytes::up_to(&self.written, &self.last);
+    }
+
+    // Holds the bytes of `a` and then those of `b`, without a charge: where both lie, or behind `a`, or behind all bytes.
     fn hold_both(&mut self, a: ByteRange, b: ByteRange) -> Result<ByteRange, AllocError>
         requires first { IsOf self.old a }
         requires second { IsOf self.old b }
@@ -161,17 +240,62 @@ impl Region {
         ensures kept { KeepsRanges self.old self.new }
         ensures err { OnErr result (IsUnchanged self.old self.new) }
     {
-        let start = self.bytes.len() as u64;
-        if a.len + b.len >= MOST - start {
+        let len = a.len + b.len;
+        if self.last.has_both(a, b) {
+            return Ok(ByteRange {
+                start: a.start,
+                len,
+            });
+        }
+        if len >= MOST - self.end() {
             return Err(AllocError);
         }
-        let first = self.range(a);
-        let second = self.range(b);
-        append_both(&mut self.bytes, first, second)?;
-        Ok(ByteRange {
-            start,
+        if self.last.ends_with(a) && self.last.has_room(b.len) {
+            return Ok(self.hold_behind(a, b));
+        }
+        self.hold_anew(a, b)
+    }
+
+    // Holds the bytes of `b` behind those of `a`, which end where all bytes end.
+    fn hold_behind(&mut self, a: ByteRange, b: ByteRange) -> ByteRange
+        requires second { IsOf self.old b }
+        requires from { self.old.last.first ≤ a.start }
+        requires to { a.start + a.len ≡ end_of self.old.last }
+        requires room { HasRoom self.old.last b.len }
+        requires short { length self.old.written.bytes + (a.len + b.len) < 2 ^ 63 - 1 }
+        ensures of { IsOf self.new result }
+        ensures len { result.len ≡ a.len + b.len }
+        ensures bytes { bytes_of self.new result ≡ bytes_of self.old a ++ bytes_of self.old b }
+        ensures sum { sum_of self.new ≡ sum_of self.old }
+        ensures kept { KeepsRanges self.old self.new }
+    {
+        self.add_copy(b);
+        ByteRange {
+            start: a.start,
             len: a.len + b.len,
-        })
+        }
+    }
+
+    // Holds the bytes of `a` and then those of `b` behind all bytes.
+    #[tactic(auto, using(crate::proofs::KeptRegions::keeps_then))]
+    fn hold_anew(&mut self, a: ByteRange, b: ByteRange) -> Result<ByteRange, AllocError>
+        requires first { IsOf self.old a }
+        requires second { IsOf self.old b }
+        requires short { length self.old.written.bytes + (a.len + b.len) < 2 ^ 63 - 1 }
+        ensures of { IfOk result (IsOf self.new) }
+        ensures len { IfOk result (λ range. range.len ≡ a.len + b.len) }
+        ensures bytes { IfOk result
+            (λ range. bytes_of self.new range ≡ bytes_of self.old a ++ bytes_of self.old b) }
+        ensures sum { sum_of self.new ≡ sum_of self.old }
+        ensures kept { KeepsRanges self.old self.new }
+        ensures err { OnErr result (IsUnchanged self.old self.new) }
+    {
+        let start = self.end();
+        let len = a.len + b.len;
+        self.make_room(len)?;
+        self.add_copy(a);
+        self.add_copy(b);
+        Ok(ByteRange { start, len })
     }
 
     /// How many bytes more may be charged. It takes no memory.
@@ -194,12 +318,11 @@ impl Region {
     }
 
     // Charges so many bytes.
-    #[tactic(auto, using(crate::proofs::Growth::growth), unfolding(crate::specs::Regions::limit_of, crate::specs::Regions::sum_of, crate::specs::Regions::IsHeld, crate::specs::Regions::bytes_of))]
+    #[tactic(auto, using(crate::proofs::KeptRegions::keeps_same), unfolding(crate::specs::Regions::limit_of, crate::specs::Regions::sum_of))]
     fn charge(&mut self, len: u64)
         requires { sum_of self.old + len ≤ limit_of self.old }
         ensures sum { sum_of self.new ≡ sum_of self.old + len }
         ensures kept { KeepsRanges self.old self.new }
-        ensures back { KeepsRanges self.new self.old }
     {
         self.sum += len;
     }

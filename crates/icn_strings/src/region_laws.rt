@@ -15,7 +15,7 @@ pub fn empty_range(region: &Region, range: ByteRange)
 {}
 
 /// A part of a range of a region is of it too, and has its part of the bytes.
-#[tactic(auto, using(crate::proofs::Growth::part_bytes), unfolding(crate::specs::Regions::IsHeld, crate::specs::Regions::bytes_of))]
+#[tactic(auto, using(crate::proofs::KeptRegions::part_is_of, crate::proofs::KeptRegions::part_bytes))]
 pub fn part_of_range(region: &Region, part: ByteRange, whole: ByteRange)
     requires of { IsOf region.now whole }
     requires part { IsPart part whole }
@@ -25,27 +25,27 @@ pub fn part_of_range(region: &Region, part: ByteRange, whole: ByteRange)
 {}
 
 /// A range of a region has as many bytes as it says.
-#[tactic(auto, unfolding(crate::specs::Regions::IsHeld, crate::specs::Regions::bytes_of))]
+#[tactic(auto, using(crate::proofs::KeptRegions::bytes_are))]
 pub fn length_of_bytes(region: &Region, range: ByteRange)
     requires { IsOf region.now range }
     ensures { length (bytes_of region.now range) ≡ range.len }
 {}
 
 /// The end of a range of a region is a `u64`, so that the range of a part can be computed.
-#[tactic(auto, unfolding(crate::specs::Regions::IsHeld))]
+#[tactic(auto, using(crate::proofs::KeptRegions::lies_within))]
 pub fn end_of_range(region: &Region, range: ByteRange)
     requires { IsOf region.now range }
     ensures { range.start + range.len < 2 ^ 64 }
 {}
 
 /// No region has charged more than its limit.
-#[tactic(auto, unfolding(crate::specs::Regions::sum_of, crate::specs::Regions::limit_of))]
+#[tactic(auto, using(crate::proofs::KeptRegions::sum_within))]
 pub fn within_limit(region: &Region)
     ensures { sum_of region.now ≤ limit_of region.now }
 {}
 
 /// A string of a region has so few bytes that each position in it is an `i64`, the one behind its last byte too.
-#[tactic(auto, using(crate::proofs::Growth::part_short), unfolding(crate::specs::Regions::bytes_of))]
+#[tactic(auto, using(crate::proofs::KeptRegions::short_bytes))]
 pub fn short_string(region: &Region, range: ByteRange)
     requires { IsOf region.now range }
     ensures { length (bytes_of region.now range) < 2 ^ 63 - 1 }

@@ -6,7 +6,7 @@ ghost use Rattle.icn_defs.specs.Structures.{put_row, push_row, or_null};
 ghost use Rattle.icn_heap.specs.Extents.{Extent, IsLive, KeepsValues, value_in};
 ghost use Rattle.icn_heap.specs.Heaps.{extent_of, heap_of};
 ghost use Rattle.icn_vars.specs.Outcomes.{IsLiveAnswer};
-ghost use Rattle.icn_vars.specs.Worlds.{KeepsItems, reach_of, setting_of};
+ghost use Rattle.icn_vars.specs.Worlds.{AreLiveArguments, KeepsLive, reach_of, setting_of};
 ghost use Rattle.icn_args.specs.RowWords.{Answers, IsPassed};
 ghost use Rattle.icn_structs.specs.Numbered.{with_left, with_right};
 ghost use Rattle.icn_value.specs.declared.full.Full.TheVariants.{NoMemory};
@@ -22,13 +22,11 @@ use icn_vars::{Halt, Locals, Outcome, Stop, World};
 /// `put(L, x, ..)`: adds values at the right of a list, one after the other, which it gives. Without a value it adds null.
 /// The error is 108 about what is no list, or 307 where the limit refuses the charge: then nothing is added.
 pub fn put<L: Locals>(w: &mut World, l: &L, args: &[Val]) -> Result<Outcome, Halt>
-    requires locals { All (IsLive (extent_of w.old.heap)) (L.items l.now) }
-    requires args { All (IsLive (extent_of w.old.heap)) args.now }
+    requires live { AreLiveArguments w.old (L.items l.now) args.now }
     ensures row { Answers w.old (L.items l.now) w.new (L.items l.now)
         (put_row (map (value_in (extent_of w.old.heap)) args.now)) result }
     ensures live { IsLiveAnswer (reach_of w.new (L.items l.now)) result }
-    ensures locals { All (IsLive (extent_of w.new.heap)) (L.items l.now) }
-    ensures kept { KeepsItems (reach_of w.old (L.items l.now)) (reach_of w.new (L.items l.now)) }
+    ensures kept { KeepsLive w.old (L.items l.now) w.new (L.items l.now) }
 {
     let list = arg(args, 0);
     match list {
@@ -50,8 +48,7 @@ fn add_right<L: Locals>(w: &mut World, l: &L, list: u32, vals: &[Val]) -> Result
     ensures step { (outside : Outside) → IsPassed (extent_of w.new.heap)
         (adds with_right list (map (value_in (extent_of w.old.heap)) vals.now))
         (setting_of outside w.old (L.items l.now)) (setting_of outside w.new (L.items l.now)) result }
-    ensures locals { All (IsLive (extent_of w.new.heap)) (L.items l.now) }
-    ensures kept { KeepsItems (reach_of w.old (L.items l.now)) (reach_of w.new (L.items l.now)) }
+    ensures kept { KeepsLive w.old (L.items l.now) w.new (L.items l.now) }
 {
     w.heap.room_for_cells(vals.len() as u64)?;
     put_each(&mut w.heap, list, vals)?;
@@ -80,13 +77,11 @@ fn put_each(heap: &mut Heap, list: u32, vals: &[Val]) -> Result<(), Full>
 /// `push(L, x, ..)`: adds values at the left of a list, one after the other, which it gives. Without a value it adds null.
 /// The error is 108 about what is no list, or 307 where the limit refuses the charge: then nothing is added.
 pub fn push<L: Locals>(w: &mut World, l: &L, args: &[Val]) -> Result<Outcome, Halt>
-    requires locals { All (IsLive (extent_of w.old.heap)) (L.items l.now) }
-    requires args { All (IsLive (extent_of w.old.heap)) args.now }
+    requires live { AreLiveArguments w.old (L.items l.now) args.now }
     ensures row { Answers w.old (L.items l.now) w.new (L.items l.now)
         (push_row (map (value_in (extent_of w.old.heap)) args.now)) result }
     ensures live { IsLiveAnswer (reach_of w.new (L.items l.now)) result }
-    ensures locals { All (IsLive (extent_of w.new.heap)) (L.items l.now) }
-    ensures kept { KeepsItems (reach_of w.old (L.items l.now)) (reach_of w.new (L.items l.now)) }
+    ensures kept { KeepsLive w.old (L.items l.now) w.new (L.items l.now) }
 {
     let list = arg(args, 0);
     match list {
@@ -109,8 +104,7 @@ fn add_left<L: Locals>(w: &mut World, l: &L, list: u32, vals: &[Val]) -> Result<
         → IsPassed (extent_of w.new.heap)
         (adds with_left list (map (value_in (extent_of w.old.heap)) vals.now))
         (setting_of outside w.old (L.items l.now)) (setting_of outside w.new (L.items l.now)) result }
-    ensures locals { All (IsLive (extent_of w.new.heap)) (L.items l.now) }
-    ensures kept { KeepsItems (reach_of w.old (L.items l.now)) (reach_of w.new (L.items l.now)) }
+    ensures kept { KeepsLive w.old (L.items l.now) w.new (L.items l.now) }
 {
     w.heap.room_for_cells(vals.len() as u64)?;
     push_each(&mut w.heap, list, vals)?;

@@ -6,7 +6,7 @@ ghost use Rattle.icn_defs.specs.Structures.{delete_row, has_key, insert_row, key
 ghost use Rattle.icn_heap.specs.Extents.{Extent, IsLive, value_in};
 ghost use Rattle.icn_heap.specs.Heaps.{extent_of, heap_of};
 ghost use Rattle.icn_vars.specs.Outcomes.{IsLiveAnswer, IsLiveOutcome, outcome_in};
-ghost use Rattle.icn_vars.specs.Worlds.{KeepsItems, reach_of, setting_of};
+ghost use Rattle.icn_vars.specs.Worlds.{AreLiveArguments, KeepsLive, reach_of, setting_of};
 ghost use Rattle.icn_args.specs.RowWords.{Answers, IsPassed};
 ghost use Rattle.icn_value.specs.declared.val.Val.TheVariants.{Table};
 ghost use Rattle.icn_vars.specs.Stops.{IsLiveStop};
@@ -22,8 +22,7 @@ use std::alloc::AllocError;
 
 /// `member(X, x)`: gives `x` where it is a member or a key, and fails where it is not.
 pub fn member<L: Locals>(w: &World, l: &L, args: &[Val]) -> Result<Outcome, Halt>
-    requires locals { All (IsLive (extent_of w.now.heap)) (L.items l.now) }
-    requires args { All (IsLive (extent_of w.now.heap)) args.now }
+    requires live { AreLiveArguments w.now (L.items l.now) args.now }
     ensures row { Answers w.now (L.items l.now) w.now (L.items l.now)
         (member_row (map (value_in (extent_of w.now.heap)) args.now)) result }
     ensures live { IsLiveAnswer (reach_of w.now (L.items l.now)) result }
@@ -57,13 +56,11 @@ fn has(heap: &Heap, kept: Val, key: Val) -> Result<Option<bool>, AllocError>
 /// `insert(X, x, y)`: puts a member, or a key with its value, into a set or a table, which it gives. The error is 122 about
 /// what is neither, or 307 where the limit refuses the charge.
 pub fn insert<L: Locals>(w: &mut World, l: &L, args: &[Val]) -> Result<Outcome, Halt>
-    requires locals { All (IsLive (extent_of w.old.heap)) (L.items l.now) }
-    requires args { All (IsLive (extent_of w.old.heap)) args.now }
+    requires live { AreLiveArguments w.old (L.items l.now) args.now }
     ensures row { Answers w.old (L.items l.now) w.new (L.items l.now)
         (insert_row (map (value_in (extent_of w.old.heap)) args.now)) result }
     ensures live { IsLiveAnswer (reach_of w.new (L.items l.now)) result }
-    ensures locals { All (IsLive (extent_of w.new.heap)) (L.items l.now) }
-    ensures kept { KeepsItems (reach_of w.old (L.items l.now)) (reach_of w.new (L.items l.now)) }
+    ensures kept { KeepsLive w.old (L.items l.now) w.new (L.items l.now) }
 {
     let kept = arg(args, 0);
     insert_into(w, l, kept, arg(args, 1), arg(args, 2))?;
@@ -82,8 +79,7 @@ fn insert_into<L: Locals>(w: &mut World, l: &L, kept: Val, key: Val, val: Val) -
         → IsPassed (extent_of w.new.heap) (inserts_in (value_in (extent_of w.old.heap) kept)
         (value_in (extent_of w.old.heap) key) (value_in (extent_of w.old.heap) val))
         (setting_of outside w.old (L.items l.now)) (setting_of outside w.new (L.items l.now)) result }
-    ensures locals { All (IsLive (extent_of w.new.heap)) (L.items l.now) }
-    ensures kept { KeepsItems (reach_of w.old (L.items l.now)) (reach_of w.new (L.items l.now)) }
+    ensures kept { KeepsLive w.old (L.items l.now) w.new (L.items l.now) }
 {
     match kept {
         Val::Set(set) => Ok(w.heap.add(set, key)?),
@@ -95,13 +91,11 @@ fn insert_into<L: Locals>(w: &mut World, l: &L, kept: Val, key: Val, val: Val) -
 /// `delete(X, x)`: takes a member or a key out of a set or a table, which it gives. The error is 122 about what is neither.
 #[tactic(auto, using(icn_vars::proofs::GrowingWorlds::grows))]
 pub fn delete<L: Locals>(w: &mut World, l: &L, args: &[Val]) -> Result<Outcome, Halt>
-    requires locals { All (IsLive (extent_of w.old.heap)) (L.items l.now) }
-    requires args { All (IsLive (extent_of w.old.heap)) args.now }
+    requires live { AreLiveArguments w.old (L.items l.now) args.now }
     ensures row { Answers w.old (L.items l.now) w.new (L.items l.now)
         (delete_row (map (value_in (extent_of w.old.heap)) args.now)) result }
     ensures live { IsLiveAnswer (reach_of w.new (L.items l.now)) result }
-    ensures locals { All (IsLive (extent_of w.new.heap)) (L.items l.now) }
-    ensures kept { KeepsItems (reach_of w.old (L.items l.now)) (reach_of w.new (L.items l.now)) }
+    ensures kept { KeepsLive w.old (L.items l.now) w.new (L.items l.now) }
 {
     let kept = arg(args, 0);
     if !is_keeper(kept) {
@@ -122,8 +116,7 @@ fn is_keeper(val: Val) -> bool
 
 /// `key(T)`: gives the keys of a table, one after the other. The error is 124 about what is no table.
 pub fn key<L: Locals>(w: &World, l: &L, args: &[Val]) -> Result<Outcome, Halt>
-    requires locals { All (IsLive (extent_of w.now.heap)) (L.items l.now) }
-    requires args { All (IsLive (extent_of w.now.heap)) args.now }
+    requires live { AreLiveArguments w.now (L.items l.now) args.now }
     ensures row { Answers w.now (L.items l.now) w.now (L.items l.now)
         (key_row (map (value_in (extent_of w.now.heap)) args.now)) result }
     ensures live { IsLiveAnswer (reach_of w.now (L.items l.now)) result }

@@ -10,7 +10,7 @@ ghost use Rattle.icn_defs.specs.Structures.{new_table_of, new_record_of};
 ghost use Rattle.icn_heap.specs.Extents.{IsLive, value_in};
 ghost use Rattle.icn_heap.specs.Heaps.{extent_of, heap_of};
 ghost use Rattle.icn_vars.specs.Stops.{IsLiveStop};
-ghost use Rattle.icn_vars.specs.Worlds.{KeepsItems, reach_of, setting_of};
+ghost use Rattle.icn_vars.specs.Worlds.{KeepsLive, setting_of};
 ghost use Rattle.icn_args.specs.RowWords.{IsFound};
 
 use icn_value::Val;
@@ -28,8 +28,7 @@ pub fn filled_list<L: Locals>(w: &mut World, l: &L, count: u64, fill: Val) -> Re
         (new_list_of (replicate count (value_in (extent_of w.old.heap) fill)))
         (setting_of outside w.old (L.items l.now)) (setting_of outside w.new (L.items l.now))
         (value_in (extent_of w.new.heap)) result }
-    ensures locals { All (IsLive (extent_of w.new.heap)) (L.items l.now) }
-    ensures kept { KeepsItems (reach_of w.old (L.items l.now)) (reach_of w.new (L.items l.now)) }
+    ensures kept { KeepsLive w.old (L.items l.now) w.new (L.items l.now) }
 {
     Ok(w.heap.make_list(count, fill)?)
 }
@@ -44,8 +43,7 @@ pub fn new_set<L: Locals>(w: &mut World, l: &L, vals: &[Val]) -> Result<Val, Sto
     ensures found { (outside : Outside) → IsFound (extent_of w.new.heap) (new_set_of (fold with_member []
         (map (value_in (extent_of w.old.heap)) vals.now))) (setting_of outside w.old (L.items l.now))
         (setting_of outside w.new (L.items l.now)) (value_in (extent_of w.new.heap)) result }
-    ensures locals { All (IsLive (extent_of w.new.heap)) (L.items l.now) }
-    ensures kept { KeepsItems (reach_of w.old (L.items l.now)) (reach_of w.new (L.items l.now)) }
+    ensures kept { KeepsLive w.old (L.items l.now) w.new (L.items l.now) }
 {
     Ok(w.heap.set_from(vals)?)
 }
@@ -60,8 +58,7 @@ pub fn set_like<L: Locals>(w: &mut World, l: &L, set: u32) -> Result<Val, Stop>
     ensures found { (outside : Outside) → IsFound (extent_of w.new.heap)
         (new_set_of (set_at (heap_of w.old.heap) set)) (setting_of outside w.old (L.items l.now))
         (setting_of outside w.new (L.items l.now)) (value_in (extent_of w.new.heap)) result }
-    ensures locals { All (IsLive (extent_of w.new.heap)) (L.items l.now) }
-    ensures kept { KeepsItems (reach_of w.old (L.items l.now)) (reach_of w.new (L.items l.now)) }
+    ensures kept { KeepsLive w.old (L.items l.now) w.new (L.items l.now) }
 {
     Ok(w.heap.copy_set(set)?)
 }
@@ -77,8 +74,7 @@ pub fn new_table<L: Locals>(w: &mut World, l: &L, default: Val) -> Result<Val, S
         (new_table_of (record { default = value_in (extent_of w.old.heap) default; pairs = [] }))
         (setting_of outside w.old (L.items l.now)) (setting_of outside w.new (L.items l.now))
         (value_in (extent_of w.new.heap)) result }
-    ensures locals { All (IsLive (extent_of w.new.heap)) (L.items l.now) }
-    ensures kept { KeepsItems (reach_of w.old (L.items l.now)) (reach_of w.new (L.items l.now)) }
+    ensures kept { KeepsLive w.old (L.items l.now) w.new (L.items l.now) }
 {
     Ok(w.heap.make_table(default)?)
 }
@@ -93,8 +89,7 @@ pub fn table_like<L: Locals>(w: &mut World, l: &L, table: u32) -> Result<Val, St
     ensures found { (outside : Outside) → IsFound (extent_of w.new.heap)
         (new_table_of (table_at (heap_of w.old.heap) table)) (setting_of outside w.old (L.items l.now))
         (setting_of outside w.new (L.items l.now)) (value_in (extent_of w.new.heap)) result }
-    ensures locals { All (IsLive (extent_of w.new.heap)) (L.items l.now) }
-    ensures kept { KeepsItems (reach_of w.old (L.items l.now)) (reach_of w.new (L.items l.now)) }
+    ensures kept { KeepsLive w.old (L.items l.now) w.new (L.items l.now) }
 {
     Ok(w.heap.copy_table(table)?)
 }
@@ -111,8 +106,7 @@ pub fn new_record<L: Locals>(w: &mut World, l: &L, kind: u16, fields: &[Val]) ->
         (new_record_of (record { kind = kind; fields = map (value_in (extent_of w.old.heap)) fields.now }))
         (setting_of outside w.old (L.items l.now)) (setting_of outside w.new (L.items l.now))
         (value_in (extent_of w.new.heap)) result }
-    ensures locals { All (IsLive (extent_of w.new.heap)) (L.items l.now) }
-    ensures kept { KeepsItems (reach_of w.old (L.items l.now)) (reach_of w.new (L.items l.now)) }
+    ensures kept { KeepsLive w.old (L.items l.now) w.new (L.items l.now) }
 {
     Ok(w.heap.make_rec(kind, fields)?)
 }

@@ -6,7 +6,7 @@ ghost use Rattle.icn_defs.specs.Structures.{copy_row, list_row, set_row, table_r
 ghost use Rattle.icn_heap.specs.Extents.{IsLive, value_in};
 ghost use Rattle.icn_heap.specs.Heaps.{extent_of, heap_of};
 ghost use Rattle.icn_vars.specs.Outcomes.{IsLiveAnswer};
-ghost use Rattle.icn_vars.specs.Worlds.{KeepsItems, reach_of, setting_of};
+ghost use Rattle.icn_vars.specs.Worlds.{AreLiveArguments, KeepsLive, reach_of, setting_of};
 ghost use Rattle.icn_args.specs.RowWords.{Answers, IsFound};
 ghost use Rattle.icn_vars.specs.Stops.{IsLiveStop};
 ghost use Rattle.icn_structfn.specs.Copies.{copy_of_value, set_of_value};
@@ -19,13 +19,11 @@ use icn_vars::{Halt, Locals, Outcome, Stop, World};
 /// `list(i, x)`: a list of so many times one value. The error is 101 about a count that is no integer, 205 about one below
 /// 0, or 307 where the limit refuses the charge.
 pub fn list<L: Locals>(w: &mut World, l: &L, args: &[Val]) -> Result<Outcome, Halt>
-    requires locals { All (IsLive (extent_of w.old.heap)) (L.items l.now) }
-    requires args { All (IsLive (extent_of w.old.heap)) args.now }
+    requires live { AreLiveArguments w.old (L.items l.now) args.now }
     ensures row { Answers w.old (L.items l.now) w.new (L.items l.now)
         (list_row (map (value_in (extent_of w.old.heap)) args.now)) result }
     ensures live { IsLiveAnswer (reach_of w.new (L.items l.now)) result }
-    ensures locals { All (IsLive (extent_of w.new.heap)) (L.items l.now) }
-    ensures kept { KeepsItems (reach_of w.old (L.items l.now)) (reach_of w.new (L.items l.now)) }
+    ensures kept { KeepsLive w.old (L.items l.now) w.new (L.items l.now) }
 {
     let n = integer_of(&w.heap, value_or(Val::Integer(0), arg(args, 0)))?;
     let count = natural_of(n, arg(args, 0))?;
@@ -36,13 +34,11 @@ pub fn list<L: Locals>(w: &mut World, l: &L, args: &[Val]) -> Result<Outcome, Ha
 /// `table(x)`: a table without pairs, with a value for the keys that are not there. The error is 307 where the limit refuses
 /// the charge.
 pub fn table<L: Locals>(w: &mut World, l: &L, args: &[Val]) -> Result<Outcome, Halt>
-    requires locals { All (IsLive (extent_of w.old.heap)) (L.items l.now) }
-    requires args { All (IsLive (extent_of w.old.heap)) args.now }
+    requires live { AreLiveArguments w.old (L.items l.now) args.now }
     ensures row { Answers w.old (L.items l.now) w.new (L.items l.now)
         (table_row (map (value_in (extent_of w.old.heap)) args.now)) result }
     ensures live { IsLiveAnswer (reach_of w.new (L.items l.now)) result }
-    ensures locals { All (IsLive (extent_of w.new.heap)) (L.items l.now) }
-    ensures kept { KeepsItems (reach_of w.old (L.items l.now)) (reach_of w.new (L.items l.now)) }
+    ensures kept { KeepsLive w.old (L.items l.now) w.new (L.items l.now) }
 {
     let table = new_table(w, l, arg(args, 0))?;
     Ok(Outcome::Gives(Item::Val(table)))
@@ -51,13 +47,11 @@ pub fn table<L: Locals>(w: &mut World, l: &L, args: &[Val]) -> Result<Outcome, H
 /// `set(L)`: a set of the elements of a list, or an empty one. The error is 108 about another value, or 307 where the limit
 /// refuses the charge.
 pub fn set<L: Locals>(w: &mut World, l: &L, args: &[Val]) -> Result<Outcome, Halt>
-    requires locals { All (IsLive (extent_of w.old.heap)) (L.items l.now) }
-    requires args { All (IsLive (extent_of w.old.heap)) args.now }
+    requires live { AreLiveArguments w.old (L.items l.now) args.now }
     ensures row { Answers w.old (L.items l.now) w.new (L.items l.now)
         (set_row (map (value_in (extent_of w.old.heap)) args.now)) result }
     ensures live { IsLiveAnswer (reach_of w.new (L.items l.now)) result }
-    ensures locals { All (IsLive (extent_of w.new.heap)) (L.items l.now) }
-    ensures kept { KeepsItems (reach_of w.old (L.items l.now)) (reach_of w.new (L.items l.now)) }
+    ensures kept { KeepsLive w.old (L.items l.now) w.new (L.items l.now) }
 {
     let set = set_of(w, l, arg(args, 0))?;
     Ok(Outcome::Gives(Item::Val(set)))
@@ -72,8 +66,7 @@ fn set_of<L: Locals>(w: &mut World, l: &L, val: Val) -> Result<Val, Stop>
     ensures found { (outside : Outside) → IsFound (extent_of w.new.heap)
         (set_of_value (value_in (extent_of w.old.heap) val)) (setting_of outside w.old (L.items l.now))
         (setting_of outside w.new (L.items l.now)) (value_in (extent_of w.new.heap)) result }
-    ensures locals { All (IsLive (extent_of w.new.heap)) (L.items l.now) }
-    ensures kept { KeepsItems (reach_of w.old (L.items l.now)) (reach_of w.new (L.items l.now)) }
+    ensures kept { KeepsLive w.old (L.items l.now) w.new (L.items l.now) }
 {
     match val {
         Val::Null => new_set(w, l, &[]),
@@ -88,13 +81,11 @@ fn set_of<L: Locals>(w: &mut World, l: &L, val: Val) -> Result<Val, Stop>
 /// `copy(x)`: a structure with the elements of another one, and any other value itself. The error is 307 where the limit
 /// refuses the charge.
 pub fn copy<L: Locals>(w: &mut World, l: &L, args: &[Val]) -> Result<Outcome, Halt>
-    requires locals { All (IsLive (extent_of w.old.heap)) (L.items l.now) }
-    requires args { All (IsLive (extent_of w.old.heap)) args.now }
+    requires live { AreLiveArguments w.old (L.items l.now) args.now }
     ensures row { Answers w.old (L.items l.now) w.new (L.items l.now)
         (copy_row (map (value_in (extent_of w.old.heap)) args.now)) result }
     ensures live { IsLiveAnswer (reach_of w.new (L.items l.now)) result }
-    ensures locals { All (IsLive (extent_of w.new.heap)) (L.items l.now) }
-    ensures kept { KeepsItems (reach_of w.old (L.items l.now)) (reach_of w.new (L.items l.now)) }
+    ensures kept { KeepsLive w.old (L.items l.now) w.new (L.items l.now) }
 {
     let copy = copy_of(w, l, arg(args, 0))?;
     Ok(Outcome::Gives(Item::Val(copy)))
@@ -109,8 +100,7 @@ fn copy_of<L: Locals>(w: &mut World, l: &L, val: Val) -> Result<Val, Stop>
     ensures found { (outside : Outside) → IsFound (extent_of w.new.heap)
         (copy_of_value (value_in (extent_of w.old.heap) val)) (setting_of outside w.old (L.items l.now))
         (setting_of outside w.new (L.items l.now)) (value_in (extent_of w.new.heap)) result }
-    ensures locals { All (IsLive (extent_of w.new.heap)) (L.items l.now) }
-    ensures kept { KeepsItems (reach_of w.old (L.items l.now)) (reach_of w.new (L.items l.now)) }
+    ensures kept { KeepsLive w.old (L.items l.now) w.new (L.items l.now) }
 {
     match val {
         Val::List(id) => {

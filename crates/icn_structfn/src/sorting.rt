@@ -13,7 +13,7 @@ ghost use Rattle.icn_heap.specs.Heaps.{extent_of, heap_of};
 ghost use Rattle.law_names.specs.NamedSettings.{HeapNamed, PairNamed, ValueNamed};
 ghost use Rattle.icn_vars.specs.Outcomes.{IsLiveAnswer};
 ghost use Rattle.icn_vars.specs.Stops.{IsLiveStop};
-ghost use Rattle.icn_vars.specs.Worlds.{KeepsItems, reach_of, setting_of};
+ghost use Rattle.icn_vars.specs.Worlds.{AreLiveArguments, KeepsLive, reach_of, setting_of};
 ghost use Rattle.icn_args.specs.RowWords.{Answers, IsFound};
 ghost use Rattle.icn_structfn.specs.Sorting.{in_turn, list_of_pairs, order_of, sorted_pairs, sorted_value};
 
@@ -34,14 +34,12 @@ pub fn sort<L: Locals, N: Names>(
     names: &N,
     args: &[Val],
 ) -> Result<Outcome, Halt>
-    requires locals { All (IsLive (extent_of w.old.heap)) (L.items l.now) }
-    requires args { All (IsLive (extent_of w.old.heap)) args.now }
+    requires live { AreLiveArguments w.old (L.items l.now) args.now }
     requires named { HeapNamed (N.known names.now) (heap_of w.old.heap) }
     ensures row { Answers w.old (L.items l.now) w.new (L.items l.now)
         (sort_row (N.known names.now) (map (value_in (extent_of w.old.heap)) args.now)) result }
     ensures live { IsLiveAnswer (reach_of w.new (L.items l.now)) result }
-    ensures locals { All (IsLive (extent_of w.new.heap)) (L.items l.now) }
-    ensures kept { KeepsItems (reach_of w.old (L.items l.now)) (reach_of w.new (L.items l.now)) }
+    ensures kept { KeepsLive w.old (L.items l.now) w.new (L.items l.now) }
 {
     let n = integer_of(&w.heap, value_or(Val::Integer(1), arg(args, 1)))?;
     let list = sorted_list(w, l, names, arg(args, 0), n, arg(args, 1))?;
@@ -67,8 +65,7 @@ fn sorted_list<L: Locals, N: Names>(
         (value_in (extent_of w.old.heap) chosen) (value_in (extent_of w.old.heap) val))
         (setting_of outside w.old (L.items l.now)) (setting_of outside w.new (L.items l.now))
         (value_in (extent_of w.new.heap)) result }
-    ensures locals { All (IsLive (extent_of w.new.heap)) (L.items l.now) }
-    ensures kept { KeepsItems (reach_of w.old (L.items l.now)) (reach_of w.new (L.items l.now)) }
+    ensures kept { KeepsLive w.old (L.items l.now) w.new (L.items l.now) }
 {
     match val {
         Val::List(id) => {
@@ -110,8 +107,7 @@ fn list_in_order<L: Locals, N: Names>(
         (new_list_of (sort_list (value_cmp (N.known names.now) (heap_of w.old.heap))
         (map (value_in (extent_of w.old.heap)) vals.now))) (setting_of outside w.old (L.items l.now))
         (setting_of outside w.new (L.items l.now)) (value_in (extent_of w.new.heap)) result }
-    ensures locals { All (IsLive (extent_of w.new.heap)) (L.items l.now) }
-    ensures kept { KeepsItems (reach_of w.old (L.items l.now)) (reach_of w.new (L.items l.now)) }
+    ensures kept { KeepsLive w.old (L.items l.now) w.new (L.items l.now) }
 {
     let sorted = in_order(*w.globals.allocator(), &w.heap, names, vals)?;
     new_list(w, l, &sorted)
@@ -167,8 +163,7 @@ fn sorted_table<L: Locals, N: Names>(
         (map (values_in (extent_of w.old.heap)) pairs.now) order (value_in (extent_of w.old.heap) chosen))
         (setting_of outside w.old (L.items l.now)) (setting_of outside w.new (L.items l.now))
         (value_in (extent_of w.new.heap)) result }
-    ensures locals { All (IsLive (extent_of w.new.heap)) (L.items l.now) }
-    ensures kept { KeepsItems (reach_of w.old (L.items l.now)) (reach_of w.new (L.items l.now)) }
+    ensures kept { KeepsLive w.old (L.items l.now) w.new (L.items l.now) }
 {
     let alloc = *w.globals.allocator();
     match order {
@@ -202,8 +197,7 @@ fn list_of_lists<L: Locals>(w: &mut World, l: &L, pairs: &[(Val, Val)]) -> Resul
         → IsFound (extent_of w.new.heap) (list_of_pairs (map (values_in (extent_of w.old.heap)) pairs.now))
         (setting_of outside w.old (L.items l.now)) (setting_of outside w.new (L.items l.now))
         (value_in (extent_of w.new.heap)) result }
-    ensures locals { All (IsLive (extent_of w.new.heap)) (L.items l.now) }
-    ensures kept { KeepsItems (reach_of w.old (L.items l.now)) (reach_of w.new (L.items l.now)) }
+    ensures kept { KeepsLive w.old (L.items l.now) w.new (L.items l.now) }
 {
     let lists = lists_of(w, l, pairs)?;
     new_list(w, l, &lists)
@@ -219,8 +213,7 @@ fn lists_of<L: Locals>(w: &mut World, l: &L, pairs: &[(Val, Val)]) -> Result<Vec
         → IsFound (extent_of w.new.heap) (pair_lists (map (values_in (extent_of w.old.heap)) pairs.now))
         (setting_of outside w.old (L.items l.now)) (setting_of outside w.new (L.items l.now))
         (λ lists. map (value_in (extent_of w.new.heap)) lists.items) result }
-    ensures locals { All (IsLive (extent_of w.new.heap)) (L.items l.now) }
-    ensures kept { KeepsItems (reach_of w.old (L.items l.now)) (reach_of w.new (L.items l.now)) }
+    ensures kept { KeepsLive w.old (L.items l.now) w.new (L.items l.now) }
 {
     let mut lists = Vec::new(*w.globals.allocator());
     let mut rest = pairs;
@@ -241,8 +234,7 @@ fn list_in_turn<L: Locals>(w: &mut World, l: &L, pairs: &[(Val, Val)]) -> Result
     ensures found { (outside : Outside) → IsFound (extent_of w.new.heap)
         (new_list_of (in_turn (map (values_in (extent_of w.old.heap)) pairs.now))) (setting_of outside w.old
         (L.items l.now)) (setting_of outside w.new (L.items l.now)) (value_in (extent_of w.new.heap)) result }
-    ensures locals { All (IsLive (extent_of w.new.heap)) (L.items l.now) }
-    ensures kept { KeepsItems (reach_of w.old (L.items l.now)) (reach_of w.new (L.items l.now)) }
+    ensures kept { KeepsLive w.old (L.items l.now) w.new (L.items l.now) }
 {
     let vals = interleave_pairs(*w.globals.allocator(), pairs)?;
     new_list(w, l, &vals)

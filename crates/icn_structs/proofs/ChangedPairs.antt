@@ -16,7 +16,8 @@ module _ {K V : Type 0} (eq : K → K → Bool) (key : K) (value : V) where
   stored_first : (pair : K × V) (pairs : List (K × V)) → eq key pair.0 ≡ true → with_value_of eq (pair ∷ pairs) key value ≡ (pair.0, value) ∷ pairs
   stored_first pair pairs is = ap (λ b. if b then (pair.0, value) ∷ pairs else pair ∷ with_value_of eq pairs key value) is
 
-  stored_later : (pair : K × V) (pairs : List (K × V)) → eq key pair.0 ≡ false → with_value_of eq (pair ∷ pairs) key value ≡ pair ∷ with_value_of eq pairs key value
+  stored_later : (pair : K × V) (pairs : List (K × V)) → eq key pair.0 ≡ false
+      → with_value_of eq (pair ∷ pairs) key value ≡ pair ∷ with_value_of eq pairs key value
   stored_later pair pairs is = ap (λ b. if b then (pair.0, value) ∷ pairs else pair ∷ with_value_of eq pairs key value) is
 
   -- a key that is not there goes last
@@ -67,7 +68,8 @@ module _ {K V : Type 0} (eq : K → K → Bool) (key : K) (value : V) where
       behind stored zero apart = absurd (apart refl)
       behind stored (suc other) apart = ap (λ list. slice_get list (suc other)) stored
   stored_at (first ∷ pairs) (suc number) pair held passes once =
-      let fails : eq key first.0 ≡ false = other_fails (eq key) (first ∷ pairs) (suc number) pair held passes once 0 first refl (λ same. absurd (omega (arith, same))) in
+      let fails : eq key first.0
+      ≡ false = other_fails (eq key) (first ∷ pairs) (suc number) pair held passes once 0 first refl (λ same. absurd (omega (arith, same))) in
       let stored = stored_later first pairs fails in
       let later = stored_at pairs number pair held passes (λ other x is t. omega (arith, once (suc other) x is t)) in
       record {
@@ -154,7 +156,8 @@ record IsLetThrough (numbers : List ℕ) (number kept : ℕ) : Type 0 where
   is : slice_get numbers place ≡ Some kept
   apart : kept ≡ number → ⊥
 
-let_through_at : (numbers : List ℕ) (number place kept : ℕ) → slice_get (filter (λ n. not (n == number)) numbers) place ≡ Some kept → IsLetThrough numbers number kept
+let_through_at : (numbers : List ℕ) (number place kept : ℕ) → slice_get (filter (λ n. not (n == number)) numbers) place ≡ Some kept
+    → IsLetThrough numbers number kept
 let_through_at [] number place kept is = absurd (none-some _ is)
 let_through_at (n ∷ numbers) number place kept is =
     by (same_or_not n number) place is (λ p at. let_through_at numbers number p kept at)
@@ -212,7 +215,8 @@ module _ {A : Type 0} (things : List A) (numbers : List ℕ) (turns : HasTurns A
               → (one ≡ length numbers - 1) ⊎ (one ≡ length numbers - 1 → ⊥) → slice_get things one ≡ slice_get (swap_remove things number default) other
           at q held apart named (inl same) =
               let to : number ≡ other = sym (ap (λ b. if b then number else one) (eq-eqb one (length numbers - 1) same)) ∙ named in
-              let before : number < length things - 1 = strictly number (length things - 1) (omega (arith, less)) (λ hit. apart (same ∙ ap (λ n. n - 1) (sym turns.count) ∙ sym hit)) in
+              let before : number < length things - 1 = strictly number (length things - 1) (omega (arith, less))
+              (λ hit. apart (same ∙ ap (λ n. n - 1) (sym turns.count) ∙ sym hit)) in
               ap (slice_get things) (same ∙ ap (λ n. n - 1) (sym turns.count)) ∙ sym (moved_last things number default before)
               ∙ ap (slice_get (swap_remove things number default)) to
           at q held apart named (inr away) =

@@ -161,7 +161,8 @@ present_behind [] item = refl
 present_behind (None ∷ order) item = present_behind order item
 present_behind (Some first ∷ order) item = ap (λ rest. first ∷ rest) (present_behind order item)
 
-pub got_in_front : {A : Type 0} (items : List A) (place : ℕ) (item last : A) → slice_get items place ≡ Some item → slice_get (items ++ last ∷ []) place ≡ Some item
+pub got_in_front : {A : Type 0} (items : List A) (place : ℕ) (item last : A) → slice_get items place ≡ Some item
+    → slice_get (items ++ last ∷ []) place ≡ Some item
 got_in_front [] place item last is = absurd (none-some _ is)
 got_in_front (first ∷ items) zero item last is = is
 got_in_front (first ∷ items) (suc place) item last is = got_in_front items place item last is

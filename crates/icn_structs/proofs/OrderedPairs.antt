@@ -40,7 +40,8 @@ step_none things number numbers is = ap (λ held. option_to_list held ++ in_orde
 
 -- the same things in the same order
 pub same_order : {A : Type 0} (things others : List A) (numbers renumbered : List ℕ) → length numbers ≡ length renumbered
-    → ((place number renamed : ℕ) → slice_get numbers place ≡ Some number → slice_get renumbered place ≡ Some renamed → slice_get things number ≡ slice_get others renamed)
+    → ((place number renamed : ℕ) → slice_get numbers place ≡ Some number → slice_get renumbered place ≡ Some renamed
+    → slice_get things number ≡ slice_get others renamed)
     → in_order things numbers ≡ in_order others renumbered
 same_order things others [] [] same holds = refl
 same_order things others [] (n ∷ renumbered) same holds = absurd (omega (arith, same))
@@ -69,7 +70,8 @@ in_order_length {A = A} things (n ∷ numbers) small =
     let first : Held A things n = held_at things n (small 0 n refl) in
     ap length (step_some things n numbers first.thing first.is) ∙ ap suc (in_order_length things numbers (λ p m at. small (suc p) m at))
 
-pub in_order_append : {A : Type 0} (things : List A) (numbers more : List ℕ) → in_order things (numbers ++ more) ≡ in_order things numbers ++ in_order things more
+pub in_order_append : {A : Type 0} (things : List A) (numbers more : List ℕ)
+    → in_order things (numbers ++ more) ≡ in_order things numbers ++ in_order things more
 in_order_append things [] more = refl
 in_order_append things (n ∷ numbers) more =
     ap (λ rest. option_to_list (slice_get things n) ++ rest) (in_order_append things numbers more)
@@ -110,7 +112,8 @@ module _ {K V : Type 0} (test : K → Bool) where
       by (Some pair) is later =
           ap (lookup test) (step_some pairs n numbers pair is) ∙ found_later pair (in_order pairs numbers) (fails n pair is) ∙ later
 
-  module _ (pairs : List (K × V)) (number : ℕ) (pair : K × V) (held : slice_get pairs number ≡ Some pair) (passes : test pair.0 ≡ true) (once : Once pairs number) where
+  module _ (pairs : List (K × V)) (number : ℕ) (pair : K × V) (held : slice_get pairs number ≡ Some pair) (passes : test pair.0 ≡ true)
+      (once : Once pairs number) where
     -- the pair of another number fails
     pub other_fails : (n : ℕ) (other : K × V) → slice_get pairs n ≡ Some other → (n ≡ number → ⊥) → test other.0 ≡ false
     other_fails n other is apart = by (test other.0) refl

@@ -43,7 +43,8 @@ pub record IsPassing {K V : Type 0} (test : K → Bool) (pairs : List (K × V)) 
   pub held : slice_get pairs number ≡ Some pair
   pub passes : test pair.0 ≡ true
 
-pub position_at : {K V : Type 0} (test : K → Bool) (pairs : List (K × V)) (number : ℕ) → position test (keys_of pairs) ≡ Some number → IsPassing test pairs number
+pub position_at : {K V : Type 0} (test : K → Bool) (pairs : List (K × V)) (number : ℕ) → position test (keys_of pairs) ≡ Some number
+    → IsPassing test pairs number
 position_at test [] number is = absurd (none-some _ is)
 position_at {K = K} {V = V} test (first ∷ pairs) number is =
     let facts = position-Some test (keys_of (first ∷ pairs)) number first.0 is in
@@ -153,7 +154,8 @@ no_pair eq laws pairs numbers paired place none =
     slice_get_past (in_order pairs numbers) place (omega (arith, as_many eq laws pairs numbers paired, past_of numbers place none))
 
 -- the map's word for a pair that is stored is ours
-pub inserted : {K V : Type 0} (eq : K → K → Bool) (pairs : List (K × V)) (key : K) (value : V) → insert_entry eq pairs key value ≡ with_value_of eq pairs key value
+pub inserted : {K V : Type 0} (eq : K → K → Bool) (pairs : List (K × V)) (key : K) (value : V)
+    → insert_entry eq pairs key value ≡ with_value_of eq pairs key value
 inserted eq [] key value = refl
 inserted eq (first ∷ pairs) key value =
     ap (λ rest. if eq key first.0 then (first.0, value) ∷ pairs else first ∷ rest) (inserted eq pairs key value)

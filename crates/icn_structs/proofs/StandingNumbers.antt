@@ -149,12 +149,14 @@ pub present_closed : {A : Type 0} (order closed : List (Option A)) → closed �
 present_closed order closed is = ap present is ∙ present_all (present order)
 
 -- what stands in a list in which one thing was exchanged
-pub got_set : {A : Type 0} (items : List A) (place : ℕ) (new old : A) → slice_get items place ≡ Some old → slice_get (slice_set items place new) place ≡ Some new
+pub got_set : {A : Type 0} (items : List A) (place : ℕ) (new old : A) → slice_get items place ≡ Some old
+    → slice_get (slice_set items place new) place ≡ Some new
 got_set [] place new old is = absurd (none-some _ is)
 got_set (first ∷ items) zero new old is = refl
 got_set (first ∷ items) (suc place) new old is = got_set items place new old is
 
-pub got_other : {A : Type 0} (items : List A) (place other : ℕ) (new : A) → (other ≡ place → ⊥) → slice_get (slice_set items place new) other ≡ slice_get items other
+pub got_other : {A : Type 0} (items : List A) (place other : ℕ) (new : A) → (other ≡ place → ⊥)
+    → slice_get (slice_set items place new) other ≡ slice_get items other
 got_other [] place other new apart = refl
 got_other (first ∷ items) zero zero new apart = absurd (apart refl)
 got_other (first ∷ items) zero (suc other) new apart = refl

@@ -19,7 +19,8 @@ filling (Some None) = 0
 filling None = 0
 
 -- the tree counts at its leaves what is there at the indexes below a bound
-pub record IsCountedTo (A : Type 0) (items : List (Option A)) (bound : ℕ) (counts : List ℕ) (width : ℕ) : Type 0 where
+pub record IsCountedTo (A : Type 0) (items : List (Option A)) (bound : ℕ) (counts : List ℕ)
+    (width : ℕ) : Type 0 where
   pub length : length counts ≡ 2 * width
   pub within : bound ≤ width
   pub summed : IsSummed counts width

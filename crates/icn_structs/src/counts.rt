@@ -10,7 +10,8 @@ pub fn raise(counts: &mut Vec<usize>, width: usize, leaf: usize)
     requires small { (index : ℕ) → count_at counts.old.items index < 2 ^ 63 }
     ensures summed { IsSummed counts.new.items width }
     ensures leaf { count_at counts.new.items (width + leaf) ≡ suc (count_at counts.old.items (width + leaf)) }
-    ensures others { (index : ℕ) → width ≤ index → index ≢ width + leaf → count_at counts.new.items index ≡ count_at counts.old.items index }
+    ensures others { (index : ℕ) → width ≤ index → index ≢ width + leaf
+        → count_at counts.new.items index ≡ count_at counts.old.items index }
     ensures risen { (index : ℕ) → count_at counts.new.items index ≤ suc (count_at counts.old.items index) }
     ensures same_length { length counts.new.items ≡ length counts.old.items }
 {
@@ -29,7 +30,8 @@ pub fn lower(counts: &mut Vec<usize>, width: usize, leaf: usize)
     requires counted { 0 < count_at counts.old.items (width + leaf) }
     ensures summed { IsSummed counts.new.items width }
     ensures leaf { suc (count_at counts.new.items (width + leaf)) ≡ count_at counts.old.items (width + leaf) }
-    ensures others { (index : ℕ) → width ≤ index → index ≢ width + leaf → count_at counts.new.items index ≡ count_at counts.old.items index }
+    ensures others { (index : ℕ) → width ≤ index → index ≢ width + leaf
+        → count_at counts.new.items index ≡ count_at counts.old.items index }
     ensures fallen { (index : ℕ) → count_at counts.new.items index ≤ count_at counts.old.items index }
     ensures same_length { length counts.new.items ≡ length counts.old.items }
 {

@@ -1,5 +1,5 @@
 -- What literals, keywords and operators are translated to.
-use Rattle.std.specs.Prelude.{ℕ, List, Option, None, Some}
+use Rattle.std.specs.Prelude.{Option, None, Some}
 use Rattle.icn_text.specs.declared.keyword.Keyword.{Keyword}
 use Rattle.icn_text.specs.declared.keyword.Keyword.TheVariants as K
 use Rattle.icn_text.specs.declared.op.Op.{Op}
@@ -12,7 +12,6 @@ use Rattle.icn_tree.specs.declared.tree.SectionKind.{SectionKind}
 use Rattle.icn_tree.specs.declared.tree.SectionKind.TheVariants.{Between, Forward, Backward}
 use Rattle.icn_unit.specs.declared.unit.UnitInstr.{UnitInstr}
 use Rattle.icn_unit.specs.declared.unit.UnitInstr.TheVariants as I
-use Rattle.icn_unit.specs.UnitOperands.{keyword_of}
 use Rattle.icn_translate.specs.declared.forms.InfixForm.{InfixForm}
 use Rattle.icn_translate.specs.declared.forms.InfixForm.TheVariants.{Both, Scanning, Either, Limiting, Activating, Spreading, Operating}
 use Rattle.icn_translate.specs.declared.forms.UpdateForm.{UpdateForm}
@@ -26,39 +25,30 @@ literal_instr (Integer n) = I.Int n
 literal_instr (Text bytes) = I.Str bytes
 literal_instr (Cset members) = I.Cset members
 
--- `&fail` fails
-abbrev pub known_keyword : Keyword → UnitInstr
-known_keyword K.Ascii = I.Keywd K.Ascii
-known_keyword K.Cset = I.Keywd K.Cset
-known_keyword K.Current = I.Keywd K.Current
-known_keyword K.Digits = I.Keywd K.Digits
-known_keyword K.Errout = I.Keywd K.Errout
-known_keyword K.Fail = I.Efail
-known_keyword K.Input = I.Keywd K.Input
-known_keyword K.Lcase = I.Keywd K.Lcase
-known_keyword K.Letters = I.Keywd K.Letters
-known_keyword K.Level = I.Keywd K.Level
-known_keyword K.Main = I.Keywd K.Main
-known_keyword K.Null = I.Keywd K.Null
-known_keyword K.Output = I.Keywd K.Output
-known_keyword K.Pos = I.Keywd K.Pos
-known_keyword K.Random = I.Keywd K.Random
-known_keyword K.Source = I.Keywd K.Source
-known_keyword K.Subject = I.Keywd K.Subject
-known_keyword K.Ucase = I.Keywd K.Ucase
-known_keyword K.Error = I.Keywd K.Error
-known_keyword K.ErrorNumber = I.Keywd K.ErrorNumber
-known_keyword K.ErrorValue = I.Keywd K.ErrorValue
-known_keyword K.ErrorText = I.Keywd K.ErrorText
-
--- a text that has no unknown keyword never comes to the second line
-abbrev pub keyword_by : Option Keyword → UnitInstr
-keyword_by (Some keyword) = known_keyword keyword
-keyword_by None = I.Keywd K.Null
-
--- the instruction that a keyword is translated to
-abbrev pub keyword_instr : List ℕ → UnitInstr
-keyword_instr name = keyword_by (keyword_of name)
+-- the instruction that a keyword is translated to; `&fail` fails
+abbrev pub keyword_instr : Keyword → UnitInstr
+keyword_instr K.Ascii = I.Keywd K.Ascii
+keyword_instr K.Cset = I.Keywd K.Cset
+keyword_instr K.Current = I.Keywd K.Current
+keyword_instr K.Digits = I.Keywd K.Digits
+keyword_instr K.Errout = I.Keywd K.Errout
+keyword_instr K.Fail = I.Efail
+keyword_instr K.Input = I.Keywd K.Input
+keyword_instr K.Lcase = I.Keywd K.Lcase
+keyword_instr K.Letters = I.Keywd K.Letters
+keyword_instr K.Level = I.Keywd K.Level
+keyword_instr K.Main = I.Keywd K.Main
+keyword_instr K.Null = I.Keywd K.Null
+keyword_instr K.Output = I.Keywd K.Output
+keyword_instr K.Pos = I.Keywd K.Pos
+keyword_instr K.Random = I.Keywd K.Random
+keyword_instr K.Source = I.Keywd K.Source
+keyword_instr K.Subject = I.Keywd K.Subject
+keyword_instr K.Ucase = I.Keywd K.Ucase
+keyword_instr K.Error = I.Keywd K.Error
+keyword_instr K.ErrorNumber = I.Keywd K.ErrorNumber
+keyword_instr K.ErrorValue = I.Keywd K.ErrorValue
+keyword_instr K.ErrorText = I.Keywd K.ErrorText
 
 -- the operation of a section
 abbrev pub section_op : SectionKind → Op

@@ -1,5 +1,6 @@
 -- The translation of a tree: what each form adds to a draft, read from the left to the right as it is written.
 use Rattle.std.specs.Prelude.{ℕ, suc, pos, Bool, true, false, Option, None, Some}
+use Rattle.icn_text.specs.declared.keyword.Keyword.{Keyword as KeywordNamed}
 use Rattle.icn_text.specs.declared.op.Op.TheVariants as O
 use Rattle.icn_tree.specs.declared.tree.Infix.TheVariants.{Plain, Augmented}
 use Rattle.icn_tree.specs.declared.tree.LoopKind.{LoopKind}
@@ -7,6 +8,7 @@ use Rattle.icn_tree.specs.declared.tree.LoopKind.TheVariants.{While, Until, Ever
 use Rattle.icn_tree.specs.Trees.{Initial, NoInitial, Initially, Tree, MaybeTree, Trees, Clause, Clauses, Empty, Constant, Identifier, Keyword, Parentheses, Listing, Compound, Call, CoCall, Subscript, Section, Field, Prefix, Not, Binary, To, If, Case, Loop, Repeat, Create, Next, Fail, Break, Return, Suspend, Absent, Present, NoTrees, More, Default, Guarded, NoClauses, MoreClauses, elements_of}
 use Rattle.icn_unit.specs.declared.unit.UnitInstr.{UnitInstr}
 use Rattle.icn_unit.specs.declared.unit.UnitInstr.TheVariants as I
+use Rattle.icn_unit.specs.UnitOperands.{keyword_of}
 use Rattle.icn_translate.specs.declared.forms.InfixForm.{InfixForm}
 use Rattle.icn_translate.specs.declared.forms.UpdateForm.{UpdateForm}
 use Rattle.icn_translate.specs.declared.forms.PrefixForm.{PrefixForm}
@@ -110,6 +112,11 @@ loop_end instr d = d ▹ put_next I.Lab ▹ put instr ▹ put_last I.Lab ▹ out
 abbrev pub either_step : Bool → (Draft → Draft) → (Draft → Draft) → Draft → Draft
 either_step is step other d = elim is as (λ is. Draft) [ true ↦ d ▹ step | false ↦ d ▹ other ]
 
+-- a keyword; one that is unknown never stands in a program, and has no code
+abbrev pub keyword_code : Option KeywordNamed → Draft → Draft
+keyword_code (Some keyword) d = d ▹ put (keyword_instr keyword)
+keyword_code None d = d
+
 -- an operator before its operand, whose code is this, and this in a mark; one that never stands there has no code
 abbrev pub prefix_by : Option PrefixForm → (operand marked : Draft → Draft) → Draft → Draft
 prefix_by (Some Activation) operand marked d = d ▹ put I.Pnull ▹ operand ▹ put I.Coact
@@ -157,7 +164,7 @@ abbrev mutual
   translate o Empty d = d ▹ put I.Pnull
   translate o (Constant place value) d = d ▹ put (literal_instr value)
   translate o (Identifier name) d = d ▹ put_variable name.text
-  translate o (Keyword place name) d = d ▹ put (keyword_instr name.text)
+  translate o (Keyword place name) d = d ▹ keyword_code (keyword_of name.text)
   translate o (Parentheses place es) d = d ▹ conjunction o es
   translate o (Listing place es) d = d ▹ arguments o es ▹ put (I.Llist (elements es))
   translate o (Compound place es) d = d ▹ compound o es

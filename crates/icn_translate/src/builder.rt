@@ -2,17 +2,18 @@
 ghost use Rattle.std.specs.Prelude.{◌≡◌, ◌+◌, ◌<◌, ◌≤◌, [], IfOk, OnOk, length, map};
 ghost use Rattle.icn_profile.specs.Numbers.{number_limit};
 ghost use Rattle.icn_unit.specs.declared.unit.UnitInstr.TheVariants.{Cofail, Coret, Create as CreateInstr, Efail, Field as FieldInstr, Goto as GotoInstr, Lab as LabInstr, Mark as MarkInstr};
+ghost use Rattle.icn_unit.specs.UnitOperands.{keyword_of};
 ghost use Rattle.icn_translate.specs.Drafts.{case_end, end_number, in_case, in_loop, innermost, last_number, name_index, next_label, next_number, number_of, with_number, outside_case, outside_loop, put, put_end, put_last, put_next, put_variable, no_ways, with_end, with_label, with_last, with_name, with_next, ◌▹◌};
 ghost use Rattle.icn_translate.specs.Instructions.{literal_instr};
 ghost use Rattle.icn_translate.specs.OpenMarks.{unmarks_for_break, unmarks_for_next};
 ghost use Rattle.icn_translate.specs.Room.{IsRoomFor, TakesAtMost, numbers_given};
-ghost use Rattle.icn_translate.specs.Translation.{loop_end, put_mark};
+ghost use Rattle.icn_translate.specs.Translation.{keyword_code, loop_end, put_mark};
 ghost use Rattle.icn_translate.specs.Views.{draft_of, open_of, pass_instr};
 
-use crate::forms::literal_instr;
+use crate::forms::{keyword_instr, literal_instr};
 use crate::marks::OpenMarks;
 use icn_tree::{Bytes, Literal};
-use icn_unit::UnitInstr;
+use icn_unit::{UnitInstr, keyword};
 use indexmap::IndexSet;
 use std::alloc::{AllocError, Global};
 use std::collections::VecDeque;
@@ -117,6 +118,19 @@ impl<'a> Builder<'a> {
     {
         let instr = literal_instr(self.alloc, value)?;
         self.put(instr)
+    }
+
+    /// Writes the instruction of a keyword, by its name. One that is unknown never stands in a program, and has none. `AllocError`
+    /// is want of memory.
+    pub fn put_keyword(&mut self, name: &[u8]) -> Result<(), AllocError>
+        ensures draft { OnOk result
+            (draft_of self.new ≡ keyword_code (keyword_of name.now) (draft_of self.old)) }
+        ensures given { OnOk result (TakesAtMost 0 (draft_of self.old) (draft_of self.new)) }
+    {
+        match keyword(name) {
+            Some(found) => self.put(keyword_instr(found)),
+            None => Ok(()),
+        }
     }
 
     /// Writes `field` with a name. `AllocError` is want of memory.

@@ -11,8 +11,7 @@ ghost use Rattle.icn_translate.specs.Views.{draft_of, open_of, pass_instr};
 
 use crate::builder::{Builder, Pass, UNMENTIONED, count_operand};
 use crate::forms::{
-    InfixForm, PrefixForm, UpdateForm, infix_form, keyword_instr, prefix_form, section_op,
-    update_form,
+    InfixForm, PrefixForm, UpdateForm, infix_form, prefix_form, section_op, update_form,
 };
 use crate::marks::{OpenMarks, around};
 use icn_text::Op;
@@ -34,7 +33,7 @@ impl<'a> Builder<'a> {
             Expr::Empty => self.put(UnitInstr::Pnull),
             Expr::Literal { value, .. } => self.put_literal(value),
             Expr::Identifier { name } => self.put_variable(name.text.as_slice()),
-            Expr::Keyword { name, .. } => self.put(keyword_instr(name.text.as_slice())),
+            Expr::Keyword { name, .. } => self.put_keyword(name.text.as_slice()),
             Expr::Parentheses { elements, .. } => self.put_conjunction(elements, within),
             Expr::List { elements, .. } => self.put_list(elements, within),
             Expr::Compound { exprs, .. } => self.put_compound(exprs, within),

@@ -1,10 +1,10 @@
 // What literals, keywords and operators are translated to.
 ghost use Rattle.std.specs.Prelude.{◌≡◌, IfOk};
-ghost use Rattle.icn_translate.specs.Instructions.{infix_form, keyword_instr, known_keyword, literal_instr, prefix_form, section_op, update_form};
+ghost use Rattle.icn_translate.specs.Instructions.{infix_form, keyword_instr, literal_instr, prefix_form, section_op, update_form};
 
 use icn_text::{Keyword, Op};
 use icn_tree::{Bytes, Literal, Operator, SectionKind};
-use icn_unit::{UnitInstr, keyword};
+use icn_unit::UnitInstr;
 use std::alloc::{AllocError, Global};
 
 /// What an operator between operands is.
@@ -61,20 +61,11 @@ pub fn literal_instr(alloc: Global, value: &Literal) -> Result<UnitInstr, AllocE
     }
 }
 
-/// The instruction of a keyword, by its name.
-pub fn keyword_instr(name: &[u8]) -> UnitInstr
-    ensures { result ≡ keyword_instr name.now }
+/// The instruction of a keyword.
+pub fn keyword_instr(keyword: Keyword) -> UnitInstr
+    ensures { result ≡ keyword_instr keyword }
 {
-    match keyword(name) {
-        Some(found) => known_keyword(found),
-        None => UnitInstr::Keywd(Keyword::Null),
-    }
-}
-
-fn known_keyword(found: Keyword) -> UnitInstr
-    ensures { result ≡ known_keyword found }
-{
-    match found {
+    match keyword {
         Keyword::Fail => UnitInstr::Efail,
         other => UnitInstr::Keywd(other),
     }

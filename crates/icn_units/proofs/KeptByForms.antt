@@ -24,9 +24,9 @@ use Rattle.icn_translate.specs.declared.forms.UpdateForm.TheVariants.{Both as Up
 use Rattle.icn_translate.specs.declared.forms.PrefixForm.{PrefixForm}
 use Rattle.icn_translate.specs.declared.forms.PrefixForm.TheVariants.{Activation, Repetition, Operation}
 use Rattle.icn_translate.specs.Drafts.{Draft, ◌▹◌, put, next_label, with_label, no_ways, in_loop, outside_loop, aside, put_next, put_last, in_case, put_end}
-use Rattle.icn_translate.specs.Instructions.{literal_instr, known_keyword, keyword_by, keyword_instr, section_op, infix_form, update_form, prefix_form}
+use Rattle.icn_translate.specs.Instructions.{literal_instr, keyword_instr, section_op, infix_form, update_form, prefix_form}
 use Rattle.icn_translate.specs.OpenMarks.{OpenMarks, Outermost, Marked, Looped, Each, unmarks_for_break, unmarks_for_next, around}
-use Rattle.icn_translate.specs.Translation.{is_empty, is_nothing, is_no_element, elements, bounded_code, create_code, if_mark, unless_empty, either_step, control_part, in_control, in_body, back, loop_end, prefix_by, plain_form, update, augmented_form, case_of, looped_body, translate, operands, arguments, conjunction, conjuncts, compound, creations, other_creations, subscripts, to_step, otherwise, looped_part, suspended_part, guarded_part, guarded_clause, default_part, default_clause, initially, body}
+use Rattle.icn_translate.specs.Translation.{is_empty, is_nothing, is_no_element, elements, bounded_code, create_code, if_mark, unless_empty, either_step, control_part, in_control, in_body, back, loop_end, keyword_code, prefix_by, plain_form, update, augmented_form, case_of, looped_body, translate, operands, arguments, conjunction, conjuncts, compound, creations, other_creations, subscripts, to_step, otherwise, looped_part, suspended_part, guarded_part, guarded_clause, default_part, default_clause, initially, body}
 use Rattle.icn_units.specs.Written.{operand_fits, name_fits, literal_fits, tree_fits, maybe_fits, trees_fit, clause_fits, clauses_fit, initial_fits}
 use Rattle.icn_units.proofs.WrittenTrees.{and_first, and_second}
 use Rattle.icn_units.proofs.DraftChains.{variable_in, Told, Keeps, Runs, Chain, ◌▸◌, here, chain_step, chain_plain, label, labelled, placed, second_placed, outer_runs}
@@ -75,117 +75,21 @@ literal_variable (Literals.Integer n) = refl
 literal_variable (Literals.Text bytes) = refl
 literal_variable (Literals.Cset members) = refl
 
-known_label : (k : KeywordNamed) → label_in (known_keyword k) ≡ None
-known_label K.Ascii = refl
-known_label K.Cset = refl
-known_label K.Current = refl
-known_label K.Digits = refl
-known_label K.Errout = refl
-known_label K.Fail = refl
-known_label K.Input = refl
-known_label K.Lcase = refl
-known_label K.Letters = refl
-known_label K.Level = refl
-known_label K.Main = refl
-known_label K.Null = refl
-known_label K.Output = refl
-known_label K.Pos = refl
-known_label K.Random = refl
-known_label K.Source = refl
-known_label K.Subject = refl
-known_label K.Ucase = refl
-known_label K.Error = refl
-known_label K.ErrorNumber = refl
-known_label K.ErrorValue = refl
-known_label K.ErrorText = refl
+keyword_label : (k : KeywordNamed) → label_in (keyword_instr k) ≡ None
+keyword_label K.Fail = refl
+keyword_label k = refl
 
-known_place : (k : KeywordNamed) → own_label (known_keyword k) ≡ None
-known_place K.Ascii = refl
-known_place K.Cset = refl
-known_place K.Current = refl
-known_place K.Digits = refl
-known_place K.Errout = refl
-known_place K.Fail = refl
-known_place K.Input = refl
-known_place K.Lcase = refl
-known_place K.Letters = refl
-known_place K.Level = refl
-known_place K.Main = refl
-known_place K.Null = refl
-known_place K.Output = refl
-known_place K.Pos = refl
-known_place K.Random = refl
-known_place K.Source = refl
-known_place K.Subject = refl
-known_place K.Ucase = refl
-known_place K.Error = refl
-known_place K.ErrorNumber = refl
-known_place K.ErrorValue = refl
-known_place K.ErrorText = refl
+keyword_place : (k : KeywordNamed) → own_label (keyword_instr k) ≡ None
+keyword_place K.Fail = refl
+keyword_place k = refl
 
-known_variable : (k : KeywordNamed) → variable_in (known_keyword k) ≡ None
-known_variable K.Ascii = refl
-known_variable K.Cset = refl
-known_variable K.Current = refl
-known_variable K.Digits = refl
-known_variable K.Errout = refl
-known_variable K.Fail = refl
-known_variable K.Input = refl
-known_variable K.Lcase = refl
-known_variable K.Letters = refl
-known_variable K.Level = refl
-known_variable K.Main = refl
-known_variable K.Null = refl
-known_variable K.Output = refl
-known_variable K.Pos = refl
-known_variable K.Random = refl
-known_variable K.Source = refl
-known_variable K.Subject = refl
-known_variable K.Ucase = refl
-known_variable K.Error = refl
-known_variable K.ErrorNumber = refl
-known_variable K.ErrorValue = refl
-known_variable K.ErrorText = refl
+keyword_variable : (k : KeywordNamed) → variable_in (keyword_instr k) ≡ None
+keyword_variable K.Fail = refl
+keyword_variable k = refl
 
-known_operand : (passes : List ℕ → Bool) (k : KeywordNamed) → operand_fits passes (known_keyword k) ≡ true
-known_operand passes K.Ascii = refl
-known_operand passes K.Cset = refl
-known_operand passes K.Current = refl
-known_operand passes K.Digits = refl
-known_operand passes K.Errout = refl
-known_operand passes K.Fail = refl
-known_operand passes K.Input = refl
-known_operand passes K.Lcase = refl
-known_operand passes K.Letters = refl
-known_operand passes K.Level = refl
-known_operand passes K.Main = refl
-known_operand passes K.Null = refl
-known_operand passes K.Output = refl
-known_operand passes K.Pos = refl
-known_operand passes K.Random = refl
-known_operand passes K.Source = refl
-known_operand passes K.Subject = refl
-known_operand passes K.Ucase = refl
-known_operand passes K.Error = refl
-known_operand passes K.ErrorNumber = refl
-known_operand passes K.ErrorValue = refl
-known_operand passes K.ErrorText = refl
-
-keyword_label : (k : Option KeywordNamed) → label_in (keyword_by k) ≡ None
-keyword_label None = refl
-keyword_label (Some k) = known_label k
-
-keyword_place : (k : Option KeywordNamed) → own_label (keyword_by k) ≡ None
-keyword_place None = refl
-keyword_place (Some k) = known_place k
-
-keyword_variable : (k : Option KeywordNamed) → variable_in (keyword_by k) ≡ None
-keyword_variable None = refl
-keyword_variable (Some k) = known_variable k
-
-keyword_operand : {asks : Bool} (passes : List ℕ → Bool) (k : Option KeywordNamed) → Told asks (operand_fits passes (keyword_by k))
-keyword_operand passes None h = refl
-keyword_operand passes (Some k) h = known_operand passes k
+keyword_operand : (passes : List ℕ → Bool) (k : KeywordNamed) → operand_fits passes (keyword_instr k) ≡ true
+keyword_operand passes K.Fail = refl
+keyword_operand passes k = refl
 
 literal_operand : {asks : Bool} (passes : List ℕ → Bool) (v : Literal) → Told asks (literal_fits passes v)
     → Told asks (operand_fits passes (literal_instr v))
@@ -260,7 +164,12 @@ module _ (S : Keeps) where
   unmarks_for_next_run (Looped o) = nothing_runs
   unmarks_for_next_run (Each o) = nothing_runs
 
-  -- Operators
+  -- Keywords and operators
+
+  keyword_runs : {n : ℕ} (found : Option KeywordNamed) → Runs S n (keyword_code found)
+  keyword_runs None = nothing_runs
+  keyword_runs (Some k) =
+      put_runs (keyword_instr k) (keyword_label k) (keyword_place k) (keyword_variable k) (λ h. keyword_operand S.passes k)
 
   repetition_runs : {n : ℕ} {marked : Draft → Draft} → Runs S n marked → (operand : Draft → Draft)
       → Runs S n (prefix_by (Some Repetition) operand marked)
@@ -485,10 +394,7 @@ module _ (S : Keeps) where
     tree_runs o c (Constant place v) x w = put_runs (literal_instr v) (literal_label v) (literal_place v)
         (literal_variable v) (literal_operand S.passes v w)
     tree_runs o c (Identifier name) x w = record { run = λ d h. S.variable d d [] name.text w (S.none d) }
-    tree_runs o c (Keyword place name) x w =
-        put_runs (keyword_instr name.text) (keyword_label (keyword_of name.text))
-        (keyword_place (keyword_of name.text)) (keyword_variable (keyword_of name.text))
-        (keyword_operand S.passes (keyword_of name.text))
+    tree_runs o c (Keyword place name) x w = keyword_runs (keyword_of name.text)
     tree_runs o c (Parentheses place es) x w = conjunction_runs o c es x w
     tree_runs o c (Listing place es) x w = then_runs (arguments_run o c es x w)
         (put_runs (I.Llist (elements es)) refl refl refl (λ h. refl))

@@ -3,6 +3,7 @@ use Rattle.std.proofs.Common.{◌≡◌, ◌∙◌, refl, ap, ℕ, List, [], ◌
 use Rattle.std.specs.List.{All}
 use Rattle.std.specs.Prelude.{slice_index}
 use Rattle.std.proofs.lemmas.List.Elements.{All-head, All-tail, All-weaker}
+use Rattle.icn_value.specs.declared.val.Val.{Val as HeldValue}
 use Rattle.icn_value.specs.declared.val.Val.TheVariants.{List as ListVal, Table as TableVal, Rec as RecVal}
 use Rattle.icn_value.specs.declared.item.Root.{Root as HeldRoot}
 use Rattle.icn_value.specs.declared.item.Root.TheVariants.{Global as HeldGlobal, Static as HeldStatic, Local as HeldLocal, Element as HeldElement, Field as HeldField, Key as HeldKey, Keyword as HeldKeyword}
@@ -13,7 +14,8 @@ use Rattle.icn_value.specs.declared.item.Item.TheVariants.{Val as ValItem, Var a
 use Rattle.icn_value.specs.Values.{Key, Whole, Part, Val, Var}
 use Rattle.icn_heap.specs.Extents.{KeepsValues}
 use Rattle.icn_heap.proofs.GrowingHeaps.{keeps_refl, keeps_trans}
-use Rattle.icn_vars.specs.Worlds.{IsLiveItem, IsLiveRoot, IsLiveVariable, ItemBy, KeepsFields, KeepsItems, Reach, RootBy, VariableBy, item_in, root_in, variable_in}
+use Rattle.icn_vars.specs.declared.world.World.{World}
+use Rattle.icn_vars.specs.Worlds.{IsLiveItem, IsLiveRoot, IsLiveVariable, ItemBy, KeepsFields, KeepsItems, KeepsLive, Reach, RootBy, VariableBy, item_in, root_in, variable_in}
 
 -- How worlds keep items
 
@@ -43,6 +45,10 @@ keeps_items_trans a b c first second = record {
   statics = second.statics ∙ first.statics;
   locals = second.locals ∙ first.locals;
 }
+
+-- what two changes keep live one after the other is kept live by both
+pub keeps_live_then : {a b c : World} {first second third : List HeldValue} → KeepsLive a first b second → KeepsLive b second c third → KeepsLive a first c third
+keeps_live_then one two = record { locals = two.locals; items = keeps_items_trans _ _ _ one.items two.items }
 
 -- What stays of each item
 

@@ -1,5 +1,6 @@
 -- What a program's world stands for, and which variables and items are of it.
 use Rattle.std.specs.Prelude.{◌≡◌, ℕ, pos, ◌<◌, ◌≤◌, ◌^◌, List, [], map, length, slice_index, Option, None, ⊤}
+use Rattle.std.specs.List.{All}
 use Rattle.std.specs.Option.{option_map}
 use Rattle.icn_value.specs.declared.val.Val.{Val}
 use Rattle.icn_value.specs.declared.val.Val.TheVariants.{List as ListVal, Table as TableVal, Rec as RecVal}
@@ -155,6 +156,36 @@ pub record KeepsItems (old new : Reach) : Type 0 where
   pub globals : new.globals ≡ old.globals
   pub statics : new.statics ≡ old.statics
   pub locals : new.locals ≡ old.locals
+
+-- the locals behind a call are of the world that it leaves; every item stays of the world, and stands for the same
+pub record KeepsLive (old : World) (before : List Val) (new : World) (after : List Val) : Type 0 where
+  pub locals : All (IsLive (extent_of new.heap)) after
+  pub items : KeepsItems (reach_of old before) (reach_of new after)
+
+-- What a row asks for
+
+-- the locals and the arguments at hand are of the world
+pub record AreLiveArguments (world : World) (vals given : List Val) : Type 0 where
+  pub locals : All (IsLive (extent_of world.heap)) vals
+  pub args : All (IsLive (extent_of world.heap)) given
+
+-- the locals and the operand are of the world
+pub record IsLiveOperand (world : World) (vals : List Val) (x : HeldItem) : Type 0 where
+  pub locals : All (IsLive (extent_of world.heap)) vals
+  pub first : IsLiveItem (reach_of world vals) x
+
+-- the locals and both operands are of the world
+pub record AreLiveTwo (world : World) (vals : List Val) (x y : HeldItem) : Type 0 where
+  pub locals : All (IsLive (extent_of world.heap)) vals
+  pub first : IsLiveItem (reach_of world vals) x
+  pub second : IsLiveItem (reach_of world vals) y
+
+-- the locals and all three operands are of the world
+pub record AreLiveThree (world : World) (vals : List Val) (x y z : HeldItem) : Type 0 where
+  pub locals : All (IsLive (extent_of world.heap)) vals
+  pub first : IsLiveItem (reach_of world vals) x
+  pub second : IsLiveItem (reach_of world vals) y
+  pub third : IsLiveItem (reach_of world vals) z
 
 -- Places of parts that were read or assigned
 

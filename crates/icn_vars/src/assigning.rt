@@ -9,7 +9,7 @@ ghost use Rattle.icn_defs.specs.ReadAndAssign.{assigns_or};
 ghost use Rattle.icn_heap.specs.Extents.{IsLive, value_in};
 ghost use Rattle.icn_heap.specs.Heaps.{extent_of};
 ghost use Rattle.icn_vars.specs.Assignments.{AssignsAs, HoldsAlike, IsError, IsLiveAssignment, IsShortAssignment, takes_no_memory};
-ghost use Rattle.icn_vars.specs.Worlds.{IsLiveRoot, IsLiveVariable, KeepsItems, reach_of, root_in, setting_of, variable_in};
+ghost use Rattle.icn_vars.specs.Worlds.{IsLiveRoot, IsLiveVariable, KeepsLive, reach_of, root_in, setting_of, variable_in};
 
 use crate::assignment::Assignment;
 use crate::locals::Locals;
@@ -42,8 +42,7 @@ pub fn assign<L: Locals>(
     ensures memory { takes_no_memory (variable_in (extent_of w.old.heap) variable) ≡ true
         → can_hold (variable_in (extent_of w.old.heap) variable) (value_in (extent_of w.old.heap) val) ≡ true
         → IfErr result IsError }
-    ensures locals { All (IsLive (extent_of w.new.heap)) (L.items l.new) }
-    ensures kept { KeepsItems (reach_of w.old (L.items l.old)) (reach_of w.new (L.items l.new)) }
+    ensures kept { KeepsLive w.old (L.items l.old) w.new (L.items l.new) }
 {
     match variable {
         VarRef::Whole(root) => {
@@ -77,8 +76,7 @@ fn assign_part<L: Locals>(
     ensures short { IsShortAssignment (HeldPart root place len) result }
     ensures holds { HoldsAlike (extent_of w.new.heap)
         (Part (root_in (extent_of w.old.heap) root) place len) result }
-    ensures locals { All (IsLive (extent_of w.new.heap)) (L.items l.new) }
-    ensures kept { KeepsItems (reach_of w.old (L.items l.old)) (reach_of w.new (L.items l.new)) }
+    ensures kept { KeepsLive w.old (L.items l.old) w.new (L.items l.new) }
 {
     if !has_text(val) {
         return Err(Stop::Error(103, Some(val)));

@@ -9,7 +9,7 @@ ghost use Rattle.icn_heap.specs.Extents.{IsLive, value_in};
 ghost use Rattle.icn_heap.specs.Heaps.{extent_of};
 ghost use Rattle.icn_vars.specs.Assignments.{ExchangesAs, HoldAlike, HoldsShort, IsError, IsLiveExchange, assigns_moved, assigns_right, exchange_of, takes_no_memory};
 ghost use Rattle.icn_vars.specs.Outcomes.{mover_of};
-ghost use Rattle.icn_vars.specs.Worlds.{IsLiveVariable, IsShort, KeepsItems, reach_of, setting_of, variable_in};
+ghost use Rattle.icn_vars.specs.Worlds.{IsLiveVariable, IsShort, KeepsLive, reach_of, setting_of, variable_in};
 ghost use Rattle.icn_vars.specs.declared.stop.Stop.TheVariants.{NoMemory};
 
 use crate::assigning::assign;
@@ -46,8 +46,7 @@ pub fn exchange<L: Locals>(
     ensures live { IsLiveExchange (reach_of w.new (L.items l.new)) result }
     ensures holds { HoldAlike (extent_of w.new.heap) (variable_in (extent_of w.old.heap) left)
         (variable_in (extent_of w.old.heap) right) result }
-    ensures locals { All (IsLive (extent_of w.new.heap)) (L.items l.new) }
-    ensures kept { KeepsItems (reach_of w.old (L.items l.old)) (reach_of w.new (L.items l.new)) }
+    ensures kept { KeepsLive w.old (L.items l.old) w.new (L.items l.new) }
 {
     let mover = mover_of(w, l, left, right);
     assign_both(w, l, mover, left, right, of_right, of_left)
@@ -84,8 +83,7 @@ pub fn assign_both<L: Locals>(
         → can_hold (variable_in (extent_of w.old.heap) right) (value_in (extent_of w.old.heap) to_right)
         ≡ true
         → IfErr result IsError }
-    ensures locals { All (IsLive (extent_of w.new.heap)) (L.items l.new) }
-    ensures kept { KeepsItems (reach_of w.old (L.items l.old)) (reach_of w.new (L.items l.new)) }
+    ensures kept { KeepsLive w.old (L.items l.old) w.new (L.items l.new) }
 {
     match assign(w, l, left, to_left)? {
         Assignment::Done(now) => match mover {
@@ -119,8 +117,7 @@ fn assign_moved<L: Locals>(
     ensures live { IsLiveExchange (reach_of w.new (L.items l.new)) result }
     ensures holds { HoldAlike (extent_of w.new.heap) (variable_in (extent_of w.old.heap) left)
         (variable_in (extent_of w.old.heap) right) result }
-    ensures locals { All (IsLive (extent_of w.new.heap)) (L.items l.new) }
-    ensures kept { KeepsItems (reach_of w.old (L.items l.old)) (reach_of w.new (L.items l.new)) }
+    ensures kept { KeepsLive w.old (L.items l.old) w.new (L.items l.new) }
 {
     match move_part(old, part_length(left), right) {
         Moved::To(right) => assign_right(w, l, Mover::Left, left, right, to_right),
@@ -157,8 +154,7 @@ fn assign_right<L: Locals>(
         → can_hold (variable_in (extent_of w.old.heap) right) (value_in (extent_of w.old.heap) to_right)
         ≡ true
         → IfErr result IsError }
-    ensures locals { All (IsLive (extent_of w.new.heap)) (L.items l.new) }
-    ensures kept { KeepsItems (reach_of w.old (L.items l.old)) (reach_of w.new (L.items l.new)) }
+    ensures kept { KeepsLive w.old (L.items l.old) w.new (L.items l.new) }
 {
     match assign(w, l, right, to_right)? {
         Assignment::Done(now) => match mover {

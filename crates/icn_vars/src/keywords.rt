@@ -10,7 +10,7 @@ ghost use Rattle.icn_heap.specs.Heaps.{extent_of};
 ghost use Rattle.icn_value.specs.Values.{Subject as SubjectWord, Position as PositionWord, Random as RandomWord, ErrorCount as ErrorWord};
 ghost use Rattle.icn_vars.specs.Assignments.{IsError, RootAssigned};
 ghost use Rattle.icn_vars.specs.Stops.{IsLiveStop};
-ghost use Rattle.icn_vars.specs.Worlds.{KeepsItems, reach_of, setting_of, word_of};
+ghost use Rattle.icn_vars.specs.Worlds.{KeepsLive, setting_of, word_of};
 
 use crate::locals::Locals;
 use crate::stop::Stop;
@@ -36,8 +36,7 @@ pub fn assign_keyword<L: Locals>(
     ensures stops { IfErr result (IsLiveStop (extent_of w.new.heap)) }
     ensures memory { word_holds (word_of word) (value_in (extent_of w.old.heap) val) ≡ true
         → IfErr result IsError }
-    ensures locals { All (IsLive (extent_of w.new.heap)) (L.items l.now) }
-    ensures kept { KeepsItems (reach_of w.old (L.items l.now)) (reach_of w.new (L.items l.now)) }
+    ensures kept { KeepsLive w.old (L.items l.now) w.new (L.items l.now) }
 {
     match word {
         KeywordVariable::Subject => assign_subject(w, l, val),
@@ -57,8 +56,7 @@ fn assign_subject<L: Locals>(w: &mut World, l: &L, val: Val) -> Result<bool, Sto
         (setting_of outside w.old (L.items l.now)) (setting_of outside w.new (L.items l.now)) result }
     ensures stops { IfErr result (IsLiveStop (extent_of w.new.heap)) }
     ensures memory { is_some (held_text (value_in (extent_of w.old.heap) val)) ≡ true → IfErr result IsError }
-    ensures locals { All (IsLive (extent_of w.new.heap)) (L.items l.now) }
-    ensures kept { KeepsItems (reach_of w.old (L.items l.now)) (reach_of w.new (L.items l.now)) }
+    ensures kept { KeepsLive w.old (L.items l.now) w.new (L.items l.now) }
 {
     match val {
         Val::Text(subject) => {
@@ -90,8 +88,7 @@ fn assign_position<L: Locals>(w: &mut World, l: &L, val: Val) -> Result<bool, St
         (setting_of outside w.old (L.items l.now)) (setting_of outside w.new (L.items l.now)) result }
     ensures stops { IfErr result (IsLiveStop (extent_of w.new.heap)) }
     ensures memory { IfErr result IsError }
-    ensures locals { All (IsLive (extent_of w.new.heap)) (L.items l.now) }
-    ensures kept { KeepsItems (reach_of w.old (L.items l.now)) (reach_of w.new (L.items l.now)) }
+    ensures kept { KeepsLive w.old (L.items l.now) w.new (L.items l.now) }
 {
     let n = match to_integer(&w.heap, val) {
         Some(n) => n,
@@ -117,8 +114,7 @@ fn assign_random<L: Locals>(w: &mut World, l: &L, val: Val) -> Result<bool, Stop
         (setting_of outside w.old (L.items l.now)) (setting_of outside w.new (L.items l.now)) result }
     ensures stops { IfErr result (IsLiveStop (extent_of w.new.heap)) }
     ensures memory { IfErr result IsError }
-    ensures locals { All (IsLive (extent_of w.new.heap)) (L.items l.now) }
-    ensures kept { KeepsItems (reach_of w.old (L.items l.now)) (reach_of w.new (L.items l.now)) }
+    ensures kept { KeepsLive w.old (L.items l.now) w.new (L.items l.now) }
 {
     match to_integer(&w.heap, val) {
         Some(n) => {
@@ -139,8 +135,7 @@ fn assign_error<L: Locals>(w: &mut World, l: &L, val: Val) -> Result<bool, Stop>
         (setting_of outside w.old (L.items l.now)) (setting_of outside w.new (L.items l.now)) result }
     ensures stops { IfErr result (IsLiveStop (extent_of w.new.heap)) }
     ensures memory { IfErr result IsError }
-    ensures locals { All (IsLive (extent_of w.new.heap)) (L.items l.now) }
-    ensures kept { KeepsItems (reach_of w.old (L.items l.now)) (reach_of w.new (L.items l.now)) }
+    ensures kept { KeepsLive w.old (L.items l.now) w.new (L.items l.now) }
 {
     match to_integer(&w.heap, val) {
         Some(n) => {

@@ -10,7 +10,7 @@ ghost use Rattle.icn_heap.specs.Extents.{IsLive, value_in};
 ghost use Rattle.icn_heap.specs.Heaps.{extent_of};
 ghost use Rattle.icn_vars.specs.Assignments.{IsError, RootAssigned, is_in_place};
 ghost use Rattle.icn_vars.specs.Stops.{IsLiveStop};
-ghost use Rattle.icn_vars.specs.Worlds.{IsLiveRoot, KeepsItems, reach_of, root_in, setting_of};
+ghost use Rattle.icn_vars.specs.Worlds.{IsLiveRoot, KeepsLive, reach_of, root_in, setting_of};
 
 use crate::keywords::assign_keyword;
 use crate::locals::Locals;
@@ -33,8 +33,7 @@ pub fn assign_root<L: Locals>(w: &mut World, l: &mut L, root: Root, val: Val) ->
     ensures memory { is_in_place (root_in (extent_of w.old.heap) root) ≡ true
         → root_holds (root_in (extent_of w.old.heap) root) (value_in (extent_of w.old.heap) val) ≡ true
         → IfErr result IsError }
-    ensures locals { All (IsLive (extent_of w.new.heap)) (L.items l.new) }
-    ensures kept { KeepsItems (reach_of w.old (L.items l.old)) (reach_of w.new (L.items l.new)) }
+    ensures kept { KeepsLive w.old (L.items l.old) w.new (L.items l.new) }
 {
     match root {
         Root::Global(place) => {
@@ -76,8 +75,7 @@ fn assign_element<L: Locals>(
         (setting_of outside w.old (L.items l.now)) (setting_of outside w.new (L.items l.now)) result }
     ensures stops { IfErr result (IsLiveStop (extent_of w.new.heap)) }
     ensures memory { IfErr result IsError }
-    ensures locals { All (IsLive (extent_of w.new.heap)) (L.items l.now) }
-    ensures kept { KeepsItems (reach_of w.old (L.items l.now)) (reach_of w.new (L.items l.now)) }
+    ensures kept { KeepsLive w.old (L.items l.now) w.new (L.items l.now) }
 {
     if w.heap.set_item(list, number, val) {
         Ok(true)
@@ -98,8 +96,7 @@ fn assign_key<L: Locals>(w: &mut World, l: &L, table: u32, key: Val, val: Val) -
         (Key table (value_in (extent_of w.old.heap) key)) (value_in (extent_of w.old.heap) val))
         (setting_of outside w.old (L.items l.now)) (setting_of outside w.new (L.items l.now)) result }
     ensures stops { IfErr result (IsLiveStop (extent_of w.new.heap)) }
-    ensures locals { All (IsLive (extent_of w.new.heap)) (L.items l.now) }
-    ensures kept { KeepsItems (reach_of w.old (L.items l.now)) (reach_of w.new (L.items l.now)) }
+    ensures kept { KeepsLive w.old (L.items l.now) w.new (L.items l.now) }
 {
     w.heap.store(table, key, val)?;
     Ok(true)

@@ -9,7 +9,7 @@ ghost use Rattle.icn_defs.specs.Rows.{costs_bytes, costs_text};
 ghost use Rattle.icn_heap.specs.Extents.{Extent, IsLive, IsText, text_in, value_in};
 ghost use Rattle.icn_heap.specs.Heaps.{extent_of};
 ghost use Rattle.icn_vars.specs.Stops.{IsLiveStop, StopsPassing};
-ghost use Rattle.icn_vars.specs.Worlds.{KeepsItems, reach_of, setting_of};
+ghost use Rattle.icn_vars.specs.Worlds.{KeepsLive, setting_of};
 
 use crate::locals::Locals;
 use crate::stop::Stop;
@@ -42,8 +42,7 @@ pub fn made_text<L: Locals>(w: &mut World, l: &L, val: Val) -> Result<Span, Stop
         (StopsPassing (extent_of w.new.heap) (costs_text (value_in (extent_of w.old.heap) val))
         (setting_of outside w.old (L.items l.now)) (setting_of outside w.new (L.items l.now))) }
     ensures stops { IfErr result (IsLiveStop (extent_of w.new.heap)) }
-    ensures locals { All (IsLive (extent_of w.new.heap)) (L.items l.now) }
-    ensures kept { KeepsItems (reach_of w.old (L.items l.now)) (reach_of w.new (L.items l.now)) }
+    ensures kept { KeepsLive w.old (L.items l.now) w.new (L.items l.now) }
 {
     match to_text(&mut w.heap, val)? {
         Some(span) => Ok(span),
@@ -97,8 +96,7 @@ pub fn replace<L: Locals>(
         (with_part (text_in (extent_of w.old.heap) whole) place len (text_in (extent_of w.old.heap) new))))
         (setting_of outside w.old (L.items l.now)) (setting_of outside w.new (L.items l.now))) }
     ensures stops { IfErr result (IsLiveStop (extent_of w.new.heap)) }
-    ensures locals { All (IsLive (extent_of w.new.heap)) (L.items l.now) }
-    ensures kept { KeepsItems (reach_of w.old (L.items l.now)) (reach_of w.new (L.items l.now)) }
+    ensures kept { KeepsLive w.old (L.items l.now) w.new (L.items l.now) }
 {
     let bytes = replaced_bytes(
         *w.globals.allocator(),

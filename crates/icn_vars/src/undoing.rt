@@ -9,7 +9,7 @@ ghost use Rattle.icn_heap.specs.Heaps.{extent_of};
 ghost use Rattle.icn_vars.specs.Assignments.{IsError, takes_no_memory};
 ghost use Rattle.icn_vars.specs.Outcomes.{IsOld, mover_of};
 ghost use Rattle.icn_vars.specs.Stops.{IsLiveStop, StopsPassing};
-ghost use Rattle.icn_vars.specs.Worlds.{KeepsItems, reach_of, setting_of, variable_in};
+ghost use Rattle.icn_vars.specs.Worlds.{KeepsLive, reach_of, setting_of, variable_in};
 
 use crate::assigning::assign;
 use crate::assignment::{Assignment, Exchange};
@@ -33,8 +33,7 @@ pub fn undo<L: Locals>(w: &mut World, l: &mut L, variable: VarRef, old: Val) -> 
     ensures memory { takes_no_memory (variable_in (extent_of w.old.heap) variable) ≡ true
         → IfErr result IsError }
     ensures stops { IfErr result (IsLiveStop (extent_of w.new.heap)) }
-    ensures locals { All (IsLive (extent_of w.new.heap)) (L.items l.new) }
-    ensures kept { KeepsItems (reach_of w.old (L.items l.old)) (reach_of w.new (L.items l.new)) }
+    ensures kept { KeepsLive w.old (L.items l.old) w.new (L.items l.new) }
 {
     match assign(w, l, variable, old)? {
         Assignment::Done(_) => Ok(()),
@@ -69,8 +68,7 @@ pub fn undo_exchange<L: Locals>(
         → takes_no_memory (variable_in (extent_of w.old.heap) right) ≡ true
         → IfErr result IsError }
     ensures stops { IfErr result (IsLiveStop (extent_of w.new.heap)) }
-    ensures locals { All (IsLive (extent_of w.new.heap)) (L.items l.new) }
-    ensures kept { KeepsItems (reach_of w.old (L.items l.old)) (reach_of w.new (L.items l.new)) }
+    ensures kept { KeepsLive w.old (L.items l.old) w.new (L.items l.new) }
 {
     match assign_both(w, l, mover, left, right, old_left, old_right)? {
         Exchange::Done(_, _) => Ok(()),

@@ -1,5 +1,6 @@
 -- The code of each form is its translation with places for labels: one line a form, in the order of the translation.
-use Rattle.std.proofs.Common.{◌≡◌, ℕ, suc, ◌+◌, Bool, true, false, List, [], ◌∷◌, ◌++◌, length, Option, replicate, refl, sym, ap, subst, ◌∙◌, append_assoc, pos, if◌then◌else◌, arith}
+use Rattle.std.proofs.Common.{◌≡◌, ℕ, suc, ◌+◌, Bool, true, false, List, [], ◌∷◌, ◌++◌, length, Option, Some, None, replicate, refl, sym, ap, subst, ◌∙◌, append_assoc, pos, if◌then◌else◌, arith}
+use Rattle.icn_text.specs.declared.keyword.Keyword.{Keyword as KeywordNamed}
 use Rattle.icn_text.specs.declared.op.Op.TheVariants as O
 use Rattle.icn_tree.specs.declared.tree.Place.{Place}
 use Rattle.icn_tree.specs.declared.tree.Infix.TheVariants.{Plain, Augmented}
@@ -11,6 +12,7 @@ use Rattle.icn_code.specs.declared.instr.Instr.{Instr}
 use Rattle.icn_code.specs.declared.instr.Instr.TheVariants as I
 use Rattle.icn_unit.specs.declared.unit.UnitInstr.{UnitInstr}
 use Rattle.icn_unit.specs.declared.unit.UnitInstr.TheVariants as U
+use Rattle.icn_unit.specs.UnitOperands.{keyword_of}
 use Rattle.icn_translate.specs.Drafts.{Draft, ◌▹◌, put, aside, put_next, put_last}
 use Rattle.icn_translate.specs.Instructions.{literal_instr, keyword_instr, section_op, infix_form, update_form, prefix_form}
 use Rattle.icn_translate.specs.OpenMarks.{OpenMarks, Outermost, Marked, Looped, Each, unmarks_for_break, unmarks_for_next, around}
@@ -21,7 +23,7 @@ use Rattle.icn_link.specs.Resolving.{Scope, resolved_one}
 use Rattle.law_simulation.specs.Translation as X
 use Rattle.law_link.proofs.CodeSteps.{Gives, no_facts, gives_nothing, gives_instruction, ◌⨾◌, given_as}
 use Rattle.law_link.proofs.CodeWays.{puts_next, puts_last, set_aside}
-use Rattle.law_link.proofs.CodeNames.{AgreeOn, puts_variable, keyword_code_is, literal_code_is}
+use Rattle.law_link.proofs.CodeNames.{AgreeOn, puts_variable, keyword_is, keyword_same, literal_code_is}
 use Rattle.law_link.proofs.CodeParts.{bounded_gives, created_gives, not_gives, return_gives, branches_give, lone_label_gives}
 use Rattle.law_link.proofs.CodeOpen.{depths, loops_in, Within, around_depths, loops_around, unmarks_for_break_give, unmarks_for_next_give}
 use Rattle.law_link.proofs.CodeOperators.{form_same, update_same, prefix_same, section_same, prefix_gives, plain_gives, augmented_gives}
@@ -125,13 +127,20 @@ module _ {S : Scope} {N : X.SymbolTable} {F : List (List ℕ)} (agree : AgreeOn 
   puts_as : {W : List X.LoopExits} {E : List ℕ} (i : UnitInstr) (j : Instr) → resolved_one S i ≡ j ∷ [] → Gives S F W E (put i) 1 (λ p. j ∷ []) no_facts
   puts_as i j e = plainly (gives_instruction i (ap length e)) refl (λ p. e)
 
+  keyword_gives : {W : List X.LoopExits} {E : List ℕ} (found : Option KeywordNamed)
+      → Gives S F W E (T.keyword_code found) (X.keyword_size found) (λ p. X.keyword_code found) no_facts
+  keyword_gives None = gives_nothing
+  keyword_gives (Some word) = puts_as (keyword_instr word) (X.keyword_instr word) (keyword_same S word)
+
   mutual
     pub tree_gives : (o : OpenMarks) (c : Context) (e : Tree) → faults c e ≡ [] → (V R : List X.LoopExits) → Within o c V → {E : List ℕ}
         → Gives S F (V ++ R) E (translate o e) (X.size (depths o) e) (λ p. X.code N (depths o) V p e) no_facts
     tree_gives o c Empty x V R w = gives_instruction U.Pnull refl
     tree_gives o c (Constant place v) x V R w = puts_as (literal_instr v) (X.literal_code N v) (literal_code_is S N F agree v)
     tree_gives o c (Identifier name) x V R w = puts_variable agree name.text
-    tree_gives o c (Keyword place name) x V R w = puts_as (keyword_instr name.text) (X.keyword_code N name.text) (keyword_code_is S N F agree name.text)
+    tree_gives o c (Keyword place name) x V R w {E = E} =
+        subst (λ (found : Option KeywordNamed). Gives S F (V ++ R) E (T.keyword_code (keyword_of name.text)) (X.keyword_size found)
+        (λ p. X.keyword_code found) no_facts) (keyword_is name.text) (keyword_gives (keyword_of name.text))
     tree_gives o c (Parentheses place es) x V R w = conjunction_gives o c es x V R w
     tree_gives o c (Listing place es) x V R w =
         plainly (arguments_give o c es x V R w

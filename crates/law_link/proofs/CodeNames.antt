@@ -1,5 +1,5 @@
--- A scope and the names of a procedure that agree: what its variables and keywords are.
-use Rattle.std.proofs.Common.{◌≡◌, ℕ, ◌+◌, ℤ, Bool, true, false, List, [], ◌∷◌, ◌++◌, length, Option, None, Some, refl, sym, ap, subst, ◌∙◌, append_assoc, length-append, if◌then◌else◌, codes, map, unwrap_or, arith}
+-- A scope and the names of a procedure that agree: what its variables are; and what keywords are in both translations.
+use Rattle.std.proofs.Common.{◌≡◌, ℕ, ◌+◌, ℤ, Bool, true, false, List, [], ◌∷◌, ◌++◌, length, Option, Some, refl, sym, ap, subst, ◌∙◌, append_assoc, length-append, if◌then◌else◌, map, arith}
 use Rattle.std.specs.List.{list_any, position_or_len}
 use Rattle.std.specs.Str.{bytes_eq}
 use Rattle.std.proofs.lemmas.Slice.Eq.{bytes_eq-Decides}
@@ -13,7 +13,7 @@ use Rattle.icn_code.specs.declared.instr.Instr.TheVariants as I
 use Rattle.icn_unit.specs.declared.unit.UnitInstr.TheVariants as U
 use Rattle.icn_unit.specs.UnitOperands.{keyword_of}
 use Rattle.icn_translate.specs.Drafts.{put_variable, name_index}
-use Rattle.icn_translate.specs.Instructions.{literal_instr, keyword_by, keyword_instr}
+use Rattle.icn_translate.specs.Instructions.{literal_instr, keyword_instr}
 use Rattle.icn_tree.specs.declared.tree.Literal.{Literal}
 use Rattle.icn_tree.specs.declared.tree.Literal.TheVariants as Literals
 use Rattle.icn_meaning.specs.Evaluate.{keyword_among}
@@ -28,7 +28,6 @@ pub record AgreeOn (S : Scope) (N : X.SymbolTable) (F : List (List ℕ)) : Type 
   pub set : (members : List ℕ) → S.set members ≡ N.set members
   pub field : (name : List ℕ) → S.field name ≡ N.field name
   pub variable : (name : List ℕ) → list_any (bytes_eq name) F ≡ true → S.variable (name_index F name) ≡ N.variable name
-  pub keyword : (name : List ℕ) → N.keyword name ≡ unwrap_or (keyword_among name keywords) K.Null
 
 -- Where a name stands
 
@@ -84,60 +83,14 @@ keyword_found : (name : List ℕ) (ks : List Keyword) → lookup_text (map (λ k
 keyword_found name [] = refl
 keyword_found name (k ∷ ks) = ap (λ (found : Option Keyword). if bytes_eq name (keyword_name k) then Some k else found) (keyword_found name ks)
 
-keyword_is : (name : List ℕ) → keyword_of name ≡ keyword_among name keywords
+pub keyword_is : (name : List ℕ) → keyword_of name ≡ keyword_among name keywords
 unfolding keyword_of
 keyword_is name = keyword_found name keywords
 
-found_name : (name : List ℕ) (k : Keyword) (ks : List Keyword) → keyword_among name ks ≡ Some k → bytes_eq name (keyword_name k) ≡ true
-found_name name k [] h = absurd (cc)
-found_name name k (other ∷ ks) h = by (bytes_eq name (keyword_name other)) refl (found_name name k ks)
-  where
-    by : (b : Bool) → bytes_eq name (keyword_name other) ≡ b → (keyword_among name ks ≡ Some k → bytes_eq name (keyword_name k) ≡ true)
-        → bytes_eq name (keyword_name k) ≡ true
-    by true e later = let same : Some other ≡ Some k = (rw e at h) in
-        subst (λ (found : Option Keyword). bytes_eq name (keyword_name (unwrap_or found K.Null)) ≡ true) same e
-    by false e later = later (rw e at h)
-
-fail_code : (name : List ℕ) → name ≡ codes "fail" → keyword_among name keywords ≡ Some K.Fail
-fail_code name h = rw h refl
-
 module _ (S : Scope) where
-  found_code : (name : List ℕ) (found : Option Keyword) → keyword_among name keywords ≡ found → bytes_eq name (codes "fail") ≡ false
-      → resolved_one S (keyword_by found) ≡ I.Keywd (unwrap_or found K.Null) ∷ []
-  found_code name None h e = refl
-  found_code name (Some K.Ascii) h e = refl
-  found_code name (Some K.Cset) h e = refl
-  found_code name (Some K.Current) h e = refl
-  found_code name (Some K.Digits) h e = refl
-  found_code name (Some K.Errout) h e = refl
-  found_code name (Some K.Fail) h e = absurd (let same = found_name name K.Fail keywords h in cc)
-  found_code name (Some K.Input) h e = refl
-  found_code name (Some K.Lcase) h e = refl
-  found_code name (Some K.Letters) h e = refl
-  found_code name (Some K.Level) h e = refl
-  found_code name (Some K.Main) h e = refl
-  found_code name (Some K.Null) h e = refl
-  found_code name (Some K.Output) h e = refl
-  found_code name (Some K.Pos) h e = refl
-  found_code name (Some K.Random) h e = refl
-  found_code name (Some K.Source) h e = refl
-  found_code name (Some K.Subject) h e = refl
-  found_code name (Some K.Ucase) h e = refl
-  found_code name (Some K.Error) h e = refl
-  found_code name (Some K.ErrorNumber) h e = refl
-  found_code name (Some K.ErrorValue) h e = refl
-  found_code name (Some K.ErrorText) h e = refl
-
-  among_code : (name : List ℕ) (b : Bool) → bytes_eq name (codes "fail") ≡ b
-      → resolved_one S (keyword_by (keyword_among name keywords)) ≡ (if b then I.Efail else I.Keywd (unwrap_or (keyword_among name keywords) K.Null)) ∷ []
-  among_code name true e = ap (λ (found : Option Keyword). resolved_one S (keyword_by found)) (fail_code name ((bytes_eq-Decides name (codes "fail")).0 e))
-  among_code name false e = found_code name (keyword_among name keywords) refl e
-
-  pub keyword_code_is : (N : X.SymbolTable) (F : List (List ℕ)) → AgreeOn S N F → (name : List ℕ)
-      → resolved_one S (keyword_instr name) ≡ X.keyword_code N name ∷ []
-  keyword_code_is N F agree name =
-      ap (λ (found : Option Keyword). resolved_one S (keyword_by found)) (keyword_is name) ∙ among_code name (bytes_eq name (codes "fail")) refl
-      ∙ ap (λ k. (if bytes_eq name (codes "fail") then I.Efail else I.Keywd k) ∷ []) (sym (agree.keyword name))
+  pub keyword_same : (word : Keyword) → resolved_one S (keyword_instr word) ≡ X.keyword_instr word ∷ []
+  keyword_same K.Fail = refl
+  keyword_same word = refl
 
   pub literal_code_is : (N : X.SymbolTable) (F : List (List ℕ)) → AgreeOn S N F → (v : Literal) → resolved_one S (literal_instr v) ≡ X.literal_code N v ∷ []
   literal_code_is N F agree (Literals.Integer n) = ap (λ k. I.Int k ∷ []) (agree.integer n)

@@ -25,11 +25,11 @@ use Rattle.icn_translate.specs.declared.forms.UpdateForm.TheVariants.{Both as Up
 use Rattle.icn_translate.specs.declared.forms.PrefixForm.{PrefixForm}
 use Rattle.icn_translate.specs.declared.forms.PrefixForm.TheVariants.{Activation, Repetition, Operation}
 use Rattle.icn_translate.specs.Drafts.{Draft, ◌▹◌, put, next_label, with_label, with_number, put_variable, no_ways, in_loop, outside_loop, innermost, aside, put_next, put_last, case_end, in_case, outside_case, put_end}
-use Rattle.icn_translate.specs.Instructions.{literal_instr, known_keyword, keyword_by, keyword_instr, section_op, infix_form, update_form, prefix_form}
+use Rattle.icn_translate.specs.Instructions.{literal_instr, keyword_instr, section_op, infix_form, update_form, prefix_form}
 use Rattle.icn_translate.specs.NumbersTaken.{numbers, all_numbers, maybe_numbers, clause_numbers, initial_numbers, procedure_numbers}
 use Rattle.icn_translate.specs.OpenMarks.{OpenMarks, Outermost, Marked, Looped, Each, unmarks_for_break, unmarks_for_next, around}
 use Rattle.icn_translate.specs.ProcCodes.{first_draft, proc_code}
-use Rattle.icn_translate.specs.Translation.{count_of, is_empty, is_nothing, is_no_element, elements, bounded_code, create_code, if_mark, either_step, control_part, in_control, in_body, back, loop_end, prefix_by, plain_form, update, augmented_form, case_of, looped_body, translate, operands, arguments, conjunction, conjuncts, compound, creations, other_creations, subscripts, to_step, otherwise, looped_part, suspended_part, guarded_part, default_part, initially, body}
+use Rattle.icn_translate.specs.Translation.{count_of, is_empty, is_nothing, is_no_element, elements, bounded_code, create_code, if_mark, either_step, control_part, in_control, in_body, back, loop_end, keyword_code, prefix_by, plain_form, update, augmented_form, case_of, looped_body, translate, operands, arguments, conjunction, conjuncts, compound, creations, other_creations, subscripts, to_step, otherwise, looped_part, suspended_part, guarded_part, default_part, initially, body}
 use Rattle.icn_units.proofs.WrittenTrees.{and_intro, nat_le_of_le}
 use Rattle.law_link.proofs.Mentioning.{label_instrs, in_instrs, out_instrs, in_case_instrs, out_case_instrs}
 
@@ -184,13 +184,13 @@ literal_fits (Literals.Integer n) = refl
 literal_fits (Literals.Text bytes) = refl
 literal_fits (Literals.Cset members) = refl
 
-known_fits : (k : KeywordNamed) → count_fits (known_keyword k) ≡ true
-known_fits K.Fail = refl
-known_fits k = refl
+keyword_fits : (k : KeywordNamed) → count_fits (keyword_instr k) ≡ true
+keyword_fits K.Fail = refl
+keyword_fits k = refl
 
-keyword_fits : (k : Option KeywordNamed) → count_fits (keyword_by k) ≡ true
-keyword_fits None = refl
-keyword_fits (Some k) = known_fits k
+keyword_always : (found : Option KeywordNamed) → FitsAlways (keyword_code found)
+keyword_always None = nothing
+keyword_always (Some k) = put_always (keyword_instr k) (keyword_fits k)
 
 -- Operators
 
@@ -275,7 +275,7 @@ mutual
   tree_fits o Empty h = put_always I.Pnull refl
   tree_fits o (Constant place value) h = put_always (literal_instr value) (literal_fits value)
   tree_fits o (Identifier name) h = variable_always name.text
-  tree_fits o (Keyword place name) h = put_always (keyword_instr name.text) (keyword_fits (keyword_of name.text))
+  tree_fits o (Keyword place name) h = keyword_always (keyword_of name.text)
   tree_fits o (Parentheses place es) h = conjunction_fits o es h
   tree_fits o (Listing place es) h = then_put (I.Llist (elements es)) (elements_fit es h) (arguments_fit o es h)
   tree_fits o (Compound place es) h = compound_fits o es h

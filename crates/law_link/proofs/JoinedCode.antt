@@ -90,7 +90,6 @@ module _ (file : List Declaration) (fit : Fit (procedures_of file)) where
         let place = name_index (draft_of procedure).names name in
         ap (λ g. Linked.variable_at (Linked.variables g 0 0 (proc_code procedure).names) place) (table_globals file fit)
         ∙ variable_same (globals_of file) procedure h name among;
-    keyword = λ name. refl;
   }
 
   entry_same : (procedure : Procedure) → IsFit procedure → (first : ℕ)

@@ -31,9 +31,9 @@ use Rattle.icn_translate.specs.declared.forms.UpdateForm.TheVariants.{Both as Up
 use Rattle.icn_translate.specs.declared.forms.PrefixForm.{PrefixForm}
 use Rattle.icn_translate.specs.declared.forms.PrefixForm.TheVariants.{Activation, Repetition, Operation}
 use Rattle.icn_translate.specs.Drafts.{Draft, ◌▹◌, put, next_label, with_label, with_number, with_name, with_names, put_variable, no_ways, in_loop, outside_loop, innermost, aside, put_next, put_last, case_end, in_case, outside_case, put_end}
-use Rattle.icn_translate.specs.Instructions.{literal_instr, known_keyword, keyword_by, keyword_instr, section_op, infix_form, update_form, prefix_form}
+use Rattle.icn_translate.specs.Instructions.{literal_instr, keyword_instr, section_op, infix_form, update_form, prefix_form}
 use Rattle.icn_translate.specs.OpenMarks.{OpenMarks, Outermost, Marked, Looped, Each, unmarks_for_break, unmarks_for_next, around}
-use Rattle.icn_translate.specs.Translation.{is_empty, is_nothing, is_no_element, elements, bounded_code, create_code, if_mark, unless_empty, either_step, control_part, in_control, in_body, back, loop_end, prefix_by, plain_form, update, augmented_form, case_of, looped_body, translate, operands, arguments, conjunction, conjuncts, compound, creations, other_creations, subscripts, to_step, otherwise, looped_part, suspended_part, guarded_part, default_part, initially, body}
+use Rattle.icn_translate.specs.Translation.{is_empty, is_nothing, is_no_element, elements, bounded_code, create_code, if_mark, unless_empty, either_step, control_part, in_control, in_body, back, loop_end, keyword_code, prefix_by, plain_form, update, augmented_form, case_of, looped_body, translate, operands, arguments, conjunction, conjuncts, compound, creations, other_creations, subscripts, to_step, otherwise, looped_part, suspended_part, guarded_part, default_part, initially, body}
 use Rattle.law_link.proofs.FirstsOnce.{names_more}
 
 -- what an instruction of a unit takes from a table, as the first law has it
@@ -289,13 +289,13 @@ literal_taken (Literals.Integer n) = refl
 literal_taken (Literals.Text bytes) = refl
 literal_taken (Literals.Cset members) = refl
 
-known_taken : (k : KeywordNamed) → taken_by (known_keyword k) ≡ []
-known_taken K.Fail = refl
-known_taken k = refl
+keyword_taken : (k : KeywordNamed) → taken_by (keyword_instr k) ≡ []
+keyword_taken K.Fail = refl
+keyword_taken k = refl
 
-keyword_taken : (k : Option KeywordNamed) → taken_by (keyword_by k) ≡ []
-keyword_taken None = refl
-keyword_taken (Some k) = known_taken k
+keyword_adds : (found : Option KeywordNamed) → AddsAlways [] [] (keyword_code found)
+keyword_adds None = nothing_adds
+keyword_adds (Some k) = plain_adds (keyword_instr k) (keyword_taken k)
 
 -- Operators
 
@@ -467,7 +467,7 @@ mutual
   tree_adds o Empty f = plain_adds I.Pnull refl
   tree_adds o (Constant place value) f = always_as (literal_taken value) refl (put_adds (literal_instr value))
   tree_adds o (Identifier name) f = variable_adds name.text
-  tree_adds o (Keyword place name) f = plain_adds (keyword_instr name.text) (keyword_taken (keyword_of name.text))
+  tree_adds o (Keyword place name) f = keyword_adds (keyword_of name.text)
   tree_adds o (Parentheses place es) f = conjunction_adds o es (some_formed es f)
   tree_adds o (Listing place es) f = then_put (I.Llist (elements es)) refl (arguments_add o es (some_formed es f))
   tree_adds o (Compound place es) f = compound_adds o es (some_formed es f)

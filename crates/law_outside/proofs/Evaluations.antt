@@ -326,19 +326,19 @@ module _ (b : Lasting) where
     keyword None s w r st k = tt
 
     compound : (place : Place) (es : Trees) (s : Surroundings) (w : Works) (r : Choices) (st : Store) → K st → G (E.compound place es s w r st)
-    compound place NoTrees s w r st k = k
+    compound place NoTrees s w r st k = tt
     compound place (More e NoTrees) s w r st k = k
     compound place (More Empty (More e es)) s w r st k = compound place (More e es) s w r st k
     compound place (More d (More e es)) s w r st k = k
 
     conjunction : (place : Place) (es : Trees) (s : Surroundings) (w : Works) (r : Choices) (st : Store) → K st → G (E.conjunction place es s w r st)
-    conjunction place NoTrees s w r st k = k
+    conjunction place NoTrees s w r st k = tt
     conjunction place (More e NoTrees) s w r st k = k
     conjunction place (More d (More e es)) s w r st k = k
 
     subscripts : (place : Place) (x : Tree) (es : Trees) (s : Surroundings) (w : Works) (r : Choices) (st : Store) → K st
         → G (E.subscripts p place x es s w r st)
-    subscripts place x NoTrees s w r st k = k
+    subscripts place x NoTrees s w r st k = tt
     subscripts place x (More i NoTrees) s w r st k = k
     subscripts place x (More i (More j js)) s w r st k = subscripts place _ (More j js) s w r st k
 

@@ -1,13 +1,11 @@
 -- A tree that breaks no rule fits where it stands, if what it mentions stands in the tables: one line a form.
-use Rattle.std.proofs.Common.{◌≡◌, ◌||◌, ℕ, Bool, true, false, List, [], ◌∷◌, ◌++◌, Some, None, refl, sym, ap, ◌∙◌, subst, inl, inr}
-use Rattle.std.specs.Prelude.{◌⊎◌, slice_get, unwrap_or, codes, if◌then◌else◌}
+use Rattle.std.proofs.Common.{◌≡◌, ◌||◌, ℕ, Bool, true, false, List, [], ◌∷◌, ◌++◌, Some, None, refl, sym, subst, inl, inr}
+use Rattle.std.specs.Prelude.{◌⊎◌, slice_get, if◌then◌else◌}
 use Rattle.std.specs.List.{list_any}
 use Rattle.std.specs.Str.{bytes_eq}
 use Rattle.std.proofs.lemmas.Bool.{false≢true}
-use Rattle.std.proofs.lemmas.Slice.Eq.{bytes_eq-Decides}
 use Rattle.icn_text.specs.Keywords.{keyword_name}
 use Rattle.icn_text.specs.declared.keyword.Keyword.{Keyword as KeywordNamed}
-use Rattle.icn_text.specs.declared.keyword.Keyword.TheVariants as Keywords
 use Rattle.icn_text.specs.declared.keyword.TheConstants.Keyword.{ALL as keywords_of_all}
 use Rattle.icn_tree.specs.declared.token.Operator.{Operator}
 use Rattle.icn_tree.specs.declared.token.Operator.TheVariants as Signs
@@ -35,7 +33,7 @@ use Rattle.law_simulation.specs.Translation.{SymbolTable, literal_code}
 use Rattle.law_simulation.specs.Linkage.{Linkage, Loads, l_integer, l_string, l_cset}
 use Rattle.law_simulation.specs.Mentions.{TableMention, AnInteger, AText, ASet, AField, literal_mention, mentions, all_mentions, maybe_mentions, step_mentions, guarded_mentions, default_mentions, initial_mentions}
 use Rattle.law_simulation.specs.StandingCode.{Nest, top, in_create, in_mark, in_scan, in_loop, in_control, in_each, Proper, w_top, w_mark, w_scan, w_loop, w_control, w_each, is_empty}
-use Rattle.law_simulation.specs.Translatable.{outside, HasLoop, h_mark, h_scan, h_loop, h_control, h_each, HasNext, x_mark, x_scan, x_loop, x_each, Fits, fits_empty, fits_constant, fits_identifier, fits_keyword, fits_fail_keyword, fits_last, fits_before, fits_final, fits_passed, fits_bounded, fits_listing, fits_call, fits_cocall, fits_subscript, fits_section, fits_field, fits_prefix, fits_activate, fits_repeated, fits_not, fits_both, fits_scan, fits_or, fits_limit, fits_infix, fits_at, fits_bang, fits_update_both, fits_update_scan, fits_update_at, fits_update, fits_to, fits_if, fits_if_else, fits_case, fits_while, fits_until, fits_every, fits_repeat, fits_create, fits_next, fits_fail, fits_break, fits_return, fits_suspend, FitsAll, fits_nil, fits_cons, FitsBodies, fits_no_body, fits_body, FitsMaybe, fits_absent, fits_present, FitsDefault, fits_no_default, fits_default, FitsCases, fits_no_case, fits_other, fits_guard, FitsRest, fits_end, fits_skipped, fits_more, FitsRoutine, fits_plain, fits_blank, fits_initial}
+use Rattle.law_simulation.specs.Translatable.{outside, HasLoop, h_mark, h_scan, h_loop, h_control, h_each, HasNext, x_mark, x_scan, x_loop, x_each, Fits, fits_empty, fits_constant, fits_identifier, fits_keyword, fits_last, fits_before, fits_final, fits_passed, fits_bounded, fits_listing, fits_call, fits_cocall, fits_subscript, fits_section, fits_field, fits_prefix, fits_activate, fits_repeated, fits_not, fits_both, fits_scan, fits_or, fits_limit, fits_infix, fits_at, fits_bang, fits_update_both, fits_update_scan, fits_update_at, fits_update, fits_to, fits_if, fits_if_else, fits_case, fits_while, fits_until, fits_every, fits_repeat, fits_create, fits_next, fits_fail, fits_break, fits_return, fits_suspend, FitsAll, fits_nil, fits_cons, FitsBodies, fits_no_body, fits_body, FitsMaybe, fits_absent, fits_present, FitsDefault, fits_no_default, fits_default, FitsCases, fits_no_case, fits_other, fits_guard, FitsRest, fits_end, fits_skipped, fits_more, FitsRoutine, fits_plain, fits_blank, fits_initial}
 use Rattle.law_simulation.proofs.FirstMentions.{test_by}
 use Rattle.law_simulation.proofs.TreeForms.{is_before, is_between, IsInfix, FormedInitial, Formed, FormedMaybe, FormedSome, FormedAll, FormedClauses}
 
@@ -240,16 +238,15 @@ formed_all (More e es) f = f
 
 among_by : (text : List ℕ) (all : List KeywordNamed)
     → list_any (λ k. bytes_eq text (keyword_name k)) all ≡ true
-    → keyword_among text all ≡ Some (unwrap_or (keyword_among text all) Keywords.Null)
+    → (word : KeywordNamed) × (keyword_among text all ≡ Some word)
 among_by text [] h = absurd (false≢true h)
 among_by text (k ∷ all) h = by (bytes_eq text (keyword_name k)) h (among_by text all)
   where
     by : (b : Bool) → (b || list_any (λ k. bytes_eq text (keyword_name k)) all) ≡ true
         → (list_any (λ k. bytes_eq text (keyword_name k)) all ≡ true
-        → keyword_among text all ≡ Some (unwrap_or (keyword_among text all) Keywords.Null))
-        → (if b then Some k else keyword_among text all) ≡ Some
-        (unwrap_or (if b then Some k else keyword_among text all) Keywords.Null)
-    by true h next = refl
+        → (word : KeywordNamed) × (keyword_among text all ≡ Some word))
+        → (word : KeywordNamed) × ((if b then Some k else keyword_among text all) ≡ Some word)
+    by true h next = (k, refl)
     by false h next = next h
 
 known_by : (b : Bool) (place : Place) → (if b then None else Some place) ≡ None → b ≡ true
@@ -369,14 +366,11 @@ IsKept L N (ASet members) = (set : Cset) × (slice_get L.tables.csets (N.set mem
     × (members_of set ≡ members)
 IsKept L N (AField name) = Unit {0}
 
--- each name of a procedure has the instruction of its variable, each field is told by its number, and
--- keywords are those of their names
+-- each name of a procedure has the instruction of its variable, and each field is told by its number
 pub record AreNamed (L : Linkage) (N : SymbolTable) (j : ℕ) : Type 0 where
   pub variables : (name : List ℕ) → Loads L j (N.variable name) (Var (Whole (meaning_of L.program j name)))
   pub fields : (name : List ℕ) (kind : ℕ)
       → index_of name (fields_in (slice_get L.program.kinds kind)) ≡ field_index L.tables (N.field name) kind
-  pub keywords : (name : List ℕ) → N.keyword name ≡ unwrap_or (keyword_among name keywords_of_all)
-      Keywords.Null
 
 module _ (L : Linkage) (N : SymbolTable) (j : ℕ) (named : AreNamed L N j) where
   abbrev CleanHere : List BrokenRule → List Name → List TableMention → Type 0
@@ -394,10 +388,7 @@ module _ (L : Linkage) (N : SymbolTable) (j : ℕ) (named : AreNamed L N j) wher
       → Fits L N j n (Keyword place name)
   fit_keyword place name h =
       let found = among_by name.text keywords_of_all (known_by (is_known name.text) name.place h) in
-      test_by (bytes_eq name.text (codes "fail"))
-      (λ e. fits_fail_keyword (ap (λ text. keyword_among text keywords_of_all)
-      ((bytes_eq-Decides name.text (codes "fail")).0 e)) e)
-      (λ e. fits_keyword (found ∙ ap (λ k. Some k) (sym (named.keywords name.text))) e)
+      fits_keyword found.1
 
   fit_field : {n : Nest} (place : Place) (x : Tree) (name : Name) → Fits L N j n x
       → Fits L N j n (Field place x name)

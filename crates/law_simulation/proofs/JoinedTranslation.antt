@@ -326,7 +326,6 @@ module _ (D : List Declaration) (csets : List Cset) (members : map members_of cs
         ∙ ap (λ o. option_and_then (λ (entry : RecordType).
         position (λ other. other == text_index (fields_of D) name) entry.fields) o)
         (sym (slice_get-map (record_entry D) (kinds_of D) kind));
-    keywords = λ name. refl;
   }
 
   -- The procedures

@@ -1,14 +1,17 @@
 -- The translation's code of a tree stands where it sits.
-use Rattle.std.proofs.Common.{◌≡◌, ℕ, zero, suc, ◌+◌, ◌-◌, Bool, true, false, ◌≤◌, List, [], ◌∷◌, ◌++◌, replicate, Option, Some, refl, sym, ap, ◌∙◌, subst, arith}
-use Rattle.std.specs.Prelude.{codes, if◌then◌else◌}
-use Rattle.std.specs.Str.{bytes_eq}
+use Rattle.std.proofs.Common.{◌≡◌, ℕ, zero, suc, ◌+◌, ◌-◌, Bool, false, ◌≤◌, List, [], ◌∷◌, ◌++◌, replicate, Option, Some, refl, sym, ap, ◌∙◌, subst, arith}
+use Rattle.std.specs.Prelude.{if◌then◌else◌}
 use Rattle.icn_code.specs.declared.instr.Instr.{Instr}
 use Rattle.icn_code.specs.declared.instr.Instr.TheVariants as I
 use Rattle.icn_defs.specs.Arities.{arity}
+use Rattle.icn_text.specs.declared.keyword.Keyword.{Keyword}
+use Rattle.icn_text.specs.declared.keyword.Keyword.TheVariants as Keywords
+use Rattle.icn_text.specs.declared.keyword.TheConstants.Keyword.{ALL as keywords}
 use Rattle.icn_text.specs.declared.op.Op.{Op}
 use Rattle.icn_text.specs.declared.op.Op.TheVariants as Ops
 use Rattle.icn_tree.specs.declared.token.Operator.{Operator}
 use Rattle.icn_tree.specs.declared.tree.Place.{Place}
+use Rattle.icn_tree.specs.declared.tree.Name.{Name}
 use Rattle.icn_tree.specs.Trees as T
 use Rattle.icn_tree.specs.declared.tree.Infix.TheVariants as Infixes
 use Rattle.icn_tree.specs.Trees.{Tree, Trees, MaybeTree, Clauses, Absent, Present, NoTrees, More, Default, Guarded, NoClauses, MoreClauses, elements_of}
@@ -17,12 +20,12 @@ use Rattle.icn_meaning.specs.Contexts.{Application, Operating}
 use Rattle.icn_meaning.specs.Operators.{section_op}
 use Rattle.icn_tree.specs.declared.tree.SectionKind.TheVariants.{Between, Forward, Backward}
 use Rattle.icn_meaning.specs.Succeed.{default_of}
-use Rattle.icn_meaning.specs.Evaluate.{step_of, creations}
+use Rattle.icn_meaning.specs.Evaluate.{keyword_among, step_of, creations}
 use Rattle.law_simulation.specs.Translation as X
 use Rattle.law_simulation.specs.Translation.{SymbolTable, Depth, LoopExits, deeper, size, sizes, code, operands, elements_size, elements_code, body_size, body_code, literal_code}
 use Rattle.law_simulation.specs.Linkage.{Linkage, Here, Loads, l_null, l_integer, l_string, l_cset, l_local, l_static, l_global, IsAppliedBy, f_operation, f_call, f_spread, f_list, f_field, f_activate, Opens, o_mark, o_mark0}
 use Rattle.law_simulation.specs.StandingCode.{LeavesLoop, b_mark, b_scan, b_loop, b_control, b_each, Nexts, n_mark, n_scan, n_loop, n_each, Nest, top, in_create, in_mark, in_scan, in_loop, in_control, in_each, IsApplied, i_listing, i_call, i_cocall, i_subscript, i_subscripts, i_section, i_field, i_prefix, i_activate, i_infix, i_at, i_bang, i_to, d_activate, d_operate, tree_count, Stands, s_empty, s_constant, s_identifier, s_keyword, s_fail_keyword, s_applied, s_last, s_before, s_final, s_passed, s_bounded, s_repeated, s_not, s_both, s_scan, s_or, s_limit, s_update_both, s_update_scan, s_update, s_if, s_if_else, s_case, s_while, s_until, s_every, s_repeat, s_create, s_next, s_fail, s_break, s_return, s_suspend, StandsAll, s_nil, s_cons, StandsMaybe, s_absent, s_present, StandsCases, s_none, s_default, s_pass, s_guard, s_body, is_empty}
-use Rattle.law_simulation.specs.Translatable.{depths, ways_of, Fits, fits_empty, fits_constant, fits_identifier, fits_keyword, fits_fail_keyword, fits_last, fits_before, fits_final, fits_passed, fits_bounded, fits_listing, fits_call, fits_cocall, fits_subscript, fits_section, fits_field, fits_prefix, fits_activate, fits_repeated, fits_not, fits_both, fits_scan, fits_or, fits_limit, fits_infix, fits_at, fits_bang, fits_update_both, fits_update_scan, fits_update_at, fits_update, fits_to, fits_if, fits_if_else, fits_case, fits_while, fits_until, fits_every, fits_repeat, fits_create, fits_next, fits_fail, fits_break, fits_return, fits_suspend, FitsAll, fits_nil, fits_cons, FitsBodies, fits_no_body, fits_body, outside, HasLoop, h_mark, h_scan, h_loop, h_control, h_each, HasNext, x_mark, x_scan, x_loop, x_each, FitsMaybe, fits_absent, fits_present, FitsDefault, fits_no_default, fits_default, FitsCases, fits_no_case, fits_other, fits_guard}
+use Rattle.law_simulation.specs.Translatable.{depths, ways_of, Fits, fits_empty, fits_constant, fits_identifier, fits_keyword, fits_last, fits_before, fits_final, fits_passed, fits_bounded, fits_listing, fits_call, fits_cocall, fits_subscript, fits_section, fits_field, fits_prefix, fits_activate, fits_repeated, fits_not, fits_both, fits_scan, fits_or, fits_limit, fits_infix, fits_at, fits_bang, fits_update_both, fits_update_scan, fits_update_at, fits_update, fits_to, fits_if, fits_if_else, fits_case, fits_while, fits_until, fits_every, fits_repeat, fits_create, fits_next, fits_fail, fits_break, fits_return, fits_suspend, FitsAll, fits_nil, fits_cons, FitsBodies, fits_no_body, fits_body, outside, HasLoop, h_mark, h_scan, h_loop, h_control, h_each, HasNext, x_mark, x_scan, x_loop, x_each, FitsMaybe, fits_absent, fits_present, FitsDefault, fits_no_default, fits_default, FitsCases, fits_no_case, fits_other, fits_guard}
 use Rattle.law_simulation.proofs.OperatorForms.{prefix_is, prefix_arity, infix_is, infix_arity, update_is, update_arity}
 use Rattle.law_simulation.proofs.Segments.{Plain, CodePart, part_nil, part_cons, part_append, part_map, part_repeat}
 
@@ -34,6 +37,10 @@ loads_plain (l_cset e) k = refl
 loads_plain l_local k = refl
 loads_plain l_static k = refl
 loads_plain l_global k = refl
+
+keyword_plain : (word : Keyword) → Plain (X.keyword_instr word)
+keyword_plain Keywords.Fail i = refl
+keyword_plain word i = refl
 
 counts : (es : Trees) → X.count_of es ≡ tree_count es
 counts NoTrees = refl
@@ -166,13 +173,22 @@ module _ (L : Linkage) (N : SymbolTable) (j : ℕ) where
       (p + X.augmented_size form (size D a) (size D b))) in
       subst Q (sym eq) g
 
-  keyword_by : {n : Nest} {e : Tree} {p q : ℕ} (b : Bool) (text : List ℕ) (i : Instr)
-      → bytes_eq text (codes "fail") ≡ b → (if b then I.Efail else I.Keywd (N.keyword text)) ≡ i
-      → CodePart L j p 1 (i ∷ []) (Stands L j n e p q)
-      → CodePart L j p 1 (X.keyword_code N text ∷ []) (Stands L j n e p q)
-  keyword_by {n} {e} {p} {q} b text i eb ei g =
-      subst (λ i. CodePart L j p 1 (i ∷ []) (Stands L j n e p q))
-      (sym (ap (λ (b : Bool). if b then I.Efail else I.Keywd (N.keyword text)) eb ∙ ei)) g
+  stands_keyword : {n : Nest} {place : Place} {name : Name} {p : ℕ} (word : Keyword)
+      → keyword_among name.text keywords ≡ Some word → Here L j p (X.keyword_instr word)
+      → Stands L j n (T.Keyword place name) p (suc p)
+  stands_keyword Keywords.Fail e h = s_fail_keyword e h
+  stands_keyword word e h = s_keyword e h
+
+  keyword_by : {n : Nest} {place : Place} {name : Name} (p : ℕ) (word : Keyword)
+      → keyword_among name.text keywords ≡ Some word → Good n (T.Keyword place name) p
+  keyword_by {n} {place} {name} p word e =
+      let Q : Option Keyword → Type 0 = λ found.
+      CodePart L j p (X.keyword_size found) (X.keyword_code found)
+      (Stands L j n (T.Keyword place name) p (p + X.keyword_size found)) in
+      let g : CodePart L j p 1 (X.keyword_instr word ∷ []) (Stands L j n (T.Keyword place name) p (p + 1)) =
+      part_map L j (part_cons L j (X.keyword_instr word) (keyword_plain word) refl (part_nil L j _)) refl
+      (λ x. ends refl (omega arith) (stands_keyword word e x.0)) in
+      subst Q (sym e) g
 
   bounded_by : {n : Nest} {place : Place} {d e : Tree} {es : Trees} (p : ℕ) → is_empty d ≡ false
       → Good (in_mark n) d (p + 1) → Good n (T.Compound place (More e es))
@@ -595,14 +611,7 @@ module _ (L : Linkage) (N : SymbolTable) (j : ℕ) where
         (ends (omega arith) refl x.2.0) x.2.1.0 x.2.1.2.0))
     translation_stands p (fits_fail w) = part_map L j (part_cons L j I.Pfail (λ i. refl) refl (part_nil L j _)) refl
         (λ x. ends refl (omega arith) (s_fail w x.0))
-    translation_stands p (fits_keyword {n = n} {name = name} e1 e2) =
-        keyword_by false name.text _ e2 refl
-        (part_map L j (part_cons L j (I.Keywd (N.keyword name.text)) (λ i. refl) refl (part_nil L j _)) refl
-        (λ x. ends refl (omega arith) (s_keyword e1 x.0)))
-    translation_stands p (fits_fail_keyword {n = n} {name = name} e1 e2) =
-        keyword_by true name.text _ e2 refl
-        (part_map L j (part_cons L j I.Efail (λ i. refl) refl (part_nil L j _)) refl
-        (λ x. ends refl (omega arith) (s_fail_keyword e1 x.0)))
+    translation_stands p (fits_keyword {word = word} e) = keyword_by p word e
     translation_stands p (fits_bounded {n = n} {d = td} ne d e) =
         bounded_by p ne (translation_stands (p + 1) d) (translation_stands (p + size (depths (in_mark n)) td + 2) e)
     translation_stands p (fits_prefix {n = n} {o = o} {op = op} {e = te} h e) =

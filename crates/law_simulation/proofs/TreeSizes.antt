@@ -1,13 +1,16 @@
 -- The size of a tree is the length of its code.
 use Rattle.std.proofs.Common.{◌≡◌, ℕ, zero, suc, ◌+◌, List, [], ◌∷◌, ◌++◌, length, Option, Some, None, refl, ap, arith, length-append, Bool, true, false, if◌then◌else◌}
 use Rattle.std.specs.Prelude.{replicate}
+use Rattle.icn_text.specs.declared.keyword.Keyword.{Keyword as KeywordNamed}
+use Rattle.icn_text.specs.declared.keyword.TheConstants.Keyword.{ALL as keywords}
 use Rattle.icn_text.specs.declared.op.Op.TheVariants as Ops
 use Rattle.icn_tree.specs.declared.tree.Infix.TheVariants.{Plain, Augmented}
 use Rattle.icn_tree.specs.declared.tree.LoopKind.TheVariants.{While, Until, Every}
 use Rattle.icn_tree.specs.Trees.{Tree, MaybeTree, Trees, Clause, Clauses, Empty, Constant, Identifier, Keyword, Parentheses, Listing, Compound, Call, CoCall, Subscript, Section, Field, Prefix, Not, Binary, To, If, Case, Loop, Repeat, Create, Next, Fail, Break, Return, Suspend, Absent, Present, NoTrees, More, Default, Guarded, NoClauses, MoreClauses}
 use Rattle.icn_code.specs.declared.instr.Instr.{Instr}
 use Rattle.icn_code.specs.declared.instr.Instr.TheVariants as I
-use Rattle.law_simulation.specs.Translation.{SymbolTable, Depth, LoopExits, loop_of, deeper, opened_in, dropped_by_next, around, last_way, next_way, is_empty, is_nothing, is_no_element, elements, BinaryForm, Both, Scanning, Either, Limiting, Applying, form_of, UpdateForm, UpdatesBoth, UpdatesScanning, UpdatesBy, update_of, PrefixForm, Activating, Repeating, Operating, prefix_of, section_op, prefix_size, plain_size, augmented_size, prefix_code, plain_code, augmented_code, size, sizes, elements_size, conjunction_size, compound_size, bodies_size, creates_size, subscripts_size, by_size, if_size, body_size, clauses_size, clause_size, default_size, is_default_size, ways, create_code, code, operands, elements_code, conjunction, compound, bodies_code, creates, subscripts, by_code, if_code, body_code, clauses_code, clause_code, default_code, is_default}
+use Rattle.icn_meaning.specs.Evaluate.{keyword_among}
+use Rattle.law_simulation.specs.Translation.{SymbolTable, Depth, LoopExits, loop_of, deeper, opened_in, dropped_by_next, around, last_way, next_way, is_empty, is_nothing, is_no_element, elements, BinaryForm, Both, Scanning, Either, Limiting, Applying, form_of, UpdateForm, UpdatesBoth, UpdatesScanning, UpdatesBy, update_of, PrefixForm, Activating, Repeating, Operating, prefix_of, section_op, keyword_size, prefix_size, plain_size, augmented_size, keyword_code, prefix_code, plain_code, augmented_code, size, sizes, elements_size, conjunction_size, compound_size, bodies_size, creates_size, subscripts_size, by_size, if_size, body_size, clauses_size, clause_size, default_size, is_default_size, ways, create_code, code, operands, elements_code, conjunction, compound, bodies_code, creates, subscripts, by_code, if_code, body_code, clauses_code, clause_code, default_code, is_default}
 
 la : (xs ys : List Instr) → length (xs ++ ys) ≡ length xs + length ys
 la xs ys = length-append xs ys
@@ -24,6 +27,10 @@ copies (suc n) i = ap suc (copies n i)
 -- what is known of a tree's parts
 abbrev Sized : SymbolTable → Tree → Type 0
 Sized N e = (D : List Depth) (W : List LoopExits) (p : ℕ) → length (code N D W p e) ≡ size D e
+
+keyword_len : (found : Option KeywordNamed) → length (keyword_code found) ≡ keyword_size found
+keyword_len (Some keyword) = refl
+keyword_len None = refl
 
 prefix_len : (N : SymbolTable) (D : List Depth) (W : List LoopExits) (p : ℕ) (e : Tree) (f : Option PrefixForm) → Sized N e
     → length (prefix_code f (λ p. code N D W p e) (λ p. code N (deeper D) W p e) p)
@@ -82,7 +89,7 @@ mutual
   code_size N Empty D W p = refl
   code_size N (Constant place value) D W p = refl
   code_size N (Identifier name) D W p = refl
-  code_size N (Keyword place name) D W p = refl
+  code_size N (Keyword place name) D W p = keyword_len (keyword_among name.text keywords)
   code_size N (Parentheses place es) D W p = conjunction_len N es D W p
   code_size N (Listing place es) D W p = let a = elements_len N es D W p in let b =
       la (elements_code N D W p es) (I.Llist (elements es) ∷ []) in omega arith

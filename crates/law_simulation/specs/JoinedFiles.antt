@@ -2,13 +2,11 @@
 -- instruction, a record or a procedure
 -- mentions stands in the tables once, in the order of first mention as the tables are written: fields,
 -- records, globals, procedures, instructions.
-use Rattle.std.specs.Prelude.{◌≡◌, ℕ, ◌+◌, ◌-◌, ℤ, Bool, true, false, List, ◌++◌, length, map, Option, Some, None, unwrap_or}
+use Rattle.std.specs.Prelude.{◌≡◌, ℕ, ◌+◌, ◌-◌, ℤ, Bool, true, false, List, ◌++◌, length, map, Option, Some, None}
 use Rattle.std.specs.List.{flat_map, position_or_len}
 use Rattle.std.specs.Ordering.{int_eq}
 use Rattle.std.specs.Str.{bytes_eq}
 use Rattle.icn_text.specs.declared.func.Func.{Func}
-use Rattle.icn_text.specs.declared.keyword.Keyword.TheVariants.{Null as NullKeyword}
-use Rattle.icn_text.specs.declared.keyword.TheConstants.Keyword.{ALL as keywords}
 use Rattle.icn_tree.specs.Trees.{Declaration}
 use Rattle.icn_value.specs.declared.cset.Cset.{Cset}
 use Rattle.icn_code.specs.declared.code.Global.{Global}
@@ -18,7 +16,6 @@ use Rattle.icn_code.specs.declared.instr.Instr.{Instr}
 use Rattle.icn_code.specs.declared.instr.Instr.TheVariants as Instrs
 use Rattle.icn_code.specs.Codes.{RecordType, Proc, Tables}
 use Rattle.icn_meaning.specs.Program.{Routine, Constructor, joined_declarations, index_of, has_name, function_named, globals_of, global_names, procedures_of, kinds_of, kind_names, routine_names, routines_of}
-use Rattle.icn_meaning.specs.Evaluate.{keyword_among}
 use Rattle.icn_run.specs.Step.{members_of}
 use Rattle.law_simulation.specs.Translation.{SymbolTable, procedure}
 use Rattle.law_simulation.specs.Mentions.{TableMention, all_mentions, initial_mentions, integers_among, texts_among, sets_among, fields_among, firsts}
@@ -90,7 +87,6 @@ names_in declarations routine = record {
   set = text_index (sets_of declarations);
   variable = λ name. variable_by (index_of name routine.locals) (index_of name routine.statics)
       (index_of name (globals_of declarations));
-  keyword = λ name. unwrap_or (keyword_among name keywords) NullKeyword;
   field = text_index (fields_of declarations);
 }
 

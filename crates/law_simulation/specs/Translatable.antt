@@ -1,10 +1,8 @@
--- The trees whose translation stands: names and literals are in the tables, operators have their
--- instructions, and `break`, `next`, `return`, `fail` and
--- `suspend` stand where they may.
-use Rattle.std.specs.Prelude.{◌≡◌, ℕ, true, false, List, [], ◌∷◌, Some, codes, slice_get}
-use Rattle.std.specs.Str.{bytes_eq}
+-- The trees whose translation stands: names and literals are in the tables, keywords are known, operators have
+-- their instructions, and `break`, `next`, `return`, `fail` and `suspend` stand where they may.
+use Rattle.std.specs.Prelude.{◌≡◌, ℕ, false, List, [], ◌∷◌, Some, slice_get}
 use Rattle.icn_text.specs.declared.op.Op.{Op}
-use Rattle.icn_text.specs.declared.keyword.Keyword.TheVariants as Keywords
+use Rattle.icn_text.specs.declared.keyword.Keyword.{Keyword}
 use Rattle.icn_text.specs.declared.keyword.TheConstants.Keyword.{ALL as keywords}
 use Rattle.icn_tree.specs.declared.token.Operator.{Operator}
 use Rattle.icn_tree.specs.declared.token.Operator.TheVariants as Signs
@@ -80,12 +78,8 @@ mutual
     fits_identifier : {n : Nest} {name : Name}
         → Loads L j (N.variable name.text) (Var (Whole (meaning_of L.program j name.text)))
         → Fits L N j n (T.Identifier name)
-    fits_keyword : {n : Nest} {place : Place} {name : Name}
-        → keyword_among name.text keywords ≡ Some (N.keyword name.text)
-        → bytes_eq name.text (codes "fail") ≡ false → Fits L N j n (T.Keyword place name)
-    fits_fail_keyword : {n : Nest} {place : Place} {name : Name}
-        → keyword_among name.text keywords ≡ Some Keywords.Fail → bytes_eq name.text (codes "fail") ≡ true
-        → Fits L N j n (T.Keyword place name)
+    fits_keyword : {n : Nest} {place : Place} {name : Name} {word : Keyword}
+        → keyword_among name.text keywords ≡ Some word → Fits L N j n (T.Keyword place name)
     fits_last : {n : Nest} {place : Place} {e : Tree} → Fits L N j n e
         → Fits L N j n (T.Parentheses place (More e NoTrees))
     fits_before : {n : Nest} {place : Place} {d e : Tree} {es : Trees} → Fits L N j n d

@@ -1,8 +1,9 @@
 -- The translation of a tree to instructions, whose labels are places. What stands in front of an
 -- instruction is counted by sizes.
-use Rattle.std.specs.Prelude.{ℕ, suc, ◌+◌, ◌-◌, ℤ, pos, Bool, true, false, List, [], ◌∷◌, ◌++◌, Option, Some, None, replicate, codes, if◌then◌else◌}
-use Rattle.std.specs.Str.{bytes_eq}
+use Rattle.std.specs.Prelude.{ℕ, suc, ◌+◌, ◌-◌, ℤ, pos, Bool, true, false, List, [], ◌∷◌, ◌++◌, Option, Some, None, replicate, if◌then◌else◌}
 use Rattle.icn_text.specs.declared.keyword.Keyword.{Keyword as KeywordNamed}
+use Rattle.icn_text.specs.declared.keyword.Keyword.TheVariants as Keywords
+use Rattle.icn_text.specs.declared.keyword.TheConstants.Keyword.{ALL as keywords}
 use Rattle.icn_text.specs.declared.op.Op.{Op}
 use Rattle.icn_text.specs.declared.op.Op.TheVariants as Ops
 use Rattle.icn_tree.specs.declared.token.Operator.{Operator}
@@ -16,6 +17,7 @@ use Rattle.icn_tree.specs.declared.tree.LoopKind.TheVariants.{While, Until, Ever
 use Rattle.icn_tree.specs.Trees.{Initial, NoInitial, Initially, Tree, MaybeTree, Trees, Clause, Clauses, Empty, Constant, Identifier, Keyword, Parentheses, Listing, Compound, Call, CoCall, Subscript, Section, Field, Prefix, Not, Binary, To, If, Case, Loop, Repeat, Create, Next, Fail, Break, Return, Suspend, Absent, Present, NoTrees, More, Default, Guarded, NoClauses, MoreClauses}
 use Rattle.icn_code.specs.declared.instr.Instr.{Instr}
 use Rattle.icn_code.specs.declared.instr.Instr.TheVariants as I
+use Rattle.icn_meaning.specs.Evaluate.{keyword_among}
 
 -- what the names and the literals of a procedure stand for
 pub record SymbolTable : Type 0 where
@@ -23,7 +25,6 @@ pub record SymbolTable : Type 0 where
   pub string : List ℕ → ℕ
   pub set : List ℕ → ℕ
   pub variable : List ℕ → Instr
-  pub keyword : List ℕ → KeywordNamed
   pub field : List ℕ → ℕ
 
 -- of an open loop: the marks opened in it and still open, and how many of these stay open at its next pass
@@ -242,6 +243,11 @@ section_op Backward = Ops.SectionMinus
 
 -- Sizes
 
+-- a keyword; one that is unknown never stands in a program, and has no code
+abbrev pub keyword_size : Option KeywordNamed → ℕ
+keyword_size (Some keyword) = 1
+keyword_size None = 0
+
 -- an operator before its operand, of these sizes: as it stands, and in a mark
 abbrev pub prefix_size : Option PrefixForm → (operand marked : ℕ) → ℕ
 prefix_size (Some Activating) operand marked = operand + 2
@@ -271,7 +277,7 @@ abbrev mutual
   size D Empty = 1
   size D (Constant place value) = 1
   size D (Identifier name) = 1
-  size D (Keyword place name) = 1
+  size D (Keyword place name) = keyword_size (keyword_among name.text keywords)
   size D (Parentheses place es) = conjunction_size D es
   size D (Listing place es) = elements_size D es + 1
   size D (Compound place es) = compound_size D es
@@ -377,8 +383,14 @@ literal_code N (Literals.Text bytes) = I.Str (N.string bytes)
 literal_code N (Literals.Cset bytes) = I.Cset (N.set bytes)
 
 -- the instruction of a keyword; `&fail` fails at once
-abbrev pub keyword_code : SymbolTable → List ℕ → Instr
-keyword_code N text = if bytes_eq text (codes "fail") then I.Efail else I.Keywd (N.keyword text)
+abbrev pub keyword_instr : KeywordNamed → Instr
+keyword_instr Keywords.Fail = I.Efail
+keyword_instr keyword = I.Keywd keyword
+
+-- the code of a keyword; one that is unknown never stands in a program
+abbrev pub keyword_code : Option KeywordNamed → List Instr
+keyword_code (Some keyword) = keyword_instr keyword ∷ []
+keyword_code None = []
 
 -- a co-expression with a body of some size
 abbrev pub create_code : ℕ → ℕ → List Instr → List Instr
@@ -417,7 +429,7 @@ abbrev mutual
   code N D W p Empty = I.Pnull ∷ []
   code N D W p (Constant place value) = literal_code N value ∷ []
   code N D W p (Identifier name) = N.variable name.text ∷ []
-  code N D W p (Keyword place name) = keyword_code N name.text ∷ []
+  code N D W p (Keyword place name) = keyword_code (keyword_among name.text keywords)
   code N D W p (Parentheses place es) = conjunction N D W p es
   code N D W p (Listing place es) = elements_code N D W p es ++ I.Llist (elements es) ∷ []
   code N D W p (Compound place es) = compound N D W p es

@@ -1,15 +1,18 @@
 -- The noted code without its notes is the code, and as long as its size.
 use Rattle.std.proofs.Common.{◌≡◌, ℕ, zero, suc, ◌+◌, List, [], ◌∷◌, ◌++◌, length, Option, Some, None, refl, sym, ap, ◌∙◌, append_assoc, Bool, true, false, if◌then◌else◌}
 use Rattle.std.specs.Prelude.{replicate}
+use Rattle.icn_text.specs.declared.keyword.Keyword.{Keyword as KeywordNamed}
+use Rattle.icn_text.specs.declared.keyword.TheConstants.Keyword.{ALL as keywords}
 use Rattle.icn_text.specs.declared.op.Op.TheVariants as Ops
 use Rattle.icn_tree.specs.declared.tree.Infix.TheVariants.{Plain, Augmented}
 use Rattle.icn_tree.specs.declared.tree.LoopKind.TheVariants.{While, Until, Every}
 use Rattle.icn_tree.specs.Trees.{Initial, NoInitial, Initially, Tree, MaybeTree, Trees, Clause, Clauses, Empty, Constant, Identifier, Keyword, Parentheses, Listing, Compound, Call, CoCall, Subscript, Section, Field, Prefix, Not, Binary, To, If, Case, Loop, Repeat, Create, Next, Fail, Break, Return, Suspend, Absent, Present, NoTrees, More, Default, Guarded, NoClauses, MoreClauses}
 use Rattle.icn_code.specs.declared.instr.Instr.{Instr}
 use Rattle.icn_code.specs.declared.instr.Instr.TheVariants as I
+use Rattle.icn_meaning.specs.Evaluate.{keyword_among}
 use Rattle.law_simulation.specs.Translation.{bodies_size, SymbolTable, Depth, LoopExits, loop_of, deeper, opened_in, dropped_by_next, around, is_empty, is_nothing, is_no_element, BinaryForm, Both, Scanning, Either, Limiting, Applying, form_of, UpdateForm, UpdatesBoth, UpdatesScanning, UpdatesBy, update_of, PrefixForm, Activating, Repeating, Operating, prefix_of, size, elements_size, by_size, body_size, clauses_size, clause_size, default_size, ways, bounded_size}
 use Rattle.law_simulation.specs.Translation as C
-use Rattle.law_verified.specs.Noted.{bodies_code, NotedShape, Note, start, more, in_mark, within, Limited, with_scan, drops, without_mark, unmarks, create_notes, code, operands, elements_code, conjunction, compound, creates, subscripts, by_code, body_code, clauses_code, clause_code, default_code, prefix_code, plain_code, augmented_code, instrs, bounded_notes, body, procedure}
+use Rattle.law_verified.specs.Noted.{bodies_code, NotedShape, Note, start, more, in_mark, within, Limited, with_scan, drops, without_mark, unmarks, create_notes, code, operands, elements_code, conjunction, compound, creates, subscripts, by_code, body_code, clauses_code, clause_code, default_code, keyword_notes, prefix_code, plain_code, augmented_code, instrs, bounded_notes, body, procedure}
 use Rattle.law_simulation.proofs.TreeSizes as Z
 
 cat : (xs ys : List Note) → instrs (xs ++ ys) ≡ instrs xs ++ instrs ys
@@ -32,6 +35,10 @@ unmarked (suc n) s = next I.Unmark (unmarked n (without_mark s))
 
 abbrev Noted : SymbolTable → Tree → Type 0
 Noted N e = (D : List Depth) (W : List LoopExits) (p : ℕ) (s : NotedShape) → instrs (code N D W p s e) ≡ C.code N D W p e
+
+keyword_noted : (s : NotedShape) (found : Option KeywordNamed) → instrs (keyword_notes s found) ≡ C.keyword_code found
+keyword_noted s (Some word) = refl
+keyword_noted s None = refl
 
 prefix_noted : (N : SymbolTable) (D : List Depth) (W : List LoopExits) (p : ℕ) (s : NotedShape) (e : Tree) (f : Option PrefixForm) → Noted N e
     → instrs (prefix_code D p s (λ D' p' s'. code N D' W p' s' e) f)
@@ -69,7 +76,7 @@ mutual
   noted N Empty D W p s = refl
   noted N (Constant place value) D W p s = refl
   noted N (Identifier name) D W p s = refl
-  noted N (Keyword place name) D W p s = refl
+  noted N (Keyword place name) D W p s = keyword_noted s (keyword_among name.text keywords)
   noted N (Parentheses place es) D W p s = conjunction_noted N es D W p s
   noted N (Listing place es) D W p s = join _ _ (elements_noted N es D W p s) refl
   noted N (Compound place es) D W p s = compound_noted N es D W p s

@@ -1,7 +1,7 @@
 -- The noted code of a tree is neat.
-use Rattle.std.proofs.Common.{◌≡◌, ℕ, suc, ◌+◌, ◌≤◌, Bool, true, false, List, [], ◌∷◌, ◌++◌, Option, refl, sym, ◌∙◌, subst, arith, append_assoc, if◌then◌else◌}
-use Rattle.std.specs.Prelude.{codes}
-use Rattle.std.specs.Str.{bytes_eq}
+use Rattle.std.proofs.Common.{◌≡◌, ℕ, suc, ◌+◌, ◌≤◌, Bool, true, false, List, [], ◌∷◌, ◌++◌, Option, refl, sym, ◌∙◌, subst, arith, append_assoc}
+use Rattle.icn_text.specs.declared.keyword.Keyword.{Keyword}
+use Rattle.icn_text.specs.declared.keyword.Keyword.TheVariants as Keywords
 use Rattle.icn_code.specs.declared.instr.Instr.{Instr}
 use Rattle.icn_code.specs.declared.instr.Instr.TheVariants as I
 use Rattle.icn_tree.specs.declared.token.Operator.{Operator}
@@ -9,10 +9,10 @@ use Rattle.icn_tree.specs.declared.tree.Infix.TheVariants.{Plain, Augmented}
 use Rattle.icn_tree.specs.declared.tree.LoopKind.TheVariants.{While, Until, Every}
 use Rattle.icn_tree.specs.Trees as T
 use Rattle.icn_tree.specs.Trees.{Tree, Trees, MaybeTree, Clauses, Absent, Present, NoTrees, More, Default, Guarded, NoClauses, MoreClauses}
-use Rattle.law_simulation.specs.Translation.{bodies_size, SymbolTable, Depth, LoopExits, loop_of, ways, deeper, opened_in, dropped_by_next, around, size, sizes, elements_size, conjunction_size, compound_size, creates_size, subscripts_size, by_size, body_size, clauses_size, default_size, keyword_code, BinaryForm, UpdateForm, PrefixForm, prefix_size, plain_size, augmented_size}
+use Rattle.law_simulation.specs.Translation.{bodies_size, SymbolTable, Depth, LoopExits, loop_of, ways, deeper, opened_in, dropped_by_next, around, size, sizes, elements_size, conjunction_size, compound_size, creates_size, subscripts_size, by_size, body_size, clauses_size, default_size, keyword_instr, keyword_size, BinaryForm, UpdateForm, PrefixForm, prefix_size, plain_size, augmented_size}
 use Rattle.law_simulation.specs.Linkage.{Linkage, Loads, l_null, l_integer, l_string, l_cset, l_local, l_static, l_global}
-use Rattle.law_verified.specs.Noted.{bodies_code, NotedShape, o, flagged_note, start, more, in_mark, within, Limited, with_scan, drops, create_notes, code, operands, elements_code, conjunction, compound, creates, subscripts, by_code, body_code, clauses_code, clause_code, default_code, prefix_code, plain_code, augmented_code}
-use Rattle.law_verified.specs.FittingTrees.{Infixes, x_both, x_scan, x_either, x_limit, x_at, x_bang, x_op, Augments, u_both, u_scan, u_at, u_op, Prefixes, p_at, p_bar, p_op, Fit, FitAll, FitCreates, FitBy, FitMaybe, FitClauses, FitDefault}
+use Rattle.law_verified.specs.Noted.{bodies_code, NotedShape, o, flagged_note, start, more, in_mark, within, Limited, with_scan, drops, create_notes, code, operands, elements_code, conjunction, compound, creates, subscripts, by_code, body_code, clauses_code, clause_code, default_code, keyword_notes, prefix_code, plain_code, augmented_code}
+use Rattle.law_verified.specs.FittingTrees.{Infixes, x_both, x_scan, x_either, x_limit, x_at, x_bang, x_op, Augments, u_both, u_scan, u_at, u_op, Prefixes, p_at, p_bar, p_op, IsKeyword, k_word, Fit, FitAll, FitCreates, FitBy, FitMaybe, FitClauses, FitDefault}
 use Rattle.law_verified.proofs.LoopNesting.{forward_mark, forward_goto, forward_create, backward_loop, backward_chfail, is_plain, plain_not_forward, plain_not_backward, one_backward_label, out_last, out_next, out_outer, WaysAhead, ways_ahead, WellNested, nested_append, nested_nil, nested_plain, nested_forward, nested_out, pass_before, lies_before, pass_after, pass_plain, pass_forward, nested_over, nested_back, way_stays, ways_left, nested_wider, nested_to, chfail_leads, loop_leads, none_in, no_ways_ahead, ahead_loop, ahead_outer, narrow, unmarks_neat}
 
 loads_plain : (L : Linkage) (j : ℕ) {i : Instr} {x : _} → Loads L j i x → is_plain i ≡ true
@@ -24,6 +24,14 @@ loads_plain L j l_local = refl
 loads_plain L j l_static = refl
 loads_plain L j l_global = refl
 
+keyword_plain : (word : Keyword) → is_plain (keyword_instr word) ≡ true
+keyword_plain Keywords.Fail = refl
+keyword_plain word = refl
+
+keyword_neat : {W : List LoopExits} {found : Option Keyword} (s : NotedShape) (p : ℕ) → IsKeyword found
+    → WellNested W p (keyword_notes s found) (p + keyword_size found)
+keyword_neat s p (k_word word) = nested_plain _ (keyword_plain word) (nested_nil _ (omega arith))
+
 abbrev pub Same : List LoopExits → List Bool → Type 0
 Same [] [] = Unit {0}
 Same [] (b ∷ B) = ⊥
@@ -31,13 +39,6 @@ Same (w ∷ W) [] = ⊥
 Same (w ∷ W) (b ∷ B) = Same W B
 
 module _ (L : Linkage) (j : ℕ) (N : SymbolTable) where
-  keyword_plain : (text : List ℕ) → is_plain (keyword_code N text) ≡ true
-  keyword_plain text = by_case (bytes_eq text (codes "fail"))
-    where
-      by_case : (b : Bool) → is_plain (if b then I.Efail else I.Keywd (N.keyword text)) ≡ true
-      by_case true = refl
-      by_case false = refl
-
   abbrev Goal : Tree → Type 0
   Goal x = (D : List Depth) (W : List LoopExits) (B : List Bool) (c : Bool) (s : NotedShape) → Same W B → Fit L j N B c x → (p p' : ℕ) → p' ≡ p
       → WaysAhead (p' + size D x) W
@@ -135,7 +136,7 @@ module _ (L : Linkage) (j : ℕ) (N : SymbolTable) where
     tree_is_nested T.Empty D W B c s w f p p' e a = nested_plain _ refl (nested_nil _ (omega arith))
     tree_is_nested (T.Constant place v) D W B c s w f p p' e a = nested_plain _ (loads_plain L j f) (nested_nil _ (omega arith))
     tree_is_nested (T.Identifier name) D W B c s w f p p' e a = nested_plain _ (loads_plain L j f) (nested_nil _ (omega arith))
-    tree_is_nested (T.Keyword place name) D W B c s w f p p' e a = nested_plain _ (keyword_plain name.text) (nested_nil _ (omega arith))
+    tree_is_nested (T.Keyword place name) D W B c s w f p p' e a = keyword_neat s p' f
     tree_is_nested (T.Parentheses place es) D W B c s w f p p' e a = conjunction_neat es D W B c s w f.1 p p' e a
     tree_is_nested (T.Listing place es) D W B c s w f p p' e a =
         nested_append (elements_neat es D W B c s w f p p' e (ways_ahead (omega arith) a)) (nested_plain _ refl (nested_nil _ (omega arith))) a

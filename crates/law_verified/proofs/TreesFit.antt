@@ -11,9 +11,9 @@ use Rattle.icn_meaning.specs.Succeed.{default_of}
 use Rattle.law_simulation.specs.Translation.{SymbolTable, form_of, update_of, prefix_of}
 use Rattle.law_simulation.specs.Linkage.{Linkage, f_field}
 use Rattle.law_simulation.specs.StandingCode.{Nest, top, in_create, in_mark, in_scan, in_loop, in_control, in_each, Proper, w_top, w_mark, w_scan, w_loop, w_control, w_each}
-use Rattle.law_simulation.specs.Translatable.{outside, HasLoop, h_mark, h_scan, h_loop, h_control, h_each, HasNext, x_mark, x_scan, x_loop, x_each, Fits, fits_empty, fits_constant, fits_identifier, fits_keyword, fits_fail_keyword, fits_last, fits_before, fits_final, fits_passed, fits_bounded, fits_listing, fits_call, fits_cocall, fits_subscript, fits_section, fits_field, fits_prefix, fits_activate, fits_repeated, fits_not, fits_both, fits_scan, fits_or, fits_limit, fits_infix, fits_at, fits_bang, fits_update_both, fits_update_scan, fits_update_at, fits_update, fits_to, fits_if, fits_if_else, fits_case, fits_while, fits_until, fits_every, fits_repeat, fits_create, fits_next, fits_fail, fits_break, fits_return, fits_suspend, FitsAll, fits_nil, fits_cons, FitsBodies, fits_no_body, fits_body, FitsMaybe, fits_absent, fits_present, FitsDefault, fits_no_default, fits_default, FitsCases, fits_no_case, fits_other, fits_guard, FitsRest, fits_end, fits_skipped, fits_more, FitsRoutine, fits_plain, fits_blank, fits_initial}
+use Rattle.law_simulation.specs.Translatable.{outside, HasLoop, h_mark, h_scan, h_loop, h_control, h_each, HasNext, x_mark, x_scan, x_loop, x_each, Fits, fits_empty, fits_constant, fits_identifier, fits_keyword, fits_last, fits_before, fits_final, fits_passed, fits_bounded, fits_listing, fits_call, fits_cocall, fits_subscript, fits_section, fits_field, fits_prefix, fits_activate, fits_repeated, fits_not, fits_both, fits_scan, fits_or, fits_limit, fits_infix, fits_at, fits_bang, fits_update_both, fits_update_scan, fits_update_at, fits_update, fits_to, fits_if, fits_if_else, fits_case, fits_while, fits_until, fits_every, fits_repeat, fits_create, fits_next, fits_fail, fits_break, fits_return, fits_suspend, FitsAll, fits_nil, fits_cons, FitsBodies, fits_no_body, fits_body, FitsMaybe, fits_absent, fits_present, FitsDefault, fits_no_default, fits_default, FitsCases, fits_no_case, fits_other, fits_guard, FitsRest, fits_end, fits_skipped, fits_more, FitsRoutine, fits_plain, fits_blank, fits_initial}
 use Rattle.law_simulation.proofs.OperatorForms.{prefix_is, prefix_arity, infix_is, infix_arity, update_is, update_arity}
-use Rattle.law_verified.specs.FittingTrees.{x_both, x_scan as i_scan, x_either, x_limit, x_at, x_bang, Infixes, x_op, u_both, u_scan, u_at, Augments, u_op, Prefixes, p_at, p_bar, p_op, k_fail, k_word, Fit, FitAll, FitCreates, FitBy, FitMaybe, FitClauses, FitDefault, MayNext}
+use Rattle.law_verified.specs.FittingTrees.{x_both, x_scan as i_scan, x_either, x_limit, x_at, x_bang, Infixes, x_op, u_both, u_scan, u_at, Augments, u_op, Prefixes, p_at, p_bar, p_op, IsKeyword, k_word, Fit, FitAll, FitCreates, FitBy, FitMaybe, FitClauses, FitDefault, MayNext}
 use Rattle.law_verified.specs.TranslationLaws.{FitInitial}
 
 -- the open loops, each with whether `next` may stand there
@@ -99,8 +99,7 @@ module _ (L : Linkage) (j : ℕ) (N : SymbolTable) where
     fit fits_empty = tt
     fit (fits_constant l) = l
     fit (fits_identifier l) = l
-    fit (fits_keyword known other) = k_word other known
-    fit (fits_fail_keyword known is) = k_fail is known
+    fit (fits_keyword {word = word} e) = subst (λ found. IsKeyword found) (sym e) (k_word word)
     fit (fits_last f) = (tt, (fit f, tt))
     fit (fits_before f g) = (tt, (fit f, (fit g).1))
     fit (fits_final f) = (tt, (fit f, tt))

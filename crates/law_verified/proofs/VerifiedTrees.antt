@@ -1,7 +1,7 @@
 -- The noted code of a tree is fine, with the shapes that are noted.
-use Rattle.std.proofs.Common.{◌≡◌, ℕ, suc, ◌+◌, ◌-◌, ◌<◌, ◌≤◌, Bool, true, false, List, [], ◌∷◌, ◌++◌, Option, refl, sym, subst, arith, if◌then◌else◌}
-use Rattle.std.specs.Prelude.{codes}
-use Rattle.std.specs.Str.{bytes_eq}
+use Rattle.std.proofs.Common.{◌≡◌, ℕ, suc, ◌+◌, ◌-◌, ◌<◌, ◌≤◌, Bool, true, false, List, [], ◌∷◌, ◌++◌, Option, refl, sym, subst, arith}
+use Rattle.icn_text.specs.declared.keyword.Keyword.{Keyword}
+use Rattle.icn_text.specs.declared.keyword.Keyword.TheVariants as Keywords
 use Rattle.icn_text.specs.declared.op.Op.{Op}
 use Rattle.icn_code.specs.declared.instr.Instr.{Instr}
 use Rattle.icn_code.specs.declared.instr.Instr.TheVariants as I
@@ -13,10 +13,10 @@ use Rattle.icn_tree.specs.declared.tree.Infix.TheVariants.{Plain, Augmented}
 use Rattle.icn_tree.specs.declared.tree.LoopKind.TheVariants.{While, Until, Every}
 use Rattle.icn_tree.specs.Trees as T
 use Rattle.icn_tree.specs.Trees.{Tree, Trees, MaybeTree, Clauses, Absent, Present, NoTrees, More, Default, Guarded, NoClauses, MoreClauses}
-use Rattle.law_simulation.specs.Translation.{bodies_size, SymbolTable, Depth, LoopExits, loop_of, ways, deeper, opened_in, dropped_by_next, around, last_way, next_way, size, sizes, elements_size, conjunction_size, compound_size, creates_size, subscripts_size, by_size, body_size, clauses_size, default_size, elements, count_of, keyword_code, section_op, BinaryForm, UpdateForm, PrefixForm, prefix_size, plain_size, augmented_size}
+use Rattle.law_simulation.specs.Translation.{bodies_size, SymbolTable, Depth, LoopExits, loop_of, ways, deeper, opened_in, dropped_by_next, around, last_way, next_way, size, sizes, elements_size, conjunction_size, compound_size, creates_size, subscripts_size, by_size, body_size, clauses_size, default_size, elements, count_of, keyword_instr, keyword_size, section_op, BinaryForm, UpdateForm, PrefixForm, prefix_size, plain_size, augmented_size}
 use Rattle.law_simulation.specs.Linkage.{Linkage, Loads, l_null, l_integer, l_string, l_cset, l_local, l_static, l_global}
-use Rattle.law_verified.specs.Noted.{bodies_code, NotedShape, o, start, many, more, in_mark, within, Limited, with_scan, drops, unmarks, create_notes, code, operands, elements_code, conjunction, compound, creates, subscripts, by_code, body_code, clauses_code, clause_code, default_code, prefix_code, plain_code, augmented_code}
-use Rattle.law_verified.specs.FittingTrees.{Infixes, x_both, x_scan, x_either, x_limit, x_at, x_bang, x_op, Augments, u_both, u_scan, u_at, u_op, Prefixes, p_at, p_bar, p_op, Some_trees, Fit, FitAll, FitCreates, FitBy, FitMaybe, FitClauses, FitDefault}
+use Rattle.law_verified.specs.Noted.{bodies_code, NotedShape, o, start, many, more, in_mark, within, Limited, with_scan, drops, unmarks, create_notes, code, operands, elements_code, conjunction, compound, creates, subscripts, by_code, body_code, clauses_code, clause_code, default_code, keyword_notes, prefix_code, plain_code, augmented_code}
+use Rattle.law_verified.specs.FittingTrees.{Infixes, x_both, x_scan, x_either, x_limit, x_at, x_bang, x_op, Augments, u_both, u_scan, u_at, u_op, Prefixes, p_at, p_bar, p_op, IsKeyword, k_word, Some_trees, Fit, FitAll, FitCreates, FitBy, FitMaybe, FitClauses, FitDefault}
 use Rattle.law_verified.specs.Verified.{Pushes, u_null, u_int, u_str, u_cset, u_local, u_static, u_global, u_keyword, TakesOperands, t_op, t_list, t_field, t_invoke, t_appl, t_coact, Fine, f_push, f_pop, f_dup, f_takes, f_mark, f_mark0, f_unmark, f_eret, f_esusp, f_limit, f_lsusp, f_efail, f_chfail, f_goto, f_loop, f_bscan, f_escan, f_ccase, f_psusp, f_pret, f_pfail, f_create, f_coret, f_cofail, d_zero, d_suc, n_no, n_yes, Ctx, c_create, c_loop, Has, AllFine}
 use Rattle.law_verified.proofs.UnmarkLengths.{none_unmarks}
 use Rattle.law_verified.proofs.ErasedNotes.{code_length, elements_len, bodies_len, by_code_length, body_len, clauses_len, clause_len}
@@ -44,12 +44,13 @@ module _ (At : ℕ → NotedShape → Type 0) (L : Linkage) (j : ℕ) (N : Symbo
   to : {s : NotedShape} {p : ℕ} (q : ℕ) → At p s → p ≡ q → At q s
   to q h e = «at» At q h e
 
-  keyword_fine : {p : ℕ} (s : NotedShape) (text : List ℕ) → At (suc p) (more s) → Fine At p (keyword_code N text) s
-  keyword_fine {p = p} s text h = by_case (bytes_eq text (codes "fail"))
-    where
-      by_case : (b : Bool) → Fine At p (if b then I.Efail else I.Keywd (N.keyword text)) s
-      by_case true = f_efail s
-      by_case false = f_push s u_keyword h
+  known_fine : {p : ℕ} (s : NotedShape) (word : Keyword) → At (suc p) (more s) → Fine At p (keyword_instr word) s
+  known_fine s Keywords.Fail h = f_efail s
+  known_fine s word h = f_push s u_keyword h
+
+  keyword_fine : {found : Option Keyword} (s : NotedShape) (p : ℕ) → IsKeyword found → Has At p (keyword_notes s found)
+      → At (p + keyword_size found) (more s) → At p s × AllFine At p (keyword_notes s found)
+  keyword_fine s p (k_word word) h z = (h.0, (known_fine s word (to _ z (omega arith)), tt))
 
   abbrev Goal : Tree → Type 0
   Goal x =
@@ -223,7 +224,7 @@ module _ (At : ℕ → NotedShape → Type 0) (L : Linkage) (j : ℕ) (N : Symbo
     tree_is_fine T.Empty r D W B c s a f p p' e b h z = (h.0, (f_push s u_null (to _ z (omega arith)), tt))
     tree_is_fine (T.Constant place v) r D W B c s a f p p' e b h z = (h.0, (f_push s (pushes L j f) (to _ z (omega arith)), tt))
     tree_is_fine (T.Identifier name) r D W B c s a f p p' e b h z = (h.0, (f_push s (pushes L j f) (to _ z (omega arith)), tt))
-    tree_is_fine (T.Keyword place name) r D W B c s a f p p' e b h z = (h.0, (keyword_fine s name.text (to _ z (omega arith)), tt))
+    tree_is_fine (T.Keyword place name) r D W B c s a f p p' e b h z = keyword_fine s p' f h z
     tree_is_fine (T.Parentheses place es) r D W B c s a f p p' e b h z = conjunction_fine es r D W B c s a f.1 p p' e b f.0 h z
     tree_is_fine (T.Listing place es) r D W B c s a f p p' e b h z =
         let k = fine_cut At _ _ p' (elements_size D es) (elements_len N es D W p s) h in

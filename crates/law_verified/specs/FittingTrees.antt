@@ -1,9 +1,8 @@
--- The condition under which the code of a tree is sound: names and literals are in the tables, operators are those of the language in their
--- position, and `break`, `next`, `return`, `fail` and `suspend` stand where they may.
-use Rattle.std.specs.Prelude.{◌≡◌, ℕ, Bool, true, false, pos, List, [], ◌∷◌, Option, Some, codes}
-use Rattle.std.specs.Str.{bytes_eq}
+-- The condition under which the code of a tree is sound: names and literals are in the tables, keywords are known, operators are those of
+-- the language in their position, and `break`, `next`, `return`, `fail` and `suspend` stand where they may.
+use Rattle.std.specs.Prelude.{◌≡◌, ℕ, Bool, true, false, pos, List, [], ◌∷◌, Option, Some}
 use Rattle.icn_text.specs.declared.op.Op.{Op}
-use Rattle.icn_text.specs.declared.keyword.Keyword.TheVariants as Keywords
+use Rattle.icn_text.specs.declared.keyword.Keyword.{Keyword}
 use Rattle.icn_text.specs.declared.keyword.TheConstants.Keyword.{ALL as keywords}
 use Rattle.icn_tree.specs.declared.token.Operator.{Operator}
 use Rattle.icn_tree.specs.declared.token.Operator.TheVariants as Signs
@@ -46,12 +45,9 @@ pub data Prefixes : Operator → Option PrefixForm → Type 0 where
   p_bar : Prefixes Signs.Bar (Some Repeating)
   p_op : {o : Operator} {op : Op} → prefix_op o ≡ Some op → arity op ≡ 1 → Prefixes o (Some (Operating op))
 
--- a keyword is known, and N knows it
-pub data KeywordFits (N : SymbolTable) (text : List ℕ) : Type 0 where
-  k_fail : bytes_eq text (codes "fail") ≡ true → keyword_among text keywords ≡ Some Keywords.Fail
-      → KeywordFits N text
-  k_word : bytes_eq text (codes "fail") ≡ false → keyword_among text keywords ≡ Some (N.keyword text)
-      → KeywordFits N text
+-- a name is that of a keyword
+pub data IsKeyword : Option Keyword → Type 0 where
+  k_word : (word : Keyword) → IsKeyword (Some word)
 
 -- there is a tree at least
 abbrev pub Some_trees : Trees → Type 0
@@ -70,7 +66,7 @@ abbrev mutual
   Fit L j N B c (T.Constant place v) = Loads L j (literal_code N v) (Val (literal v))
   Fit L j N B c (T.Identifier name) =
       Loads L j (N.variable name.text) (Var (Whole (meaning_of L.program j name.text)))
-  Fit L j N B c (T.Keyword place name) = KeywordFits N name.text
+  Fit L j N B c (T.Keyword place name) = IsKeyword (keyword_among name.text keywords)
   Fit L j N B c (T.Parentheses place es) = Some_trees es × FitAll L j N B c es
   Fit L j N B c (T.Listing place es) = FitAll L j N B c es
   Fit L j N B c (T.Compound place es) = Some_trees es × FitAll L j N B c es

@@ -1,12 +1,15 @@
 -- The translation again, in which beside each instruction stands whether it opens a repeated alternation, and the shape with which it is reached.
 use Rattle.std.specs.Prelude.{ℕ, zero, suc, ◌+◌, pos, Bool, true, false, List, [], ◌∷◌, ◌++◌, Option, Some, None, if◌then◌else◌}
+use Rattle.icn_text.specs.declared.keyword.Keyword.{Keyword as KeywordNamed}
+use Rattle.icn_text.specs.declared.keyword.TheConstants.Keyword.{ALL as keywords}
 use Rattle.icn_text.specs.declared.op.Op.TheVariants as Ops
 use Rattle.icn_tree.specs.declared.tree.Infix.TheVariants.{Plain, Augmented}
 use Rattle.icn_tree.specs.declared.tree.LoopKind.TheVariants.{While, Until, Every}
 use Rattle.icn_tree.specs.Trees.{Initial, NoInitial, Initially, Tree, MaybeTree, Trees, Clause, Clauses, Empty, Constant, Identifier, Keyword, Parentheses, Listing, Compound, Call, CoCall, Subscript, Section, Field, Prefix, Not, Binary, To, If, Case, Loop, Repeat, Create, Next, Fail, Break, Return, Suspend, Absent, Present, NoTrees, More, Default, Guarded, NoClauses, MoreClauses}
 use Rattle.icn_code.specs.declared.instr.Instr.{Instr}
 use Rattle.icn_code.specs.declared.instr.Instr.TheVariants as I
-use Rattle.law_simulation.specs.Translation.{SymbolTable, Depth, LoopExits, loop_of, deeper, opened_in, dropped_by_next, around, last_way, next_way, is_empty, is_nothing, is_no_element, elements, BinaryForm, Both, Scanning, Either, Limiting, Applying, form_of, UpdateForm, UpdatesBoth, UpdatesScanning, UpdatesBy, update_of, PrefixForm, Activating, Repeating, Operating, prefix_of, section_op, size, body_size, clauses_size, clause_size, default_size, ways, literal_code, keyword_code, bounded_size}
+use Rattle.icn_meaning.specs.Evaluate.{keyword_among}
+use Rattle.law_simulation.specs.Translation.{SymbolTable, Depth, LoopExits, loop_of, deeper, opened_in, dropped_by_next, around, last_way, next_way, is_empty, is_nothing, is_no_element, elements, BinaryForm, Both, Scanning, Either, Limiting, Applying, form_of, UpdateForm, UpdatesBoth, UpdatesScanning, UpdatesBy, update_of, PrefixForm, Activating, Repeating, Operating, prefix_of, section_op, size, body_size, clauses_size, clause_size, default_size, ways, literal_code, keyword_instr, bounded_size}
 
 -- Shapes
 
@@ -100,6 +103,11 @@ create_notes p n s body = o s (I.Create (p + n + 5)) ∷ o (start true) (I.Mark 
 abbrev pub Part : Type 0
 Part = List Depth → ℕ → NotedShape → List Note
 
+-- the code of a keyword
+abbrev pub keyword_notes : NotedShape → Option KeywordNamed → List Note
+keyword_notes s (Some keyword) = o s (keyword_instr keyword) ∷ []
+keyword_notes s None = []
+
 -- the code of a prefix operator, by the code of its operand
 abbrev pub prefix_code : List Depth → ℕ → NotedShape → Part → Option PrefixForm → List Note
 prefix_code D p s c (Some Activating) = o s I.Pnull ∷ c D (p + 1) (more s) ++ o (more (more s)) I.Coact ∷ []
@@ -139,7 +147,7 @@ abbrev mutual
   code N D W p s Empty = o s I.Pnull ∷ []
   code N D W p s (Constant place value) = o s (literal_code N value) ∷ []
   code N D W p s (Identifier name) = o s (N.variable name.text) ∷ []
-  code N D W p s (Keyword place name) = o s (keyword_code N name.text) ∷ []
+  code N D W p s (Keyword place name) = keyword_notes s (keyword_among name.text keywords)
   code N D W p s (Parentheses place es) = conjunction N D W p s es
   code N D W p s (Listing place es) =
       elements_code N D W p s es ++ o (many (elements es) s) (I.Llist (elements es)) ∷ []

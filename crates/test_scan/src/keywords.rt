@@ -2,7 +2,7 @@
 ghost use Rattle.std.specs.List.{All};
 ghost use Rattle.icn_heap.specs.Extents.{Extent, IsLive};
 ghost use Rattle.icn_heap.specs.Heaps.{extent_of};
-ghost use Rattle.icn_vars.specs.Worlds.{KeepsItems, reach_of};
+ghost use Rattle.icn_vars.specs.Worlds.{KeepsLive};
 
 use icn_value::{KeywordVariable, Root, Val, VarRef};
 use icn_vars::{World, assign};
@@ -28,8 +28,7 @@ pub fn set_keyword(
 pub fn assign_keyword(w: &mut World, slots: &mut Slots, keyword: KeywordVariable, val: Val) -> bool
     requires value { IsLive (extent_of w.old.heap) val }
     requires locals { All (IsLive (extent_of w.old.heap)) slots.old.vals.items }
-    ensures locals { All (IsLive (extent_of w.new.heap)) slots.new.vals.items }
-    ensures kept { KeepsItems (reach_of w.old slots.old.vals.items) (reach_of w.new slots.new.vals.items) }
+    ensures kept { KeepsLive w.old slots.old.vals.items w.new slots.new.vals.items }
 {
     match assign(w, slots, VarRef::Whole(Root::Keyword(keyword)), val) {
         Ok(_) => true,

@@ -9,6 +9,7 @@ ghost use Rattle.icn_vars.specs.Worlds.{reach_of};
 ghost use Rattle.icn_strfn.specs.Stopping.{IsLiveGiven};
 ghost use Rattle.test_values.specs.OneRecord.{one_record};
 
+use icn_args::ValueOutcome;
 use icn_strfn::{
     Layout, abs_row, char_row, cset_row, field_row, iand_row, icom_row, image_row, integer_row,
     ior_row, ishift_row, ixor_row, map_row, ord_row, repl_row, reverse_row, seq_row,
@@ -101,12 +102,17 @@ fn call_function(func: Func, args: &[Val], w: &mut World, l: &Slots) -> Result<O
     requires records { AreRecordsNamed one_record (heap_of w.old.heap) }
     ensures { IsLiveAnswer (reach_of w.new l.now.vals.items) result }
 {
-    let outcome = row_answer(func, args, w, l)?;
-    Ok(outcome)
+    match func {
+        Func::Seq => seq_row(w, l, args),
+        _ => {
+            let given = row_answer(func, args, w, l)?;
+            Ok(given.outcome())
+        }
+    }
 }
 
-// What the row of a function gives.
-fn row_answer(func: Func, args: &[Val], w: &mut World, l: &Slots) -> Result<Outcome, Stop>
+// What the row of a function gives that gives a value at most.
+fn row_answer(func: Func, args: &[Val], w: &mut World, l: &Slots) -> Result<ValueOutcome, Stop>
     requires locals { All (IsLive (extent_of w.old.heap)) l.now.vals.items }
     requires args { All (IsLive (extent_of w.old.heap)) args.now }
     requires named { All (IsNamed one_record) args.now }
@@ -132,11 +138,10 @@ fn row_answer(func: Func, args: &[Val], w: &mut World, l: &Slots) -> Result<Outc
         Func::Repl => repl_row(w, l, args),
         Func::Reverse => reverse_row(w, l, args),
         Func::Right => field_row(w, l, Layout::Right, args),
-        Func::Seq => seq_row(w, l, args),
         Func::String => string_row(w, l, args),
         Func::Trim => trim_row(w, l, args),
         Func::TypeOf => type_row(&OneRecord, w, l, args),
-        _ => Ok(Outcome::Fails),
+        _ => Ok(ValueOutcome::Fails),
     }
 }
 

@@ -32,7 +32,7 @@ returns-in-UndoAssign-clause-applies g c = rw c.in-UndoAssign.is
     c.args.w.now c.undo_assign_again.new.w (g.L.Locals.items c.args.l.now) (g.L.Locals.items c.undo_assign_again.new.l)
     (g.S.Streams.state c.args.streams.now)
     c.undo_assign_again.result
-    (λ was. c.undo_assign_again.ensures.row was) c.undo_assign_again.ensures.live c.undo_assign_again.ensures.locals c.undo_assign_again.ensures.kept)
+    (λ was. c.undo_assign_again.ensures.row was) c.undo_assign_again.ensures.live c.undo_assign_again.ensures.kept.locals c.undo_assign_again.ensures.kept.items)
 
 pub returns-in-UndoAssign-clause-memory : goal.returns-in-UndoAssign-clause-memory
 returns-in-UndoAssign-clause-memory g c = rw c.in-UndoAssign.is c.undo_assign_again.ensures.memory
@@ -90,8 +90,8 @@ returns-in-UndoExchange-clause-applies g c = rw c.in-UndoExchange.is
     c.args.w.now c.undo_exchange_again.new.w (g.L.Locals.items c.args.l.now) (g.L.Locals.items c.undo_exchange_again.new.l)
     (g.S.Streams.state c.args.streams.now)
     c.undo_exchange_again.result
-    (λ was. c.undo_exchange_again.ensures.row was) c.undo_exchange_again.ensures.live c.undo_exchange_again.ensures.locals
-    c.undo_exchange_again.ensures.kept)
+    (λ was. c.undo_exchange_again.ensures.row was) c.undo_exchange_again.ensures.live c.undo_exchange_again.ensures.kept.locals
+    c.undo_exchange_again.ensures.kept.items)
 
 pub returns-in-UndoPosition-clause-applies : goal.returns-in-UndoPosition-clause-applies
 returns-in-UndoPosition-clause-applies g c = rw c.in-UndoPosition.is
@@ -99,8 +99,8 @@ returns-in-UndoPosition-clause-applies g c = rw c.in-UndoPosition.is
     (g.L.Locals.items c.args.l.now) (g.L.Locals.items c.args.l.now)
     (g.S.Streams.state c.args.streams.now)
     c.undo_position_again.result
-    (λ was. c.undo_position_again.ensures.row was) c.undo_position_again.ensures.live c.undo_position_again.ensures.locals
-    c.undo_position_again.ensures.kept)
+    (λ was. c.undo_position_again.ensures.row was) c.undo_position_again.ensures.live c.undo_position_again.ensures.kept.locals
+    c.undo_position_again.ensures.kept.items)
 
 pub returns-in-Counting-clause-applies : goal.returns-in-Counting-clause-applies
 returns-in-Counting-clause-applies g c =

@@ -30,33 +30,33 @@ pub returns-in-Any : goal.returns-in-Any
 returns-in-Any g c = rw c.in-Any.is
     (faultless_applies (any_row (map (value_in (extent_of c.args.w.now.heap)) c.args.vals.now)) c.args.w.now c.any_row.new.w (g.L.Locals.items c.args.l.now)
     (g.L.Locals.items c.args.l.now) (g.S.Streams.state c.args.streams.now) c.any_row.result
-    (λ was. c.any_row.ensures.row was) c.any_row.ensures.live c.any_row.ensures.locals c.any_row.ensures.kept)
+    (λ was. c.any_row.ensures.row was) c.any_row.ensures.live c.any_row.ensures.kept.locals c.any_row.ensures.kept.items)
 
 pub returns-in-Bal : goal.returns-in-Bal
 returns-in-Bal g c = rw c.in-Bal.is
     (faultless_applies (bal_row (map (value_in (extent_of c.args.w.now.heap)) c.args.vals.now)) c.args.w.now c.bal_row.new.w (g.L.Locals.items c.args.l.now)
     (g.L.Locals.items c.args.l.now) (g.S.Streams.state c.args.streams.now) c.bal_row.result
-    (λ was. c.bal_row.ensures.row was) c.bal_row.ensures.live c.bal_row.ensures.locals c.bal_row.ensures.kept)
+    (λ was. c.bal_row.ensures.row was) c.bal_row.ensures.live c.bal_row.ensures.kept.locals c.bal_row.ensures.kept.items)
 
 pub returns-in-Center : goal.returns-in-Center
 returns-in-Center g c = rw c.in-Center.is
     (halted_applies (center_row (map (value_in (extent_of c.args.w.now.heap)) c.args.vals.now)) c.args.w.now c.field_row.new.w (g.L.Locals.items c.args.l.now)
     (g.S.Streams.state c.args.streams.now)
-    c.field_row.result c.as_answer-in-Center.result c.as_answer-in-Center.ensures c.field_row.ensures.row c.field_row.ensures.live c.field_row.ensures.locals
-    c.field_row.ensures.kept)
+    c.field_row.result c.as_answer-in-Center.result c.as_answer-in-Center.ensures c.field_row.ensures.row c.field_row.ensures.live c.field_row.ensures.kept.locals
+    c.field_row.ensures.kept.items)
 
 pub returns-in-Char : goal.returns-in-Char
 returns-in-Char g c = rw c.in-Char.is
     (halted_applies (char_row (map (value_in (extent_of c.args.w.now.heap)) c.args.vals.now)) c.args.w.now c.char_row.new.w (g.L.Locals.items c.args.l.now)
     (g.S.Streams.state c.args.streams.now)
-    c.char_row.result c.as_answer-in-Char.result c.as_answer-in-Char.ensures c.char_row.ensures.row c.char_row.ensures.live c.char_row.ensures.locals
-    c.char_row.ensures.kept)
+    c.char_row.result c.as_answer-in-Char.result c.as_answer-in-Char.ensures c.char_row.ensures.row c.char_row.ensures.live c.char_row.ensures.kept.locals
+    c.char_row.ensures.kept.items)
 
 pub returns-in-Copy : goal.returns-in-Copy
 returns-in-Copy g c = rw c.in-Copy.is
     (faultless_applies (copy_row (map (value_in (extent_of c.args.w.now.heap)) c.args.vals.now)) c.args.w.now c.copy.new.w (g.L.Locals.items c.args.l.now)
     (g.L.Locals.items c.args.l.now) (g.S.Streams.state c.args.streams.now) c.copy.result
-    (λ was. c.copy.ensures.row was) c.copy.ensures.live c.copy.ensures.locals c.copy.ensures.kept)
+    (λ was. c.copy.ensures.row was) c.copy.ensures.live c.copy.ensures.kept.locals c.copy.ensures.kept.items)
 
 pub returns-in-Cset : goal.returns-in-Cset
 returns-in-Cset g c = rw c.in-Cset.is
@@ -69,7 +69,7 @@ pub returns-in-Delete : goal.returns-in-Delete
 returns-in-Delete g c = rw c.in-Delete.is
     (faultless_applies (delete_row (map (value_in (extent_of c.args.w.now.heap)) c.args.vals.now)) c.args.w.now c.delete.new.w (g.L.Locals.items c.args.l.now)
     (g.L.Locals.items c.args.l.now) (g.S.Streams.state c.args.streams.now) c.delete.result
-    (λ was. c.delete.ensures.row was) c.delete.ensures.live c.delete.ensures.locals c.delete.ensures.kept)
+    (λ was. c.delete.ensures.row was) c.delete.ensures.live c.delete.ensures.kept.locals c.delete.ensures.kept.items)
 
 pub returns-in-Exit : goal.returns-in-Exit
 returns-in-Exit g c = rw c.in-Exit.is
@@ -82,13 +82,13 @@ pub returns-in-Find : goal.returns-in-Find
 returns-in-Find g c = rw c.in-Find.is
     (faultless_applies (find_row (map (value_in (extent_of c.args.w.now.heap)) c.args.vals.now)) c.args.w.now c.find_row.new.w (g.L.Locals.items c.args.l.now)
     (g.L.Locals.items c.args.l.now) (g.S.Streams.state c.args.streams.now) c.find_row.result
-    (λ was. c.find_row.ensures.row was) c.find_row.ensures.live c.find_row.ensures.locals c.find_row.ensures.kept)
+    (λ was. c.find_row.ensures.row was) c.find_row.ensures.live c.find_row.ensures.kept.locals c.find_row.ensures.kept.items)
 
 pub returns-in-Get : goal.returns-in-Get
 returns-in-Get g c = rw c.in-Get.is
     (faultless_applies (get_row (map (value_in (extent_of c.args.w.now.heap)) c.args.vals.now)) c.args.w.now c.get.new.w (g.L.Locals.items c.args.l.now)
     (g.L.Locals.items c.args.l.now) (g.S.Streams.state c.args.streams.now) c.get.result
-    (λ was. c.get.ensures.row was) c.get.ensures.live c.get.ensures.locals c.get.ensures.kept)
+    (λ was. c.get.ensures.row was) c.get.ensures.live c.get.ensures.kept.locals c.get.ensures.kept.items)
 
 pub returns-in-Iand : goal.returns-in-Iand
 returns-in-Iand g c = rw c.in-Iand.is
@@ -108,14 +108,14 @@ pub returns-in-Image : goal.returns-in-Image
 returns-in-Image g c = rw c.in-Image.is
     (halted_applies (image_row (g.N.Names.known c.args.names.now) (map (value_in (extent_of c.args.w.now.heap)) c.args.vals.now)) c.args.w.now c.image_row.new.w
     (g.L.Locals.items c.args.l.now) (g.S.Streams.state c.args.streams.now)
-    c.image_row.result c.as_answer-in-Image.result c.as_answer-in-Image.ensures c.image_row.ensures.row c.image_row.ensures.live c.image_row.ensures.locals
-    c.image_row.ensures.kept)
+    c.image_row.result c.as_answer-in-Image.result c.as_answer-in-Image.ensures c.image_row.ensures.row c.image_row.ensures.live c.image_row.ensures.kept.locals
+    c.image_row.ensures.kept.items)
 
 pub returns-in-Insert : goal.returns-in-Insert
 returns-in-Insert g c = rw c.in-Insert.is
     (faultless_applies (insert_row (map (value_in (extent_of c.args.w.now.heap)) c.args.vals.now)) c.args.w.now c.insert.new.w (g.L.Locals.items c.args.l.now)
     (g.L.Locals.items c.args.l.now) (g.S.Streams.state c.args.streams.now) c.insert.result
-    (λ was. c.insert.ensures.row was) c.insert.ensures.live c.insert.ensures.locals c.insert.ensures.kept)
+    (λ was. c.insert.ensures.row was) c.insert.ensures.live c.insert.ensures.kept.locals c.insert.ensures.kept.items)
 
 pub returns-in-Integer : goal.returns-in-Integer
 returns-in-Integer g c = rw c.in-Integer.is
@@ -156,32 +156,32 @@ returns-in-Left g c = rw c.in-Left.is
     (halted_applies (left_row (map (value_in (extent_of c.args.w.now.heap)) c.args.vals.now)) c.args.w.now c.field_row-in-Left.new.w
     (g.L.Locals.items c.args.l.now) (g.S.Streams.state c.args.streams.now)
     c.field_row-in-Left.result c.as_answer-in-Left.result c.as_answer-in-Left.ensures c.field_row-in-Left.ensures.row c.field_row-in-Left.ensures.live
-    c.field_row-in-Left.ensures.locals c.field_row-in-Left.ensures.kept)
+    c.field_row-in-Left.ensures.kept.locals c.field_row-in-Left.ensures.kept.items)
 
 pub returns-in-List : goal.returns-in-List
 returns-in-List g c = rw c.in-List.is
     (faultless_applies (list_row (map (value_in (extent_of c.args.w.now.heap)) c.args.vals.now)) c.args.w.now c.list.new.w (g.L.Locals.items c.args.l.now)
     (g.L.Locals.items c.args.l.now) (g.S.Streams.state c.args.streams.now) c.list.result
-    (λ was. c.list.ensures.row was) c.list.ensures.live c.list.ensures.locals c.list.ensures.kept)
+    (λ was. c.list.ensures.row was) c.list.ensures.live c.list.ensures.kept.locals c.list.ensures.kept.items)
 
 pub returns-in-Many : goal.returns-in-Many
 returns-in-Many g c = rw c.in-Many.is
     (faultless_applies (many_row (map (value_in (extent_of c.args.w.now.heap)) c.args.vals.now)) c.args.w.now c.many_row.new.w (g.L.Locals.items c.args.l.now)
     (g.L.Locals.items c.args.l.now) (g.S.Streams.state c.args.streams.now) c.many_row.result
-    (λ was. c.many_row.ensures.row was) c.many_row.ensures.live c.many_row.ensures.locals c.many_row.ensures.kept)
+    (λ was. c.many_row.ensures.row was) c.many_row.ensures.live c.many_row.ensures.kept.locals c.many_row.ensures.kept.items)
 
 pub returns-in-Map : goal.returns-in-Map
 returns-in-Map g c = rw c.in-Map.is
     (halted_applies (map_row (map (value_in (extent_of c.args.w.now.heap)) c.args.vals.now)) c.args.w.now c.map_row.new.w (g.L.Locals.items c.args.l.now)
     (g.S.Streams.state c.args.streams.now)
-    c.map_row.result c.as_answer-in-Map.result c.as_answer-in-Map.ensures c.map_row.ensures.row c.map_row.ensures.live c.map_row.ensures.locals
-    c.map_row.ensures.kept)
+    c.map_row.result c.as_answer-in-Map.result c.as_answer-in-Map.ensures c.map_row.ensures.row c.map_row.ensures.live c.map_row.ensures.kept.locals
+    c.map_row.ensures.kept.items)
 
 pub returns-in-Match : goal.returns-in-Match
 returns-in-Match g c = rw c.in-Match.is
     (faultless_applies (match_row (map (value_in (extent_of c.args.w.now.heap)) c.args.vals.now)) c.args.w.now c.match_row.new.w (g.L.Locals.items c.args.l.now)
     (g.L.Locals.items c.args.l.now) (g.S.Streams.state c.args.streams.now) c.match_row.result
-    (λ was. c.match_row.ensures.row was) c.match_row.ensures.live c.match_row.ensures.locals c.match_row.ensures.kept)
+    (λ was. c.match_row.ensures.row was) c.match_row.ensures.live c.match_row.ensures.kept.locals c.match_row.ensures.kept.items)
 
 pub returns-in-Member : goal.returns-in-Member
 returns-in-Member g c = rw c.in-Member.is
@@ -193,7 +193,7 @@ pub returns-in-Move : goal.returns-in-Move
 returns-in-Move g c = rw c.in-Move.is
     (faultless_applies (move_row (map (value_in (extent_of c.args.w.now.heap)) c.args.vals.now)) c.args.w.now c.move_row.new.w (g.L.Locals.items c.args.l.now)
     (g.L.Locals.items c.args.l.now) (g.S.Streams.state c.args.streams.now) c.move_row.result
-    (λ was. c.move_row.ensures.row was) c.move_row.ensures.live c.move_row.ensures.locals c.move_row.ensures.kept)
+    (λ was. c.move_row.ensures.row was) c.move_row.ensures.live c.move_row.ensures.kept.locals c.move_row.ensures.kept.items)
 
 pub returns-in-Numeric : goal.returns-in-Numeric
 returns-in-Numeric g c = rw c.in-Numeric.is
@@ -206,14 +206,14 @@ pub returns-in-Ord : goal.returns-in-Ord
 returns-in-Ord g c = rw c.in-Ord.is
     (halted_applies (ord_row (map (value_in (extent_of c.args.w.now.heap)) c.args.vals.now)) c.args.w.now c.ord_row.new.w (g.L.Locals.items c.args.l.now)
     (g.S.Streams.state c.args.streams.now)
-    c.ord_row.result c.as_answer-in-Ord.result c.as_answer-in-Ord.ensures c.ord_row.ensures.row c.ord_row.ensures.live c.ord_row.ensures.locals
-    c.ord_row.ensures.kept)
+    c.ord_row.result c.as_answer-in-Ord.result c.as_answer-in-Ord.ensures c.ord_row.ensures.row c.ord_row.ensures.live c.ord_row.ensures.kept.locals
+    c.ord_row.ensures.kept.items)
 
 pub returns-in-Pop : goal.returns-in-Pop
 returns-in-Pop g c = rw c.in-Pop.is
     (faultless_applies (get_row (map (value_in (extent_of c.args.w.now.heap)) c.args.vals.now)) c.args.w.now c.get-in-Pop.new.w (g.L.Locals.items c.args.l.now)
     (g.L.Locals.items c.args.l.now) (g.S.Streams.state c.args.streams.now) c.get-in-Pop.result
-    (λ was. c.get-in-Pop.ensures.row was) c.get-in-Pop.ensures.live c.get-in-Pop.ensures.locals c.get-in-Pop.ensures.kept)
+    (λ was. c.get-in-Pop.ensures.row was) c.get-in-Pop.ensures.live c.get-in-Pop.ensures.kept.locals c.get-in-Pop.ensures.kept.items)
 
 pub returns-in-Pos : goal.returns-in-Pos
 returns-in-Pos g c = rw c.in-Pos.is
@@ -225,19 +225,19 @@ pub returns-in-Pull : goal.returns-in-Pull
 returns-in-Pull g c = rw c.in-Pull.is
     (faultless_applies (pull_row (map (value_in (extent_of c.args.w.now.heap)) c.args.vals.now)) c.args.w.now c.pull.new.w (g.L.Locals.items c.args.l.now)
     (g.L.Locals.items c.args.l.now) (g.S.Streams.state c.args.streams.now) c.pull.result
-    (λ was. c.pull.ensures.row was) c.pull.ensures.live c.pull.ensures.locals c.pull.ensures.kept)
+    (λ was. c.pull.ensures.row was) c.pull.ensures.live c.pull.ensures.kept.locals c.pull.ensures.kept.items)
 
 pub returns-in-Push : goal.returns-in-Push
 returns-in-Push g c = rw c.in-Push.is
     (faultless_applies (push_row (map (value_in (extent_of c.args.w.now.heap)) c.args.vals.now)) c.args.w.now c.push.new.w (g.L.Locals.items c.args.l.now)
     (g.L.Locals.items c.args.l.now) (g.S.Streams.state c.args.streams.now) c.push.result
-    (λ was. c.push.ensures.row was) c.push.ensures.live c.push.ensures.locals c.push.ensures.kept)
+    (λ was. c.push.ensures.row was) c.push.ensures.live c.push.ensures.kept.locals c.push.ensures.kept.items)
 
 pub returns-in-Put : goal.returns-in-Put
 returns-in-Put g c = rw c.in-Put.is
     (faultless_applies (put_row (map (value_in (extent_of c.args.w.now.heap)) c.args.vals.now)) c.args.w.now c.put.new.w (g.L.Locals.items c.args.l.now)
     (g.L.Locals.items c.args.l.now) (g.S.Streams.state c.args.streams.now) c.put.result
-    (λ was. c.put.ensures.row was) c.put.ensures.live c.put.ensures.locals c.put.ensures.kept)
+    (λ was. c.put.ensures.row was) c.put.ensures.live c.put.ensures.kept.locals c.put.ensures.kept.items)
 
 pub returns-in-Read : goal.returns-in-Read
 returns-in-Read g c = rw c.in-Read.is c.read.ensures.row
@@ -249,41 +249,40 @@ pub returns-in-Repl : goal.returns-in-Repl
 returns-in-Repl g c = rw c.in-Repl.is
     (halted_applies (repl_row (map (value_in (extent_of c.args.w.now.heap)) c.args.vals.now)) c.args.w.now c.repl_row.new.w (g.L.Locals.items c.args.l.now)
     (g.S.Streams.state c.args.streams.now)
-    c.repl_row.result c.as_answer-in-Repl.result c.as_answer-in-Repl.ensures c.repl_row.ensures.row c.repl_row.ensures.live c.repl_row.ensures.locals
-    c.repl_row.ensures.kept)
+    c.repl_row.result c.as_answer-in-Repl.result c.as_answer-in-Repl.ensures c.repl_row.ensures.row c.repl_row.ensures.live c.repl_row.ensures.kept.locals
+    c.repl_row.ensures.kept.items)
 
 pub returns-in-Reverse : goal.returns-in-Reverse
 returns-in-Reverse g c = rw c.in-Reverse.is
     (halted_applies (reverse_row (map (value_in (extent_of c.args.w.now.heap)) c.args.vals.now)) c.args.w.now c.reverse_row.new.w
     (g.L.Locals.items c.args.l.now) (g.S.Streams.state c.args.streams.now)
     c.reverse_row.result c.as_answer-in-Reverse.result c.as_answer-in-Reverse.ensures c.reverse_row.ensures.row c.reverse_row.ensures.live
-    c.reverse_row.ensures.locals c.reverse_row.ensures.kept)
+    c.reverse_row.ensures.kept.locals c.reverse_row.ensures.kept.items)
 
 pub returns-in-Right : goal.returns-in-Right
 returns-in-Right g c = rw c.in-Right.is
     (halted_applies (right_row (map (value_in (extent_of c.args.w.now.heap)) c.args.vals.now)) c.args.w.now c.field_row-in-Right.new.w
     (g.L.Locals.items c.args.l.now) (g.S.Streams.state c.args.streams.now)
     c.field_row-in-Right.result c.as_answer-in-Right.result c.as_answer-in-Right.ensures c.field_row-in-Right.ensures.row c.field_row-in-Right.ensures.live
-    c.field_row-in-Right.ensures.locals c.field_row-in-Right.ensures.kept)
+    c.field_row-in-Right.ensures.kept.locals c.field_row-in-Right.ensures.kept.items)
 
 pub returns-in-Seq : goal.returns-in-Seq
 returns-in-Seq g c = rw c.in-Seq.is
-    (halted_applies (seq_row (map (value_in (extent_of c.args.w.now.heap)) c.args.vals.now)) c.args.w.now c.args.w.now (g.L.Locals.items c.args.l.now)
-    (g.S.Streams.state c.args.streams.now)
-    c.seq_row.result c.as_answer-in-Seq.result c.as_answer-in-Seq.ensures c.seq_row.ensures.row c.seq_row.ensures.live c.requires.locals
-    (keeps_items_refl (reach_of c.args.w.now (g.L.Locals.items c.args.l.now))))
+    (faultless_applies (seq_row (map (value_in (extent_of c.args.w.now.heap)) c.args.vals.now)) c.args.w.now c.args.w.now (g.L.Locals.items c.args.l.now)
+    (g.L.Locals.items c.args.l.now) (g.S.Streams.state c.args.streams.now) c.seq_row.result
+    (λ was. c.seq_row.ensures.row was) c.seq_row.ensures.live c.requires.locals (keeps_items_refl (reach_of c.args.w.now (g.L.Locals.items c.args.l.now))))
 
 pub returns-in-Set : goal.returns-in-Set
 returns-in-Set g c = rw c.in-Set.is
     (faultless_applies (set_row (map (value_in (extent_of c.args.w.now.heap)) c.args.vals.now)) c.args.w.now c.set.new.w (g.L.Locals.items c.args.l.now)
     (g.L.Locals.items c.args.l.now) (g.S.Streams.state c.args.streams.now) c.set.result
-    (λ was. c.set.ensures.row was) c.set.ensures.live c.set.ensures.locals c.set.ensures.kept)
+    (λ was. c.set.ensures.row was) c.set.ensures.live c.set.ensures.kept.locals c.set.ensures.kept.items)
 
 pub returns-in-Sort : goal.returns-in-Sort
 returns-in-Sort g c = rw c.in-Sort.is
     (faultless_applies (sort_row (g.N.Names.known c.args.names.now) (map (value_in (extent_of c.args.w.now.heap)) c.args.vals.now)) c.args.w.now c.sort.new.w
     (g.L.Locals.items c.args.l.now) (g.L.Locals.items c.args.l.now) (g.S.Streams.state c.args.streams.now) c.sort.result
-    (λ was. c.sort.ensures.row was) c.sort.ensures.live c.sort.ensures.locals c.sort.ensures.kept)
+    (λ was. c.sort.ensures.row was) c.sort.ensures.live c.sort.ensures.kept.locals c.sort.ensures.kept.items)
 
 pub returns-in-Stop : goal.returns-in-Stop
 returns-in-Stop g c = rw c.in-Stop.is c.stop.ensures.row
@@ -292,40 +291,40 @@ pub returns-in-String : goal.returns-in-String
 returns-in-String g c = rw c.in-String.is
     (halted_applies (string_row (map (value_in (extent_of c.args.w.now.heap)) c.args.vals.now)) c.args.w.now c.string_row.new.w (g.L.Locals.items c.args.l.now)
     (g.S.Streams.state c.args.streams.now)
-    c.string_row.result c.as_answer-in-String.result c.as_answer-in-String.ensures c.string_row.ensures.row c.string_row.ensures.live c.string_row.ensures.locals
-    c.string_row.ensures.kept)
+    c.string_row.result c.as_answer-in-String.result c.as_answer-in-String.ensures c.string_row.ensures.row c.string_row.ensures.live c.string_row.ensures.kept.locals
+    c.string_row.ensures.kept.items)
 
 pub returns-in-Tab : goal.returns-in-Tab
 returns-in-Tab g c = rw c.in-Tab.is
     (faultless_applies (tab_row (map (value_in (extent_of c.args.w.now.heap)) c.args.vals.now)) c.args.w.now c.tab_row.new.w (g.L.Locals.items c.args.l.now)
     (g.L.Locals.items c.args.l.now) (g.S.Streams.state c.args.streams.now) c.tab_row.result
-    (λ was. c.tab_row.ensures.row was) c.tab_row.ensures.live c.tab_row.ensures.locals c.tab_row.ensures.kept)
+    (λ was. c.tab_row.ensures.row was) c.tab_row.ensures.live c.tab_row.ensures.kept.locals c.tab_row.ensures.kept.items)
 
 pub returns-in-Table : goal.returns-in-Table
 returns-in-Table g c = rw c.in-Table.is
     (faultless_applies (table_row (map (value_in (extent_of c.args.w.now.heap)) c.args.vals.now)) c.args.w.now c.table.new.w (g.L.Locals.items c.args.l.now)
     (g.L.Locals.items c.args.l.now) (g.S.Streams.state c.args.streams.now) c.table.result
-    (λ was. c.table.ensures.row was) c.table.ensures.live c.table.ensures.locals c.table.ensures.kept)
+    (λ was. c.table.ensures.row was) c.table.ensures.live c.table.ensures.kept.locals c.table.ensures.kept.items)
 
 pub returns-in-Trim : goal.returns-in-Trim
 returns-in-Trim g c = rw c.in-Trim.is
     (halted_applies (trim_row (map (value_in (extent_of c.args.w.now.heap)) c.args.vals.now)) c.args.w.now c.trim_row.new.w (g.L.Locals.items c.args.l.now)
     (g.S.Streams.state c.args.streams.now)
-    c.trim_row.result c.as_answer-in-Trim.result c.as_answer-in-Trim.ensures c.trim_row.ensures.row c.trim_row.ensures.live c.trim_row.ensures.locals
-    c.trim_row.ensures.kept)
+    c.trim_row.result c.as_answer-in-Trim.result c.as_answer-in-Trim.ensures c.trim_row.ensures.row c.trim_row.ensures.live c.trim_row.ensures.kept.locals
+    c.trim_row.ensures.kept.items)
 
 pub returns-in-TypeOf : goal.returns-in-TypeOf
 returns-in-TypeOf g c = rw c.in-TypeOf.is
     (halted_applies (type_row (g.N.Names.known c.args.names.now) (map (value_in (extent_of c.args.w.now.heap)) c.args.vals.now)) c.args.w.now c.type_row.new.w
     (g.L.Locals.items c.args.l.now) (g.S.Streams.state c.args.streams.now)
-    c.type_row.result c.as_answer-in-TypeOf.result c.as_answer-in-TypeOf.ensures c.type_row.ensures.row c.type_row.ensures.live c.type_row.ensures.locals
-    c.type_row.ensures.kept)
+    c.type_row.result c.as_answer-in-TypeOf.result c.as_answer-in-TypeOf.ensures c.type_row.ensures.row c.type_row.ensures.live c.type_row.ensures.kept.locals
+    c.type_row.ensures.kept.items)
 
 pub returns-in-Upto : goal.returns-in-Upto
 returns-in-Upto g c = rw c.in-Upto.is
     (faultless_applies (upto_row (map (value_in (extent_of c.args.w.now.heap)) c.args.vals.now)) c.args.w.now c.upto_row.new.w (g.L.Locals.items c.args.l.now)
     (g.L.Locals.items c.args.l.now) (g.S.Streams.state c.args.streams.now) c.upto_row.result
-    (λ was. c.upto_row.ensures.row was) c.upto_row.ensures.live c.upto_row.ensures.locals c.upto_row.ensures.kept)
+    (λ was. c.upto_row.ensures.row was) c.upto_row.ensures.live c.upto_row.ensures.kept.locals c.upto_row.ensures.kept.items)
 
 pub returns-in-Write : goal.returns-in-Write
 returns-in-Write g c = rw c.in-Write.is c.write.ensures.row
@@ -337,4 +336,4 @@ pub returns-in-ErrorClear : goal.returns-in-ErrorClear
 returns-in-ErrorClear g c = rw c.in-ErrorClear.is
     (faultless_applies errorclear_row c.args.w.now c.errorclear_row.new.w (g.L.Locals.items c.args.l.now) (g.L.Locals.items c.args.l.now)
     (g.S.Streams.state c.args.streams.now) c.errorclear_row.result
-    (λ was. c.errorclear_row.ensures.row was) c.errorclear_row.ensures.live c.errorclear_row.ensures.locals c.errorclear_row.ensures.kept)
+    (λ was. c.errorclear_row.ensures.row was) c.errorclear_row.ensures.live c.errorclear_row.ensures.kept.locals c.errorclear_row.ensures.kept.items)

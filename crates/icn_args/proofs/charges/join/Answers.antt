@@ -1,6 +1,7 @@
 use Rattle.std.proofs.Common.{refl, ◌++◌, length}
 use Rattle.icn_heap.specs.Extents.{text_in}
 use Rattle.icn_heap.specs.Heaps.{extent_of, heap_of}
+use Rattle.icn_heap.proofs.GrowingHeaps.{live_kept}
 use Rattle.icn_vars.proofs.HeapChanges.{bytes_change, fields_charged, change_passes}
 use Rattle.icn_args.proofs.WorldCharges.{charge_stops}
 use Rattle.icn_args.proofs.charges.join.Goals as goal
@@ -22,10 +23,13 @@ returns-clause-step g c =
 
 pub returns-clause-kept : goal.returns-clause-kept
 returns-clause-kept g c = record {
-  extent = c.join.ensures.kept;
-  fields = fields_charged (bytes_change (length (text_in (extent_of c.args.w.now.heap) c.args.a ++ text_in (extent_of c.args.w.now.heap) c.args.b)))
-      (heap_of c.args.w.now.heap) (heap_of c.join.new.self) c.in_ok-join.ensures.step;
-  globals = refl;
-  statics = refl;
-  locals = refl;
+  locals = live_kept c.join.ensures.kept _ c.requires.locals;
+  items = record {
+    extent = c.join.ensures.kept;
+    fields = fields_charged (bytes_change (length (text_in (extent_of c.args.w.now.heap) c.args.a ++ text_in (extent_of c.args.w.now.heap) c.args.b)))
+        (heap_of c.args.w.now.heap) (heap_of c.join.new.self) c.in_ok-join.ensures.step;
+    globals = refl;
+    statics = refl;
+    locals = refl;
+  };
 }

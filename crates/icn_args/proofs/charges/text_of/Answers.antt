@@ -1,6 +1,7 @@
 use Rattle.std.proofs.Common.{refl}
 use Rattle.icn_heap.specs.Extents.{value_in}
 use Rattle.icn_heap.specs.Heaps.{extent_of, heap_of}
+use Rattle.icn_heap.proofs.GrowingHeaps.{live_kept}
 use Rattle.icn_vars.proofs.HeapChanges.{fields_charged, change_passes, text_change}
 use Rattle.icn_args.proofs.WorldCharges.{charge_stops}
 use Rattle.icn_args.proofs.charges.text_of.Goals as goal
@@ -20,12 +21,15 @@ returns-clause-step g c =
 
 pub returns-clause-kept : goal.returns-clause-kept
 returns-clause-kept g c = record {
-  extent = c.to_text.ensures.kept;
-  fields = fields_charged (text_change (value_in (extent_of c.args.w.now.heap) c.args.val)) (heap_of c.args.w.now.heap)
-      (heap_of c.to_text.new.heap) c.in_ok-span.ensures.step;
-  globals = refl;
-  statics = refl;
-  locals = refl;
+  locals = live_kept c.to_text.ensures.kept _ c.requires.locals;
+  items = record {
+    extent = c.to_text.ensures.kept;
+    fields = fields_charged (text_change (value_in (extent_of c.args.w.now.heap) c.args.val)) (heap_of c.args.w.now.heap)
+        (heap_of c.to_text.new.heap) c.in_ok-span.ensures.step;
+    globals = refl;
+    statics = refl;
+    locals = refl;
+  };
 }
 
 pub returns-in_err-span-clause-held : goal.returns-in_err-span-clause-held

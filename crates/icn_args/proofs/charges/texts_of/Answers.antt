@@ -23,11 +23,11 @@ returns-in_err-second-clause-step g c = λ outside.
     c.in_err-second.field-0.0 c.from_residual-in_err-second.result c.from_residual-in_err-second.ensures.1 (c.in_ok-first.ensures.step outside)
     (subst (λ (value : Value). StopsPassing (extent_of c.text_of-2.new.w.heap) (costs_text value) (setting_of outside c.text_of.new.w
     (g.L.Locals.items c.args.l.now)) (setting_of outside c.text_of-2.new.w (g.L.Locals.items c.args.l.now)) c.in_err-second.field-0.0)
-    (c.text_of.ensures.kept.extent.value c.args.b c.requires.second) (c.in_err-second.ensures.step outside))
+    (c.text_of.ensures.kept.items.extent.value c.args.b c.requires.second) (c.in_err-second.ensures.step outside))
 
 pub returns-clause-step : goal.returns-clause-step
 returns-clause-step g c = λ outside next.
     c.in_ok-first.ensures.step outside (costs_text (value_in (extent_of c.args.w.now.heap) c.args.b) next)
     ∙ subst (λ (value : Value). costs_text value next (setting_of outside c.text_of.new.w (g.L.Locals.items c.args.l.now))
     ≡ next (setting_of outside c.text_of-2.new.w (g.L.Locals.items c.args.l.now)))
-    (c.text_of.ensures.kept.extent.value c.args.b c.requires.second) (c.in_ok-second.ensures.step outside next)
+    (c.text_of.ensures.kept.items.extent.value c.args.b c.requires.second) (c.in_ok-second.ensures.step outside next)

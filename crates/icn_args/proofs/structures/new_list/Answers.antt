@@ -5,6 +5,7 @@ use Rattle.icn_value.specs.Changes.{having_list}
 use Rattle.icn_defs.specs.Rows.{new_list_of}
 use Rattle.icn_heap.specs.Extents.{value_in}
 use Rattle.icn_heap.specs.Heaps.{extent_of, heap_of}
+use Rattle.icn_heap.proofs.GrowingHeaps.{live_kept}
 use Rattle.icn_vars.specs.Stops.{stop_of}
 use Rattle.icn_vars.specs.Worlds.{setting_of}
 use Rattle.icn_vars.proofs.HeapChanges.{cells_change, fields_behind}
@@ -38,11 +39,14 @@ returns-clause-found g c = λ outside next.
 
 pub returns-clause-kept : goal.returns-clause-kept
 returns-clause-kept g c = record {
-  extent = c.list_from.ensures.kept;
-  fields = fields_behind (cells_change (1 + length (map (value_in (extent_of c.args.w.now.heap)) c.args.items.now)))
-      (having_list (map (value_in (extent_of c.args.w.now.heap)) c.args.items.now)) (λ heap. refl) (heap_of c.args.w.now.heap)
-      (heap_of c.list_from.new.self) c.in_ok-list_from.ensures.step;
-  globals = refl;
-  statics = refl;
-  locals = refl;
+  locals = live_kept c.list_from.ensures.kept _ c.requires.locals;
+  items = record {
+    extent = c.list_from.ensures.kept;
+    fields = fields_behind (cells_change (1 + length (map (value_in (extent_of c.args.w.now.heap)) c.args.items.now)))
+        (having_list (map (value_in (extent_of c.args.w.now.heap)) c.args.items.now)) (λ heap. refl) (heap_of c.args.w.now.heap)
+        (heap_of c.list_from.new.self) c.in_ok-list_from.ensures.step;
+    globals = refl;
+    statics = refl;
+    locals = refl;
+  };
 }

@@ -12,7 +12,7 @@ pub new_record-requires-clause-locals : goal.new_record-requires-clause-locals
 new_record-requires-clause-locals g c = live_locals c.requires.stack.0 _ c.args.frames.now.flat c.requires.stack.1
 
 pub returns-clause-kept : goal.returns-clause-kept
-returns-clause-kept g c = keeps_without_locals c.args.world.now c.new_record.new.w (held.locals c.args.frames.now.flat) c.new_record.ensures.kept
+returns-clause-kept g c = keeps_without_locals c.args.world.now c.new_record.new.w (held.locals c.args.frames.now.flat) c.new_record.ensures.kept.items
 
 pub returns-clause-counts : goal.returns-clause-counts
 returns-clause-counts g c =
@@ -23,4 +23,4 @@ pub returns-clause-made : goal.returns-clause-made
 returns-clause-made g c =
     makes_value c.requires.stack.0 c.args.world.now c.new_record.new.w c.args.frames.now.flat
     (new_record_of (record { kind = c.args.kind; fields = map (value_in (extent_of c.args.world.now.heap)) c.args.fields.now })) c.new_record.result
-    c.new_record.ensures.kept c.requires.stack.1 c.local_count.ensures.same c.new_record.ensures.found
+    c.new_record.ensures.kept.items c.requires.stack.1 c.local_count.ensures.same c.new_record.ensures.found

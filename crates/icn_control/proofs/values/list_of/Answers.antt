@@ -12,7 +12,7 @@ pub new_list-requires-clause-locals : goal.new_list-requires-clause-locals
 new_list-requires-clause-locals g c = live_locals c.requires.stack.0 _ c.args.frames.now.flat c.requires.stack.1
 
 pub returns-clause-kept : goal.returns-clause-kept
-returns-clause-kept g c = keeps_without_locals c.args.world.now c.new_list.new.w (held.locals c.args.frames.now.flat) c.new_list.ensures.kept
+returns-clause-kept g c = keeps_without_locals c.args.world.now c.new_list.new.w (held.locals c.args.frames.now.flat) c.new_list.ensures.kept.items
 
 pub returns-clause-counts : goal.returns-clause-counts
 returns-clause-counts g c = list_counted c.args.world.now c.new_list.new.w (held.locals c.args.frames.now.flat)
@@ -21,5 +21,5 @@ returns-clause-counts g c = list_counted c.args.world.now c.new_list.new.w (held
 pub returns-clause-made : goal.returns-clause-made
 returns-clause-made g c =
     makes_value c.requires.stack.0 c.args.world.now c.new_list.new.w c.args.frames.now.flat
-    (new_list_of (map (value_in (extent_of c.args.world.now.heap)) c.args.vals.now)) c.new_list.result c.new_list.ensures.kept c.requires.stack.1
+    (new_list_of (map (value_in (extent_of c.args.world.now.heap)) c.args.vals.now)) c.new_list.result c.new_list.ensures.kept.items c.requires.stack.1
     c.local_count.ensures.same c.new_list.ensures.found

@@ -20,7 +20,7 @@ returns-in_err-text g c = λ output errors.
     (g.I.Source.counts c.read_text.new.input) c.read_text.ensures.called output errors
     c.in_err-text.field-0.0 c.from_residual.result c.from_residual.ensures.1 (λ was told. c.in_err-text.ensures.reads was output errors told)
     (c.in_err-text.ensures.some output errors) c.in_err-text.ensures.cause
-    c.in_err-text.ensures.halts c.read_text.ensures.locals c.read_text.ensures.kept
+    c.in_err-text.ensures.halts c.read_text.ensures.kept.locals c.read_text.ensures.kept.items
 
 pub returns-in-Some : goal.returns-in-Some
 returns-in-Some g c = λ output errors.
@@ -32,7 +32,7 @@ returns-in-Some g c = λ output errors.
     (g.I.Source.counts c.read_text.new.input) c.read_text.ensures.called output errors
     c.in_ok-text.field-0 c.in-Some.text (Gives (HeldVal (HeldText c.in-Some.text))) c.in-Some.is (λ s. refl)
     (λ was told. c.in_ok-text.ensures.reads was output errors told) (c.in_ok-text.ensures.some output errors)
-    c.in_ok-text.ensures.cause (record { live = record { live = record { live = text } } }) c.read_text.ensures.locals c.read_text.ensures.kept
+    c.in_ok-text.ensures.cause (record { live = record { live = record { live = text } } }) c.read_text.ensures.kept.locals c.read_text.ensures.kept.items
 
 pub returns-in-None : goal.returns-in-None
 returns-in-None g c = λ output errors.
@@ -41,4 +41,4 @@ returns-in-None g c = λ output errors.
     (g.I.Source.left c.args.input.now) (g.I.Source.left c.read_text.new.input) (g.I.Source.counts c.args.input.now)
     (g.I.Source.counts c.read_text.new.input) c.read_text.ensures.called output errors
     c.in_ok-text.field-0 c.in-None.is (λ was told. c.in_ok-text.ensures.reads was output errors told)
-    (c.in_ok-text.ensures.some output errors) c.in_ok-text.ensures.cause c.read_text.ensures.locals c.read_text.ensures.kept
+    (c.in_ok-text.ensures.some output errors) c.in_ok-text.ensures.cause c.read_text.ensures.kept.locals c.read_text.ensures.kept.items

@@ -8,14 +8,15 @@ use Rattle.icn_streams.specs.Answers.{call_state}
 use Rattle.icn_streams.specs.Applies.{Applies}
 use Rattle.icn_ops.proofs.applying.apply_operation.Goals as goal
 
-pub apply_to_operands-requires-clause-first : goal.apply_to_operands-requires-clause-first
-apply_to_operands-requires-clause-first g c = c.operand-x.ensures.live (reach_of c.args.w.now (g.L.Locals.items c.args.l.now)) c.requires.args
-
-pub apply_to_operands-requires-clause-second : goal.apply_to_operands-requires-clause-second
-apply_to_operands-requires-clause-second g c = c.operand-y.ensures.live (reach_of c.args.w.now (g.L.Locals.items c.args.l.now)) c.requires.args
-
-pub apply_to_operands-requires-clause-third : goal.apply_to_operands-requires-clause-third
-apply_to_operands-requires-clause-third g c = c.operand-z.ensures.live (reach_of c.args.w.now (g.L.Locals.items c.args.l.now)) c.requires.args
+pub apply_to_operands-requires : goal.apply_to_operands-requires
+apply_to_operands-requires g c = record {
+  live = record {
+    locals = c.requires.locals;
+    first = c.operand-x.ensures.live (reach_of c.args.w.now (g.L.Locals.items c.args.l.now)) c.requires.args;
+    second = c.operand-y.ensures.live (reach_of c.args.w.now (g.L.Locals.items c.args.l.now)) c.requires.args;
+    third = c.operand-z.ensures.live (reach_of c.args.w.now (g.L.Locals.items c.args.l.now)) c.requires.args;
+  };
+}
 
 pub returns : goal.returns
 returns g c =

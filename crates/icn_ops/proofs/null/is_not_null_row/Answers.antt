@@ -29,4 +29,4 @@ returns-clause-row g c = λ outside.
 
 pub returns-clause-live : goal.returns-clause-live
 returns-clause-live g c =
-    c.item_if.ensures.live (reach_of c.args.w.now (g.L.Locals.items c.args.l.now)) c.requires.first
+    c.item_if.ensures.live (reach_of c.args.w.now (g.L.Locals.items c.args.l.now)) c.requires.live.first

@@ -1,7 +1,7 @@
 use Rattle.std.proofs.Common.{◌∙◌}
 use Rattle.icn_heap.specs.Heaps.{extent_of}
 use Rattle.icn_vars.specs.Worlds.{item_in, reach_of, setting_of}
-use Rattle.icn_vars.proofs.KeptItems.{keeps_items_trans}
+use Rattle.icn_vars.proofs.KeptItems.{keeps_live_then}
 use Rattle.icn_args.proofs.RowAnswers.{row_stops, stop_lives}
 use Rattle.icn_ops.specs.Operands.{one_text, matches_here}
 use Rattle.icn_ops.proofs.scanning.tab_match_row.Goals as goal
@@ -22,6 +22,4 @@ returns-clause-row g c = λ outside.
     c.in_ok-wanted.ensures.found outside matches_here ∙ c.match_here.ensures.row outside
 
 pub returns-clause-kept : goal.returns-clause-kept
-returns-clause-kept g c =
-    keeps_items_trans (reach_of c.args.w.now (g.L.Locals.items c.args.l.now)) (reach_of c.one_text.new.w (g.L.Locals.items c.args.l.now))
-    (reach_of c.match_here.new.w (g.L.Locals.items c.args.l.now)) c.one_text.ensures.kept c.match_here.ensures.kept
+returns-clause-kept g c = keeps_live_then c.one_text.ensures.kept c.match_here.ensures.kept

@@ -13,6 +13,7 @@ use Rattle.icn_vars.specs.Stops.{stop_of}
 use Rattle.icn_args.specs.RowWords.{IsFound}
 use Rattle.icn_args.proofs.RowAnswers.{found_stops}
 use Rattle.icn_heap.specs.MadeStructures.{having_members}
+use Rattle.icn_heap.proofs.GrowingHeaps.{live_kept}
 use Rattle.icn_ops.proofs.sets.new_difference.Goals as goal
 
 pub returns-in_err-difference-clause-found : goal.returns-in_err-difference-clause-found
@@ -41,14 +42,16 @@ returns-clause-found g c = λ outside.
     (g.L.Locals.items c.args.l.now) c.difference.ensures.kept refl c.args.w.now.sound c.requires.locals))
 
 pub returns-clause-kept : goal.returns-clause-kept
-returns-clause-kept g c =
-    record {
-      extent = c.difference.ensures.kept;
-      fields = fields_behind (cells_change (1
-          + length (difference (set_at (heap_of c.args.w.now.heap) c.args.first) (set_at (heap_of c.args.w.now.heap) c.args.second))))
-          (having_members (difference (set_at (heap_of c.args.w.now.heap) c.args.first) (set_at (heap_of c.args.w.now.heap) c.args.second))) (λ heap. refl)
-          (heap_of c.args.w.now.heap) (heap_of c.difference.new.self) c.in_ok-difference.ensures.step;
-      globals = refl;
-      statics = refl;
-      locals = refl;
-    }
+returns-clause-kept g c = record {
+  locals = live_kept c.difference.ensures.kept _ c.requires.locals;
+  items = record {
+    extent = c.difference.ensures.kept;
+    fields = fields_behind (cells_change (1
+        + length (difference (set_at (heap_of c.args.w.now.heap) c.args.first) (set_at (heap_of c.args.w.now.heap) c.args.second))))
+        (having_members (difference (set_at (heap_of c.args.w.now.heap) c.args.first) (set_at (heap_of c.args.w.now.heap) c.args.second))) (λ heap. refl)
+        (heap_of c.args.w.now.heap) (heap_of c.difference.new.self) c.in_ok-difference.ensures.step;
+    globals = refl;
+    statics = refl;
+    locals = refl;
+  };
+}

@@ -5,7 +5,7 @@ use Rattle.icn_defs.specs.Rows.{Gives, builds, costs_bytes, gives_value}
 use Rattle.icn_heap.specs.Extents.{text_in}
 use Rattle.icn_heap.specs.Heaps.{extent_of}
 use Rattle.icn_vars.specs.Worlds.{item_in, reach_of, setting_of}
-use Rattle.icn_vars.proofs.KeptItems.{keeps_items_trans}
+use Rattle.icn_vars.proofs.KeptItems.{keeps_live_then}
 use Rattle.icn_args.proofs.RowAnswers.{answer_then, row_stops, row_stops_at, stop_lives}
 use Rattle.icn_ops.specs.Operands.{two_texts}
 use Rattle.icn_ops.proofs.texts.concatenate_row.Goals as goal
@@ -41,9 +41,7 @@ returns-in_err-text-clause-live g c =
     c.from_residual-in_err-text.ensures.1 c.in_err-text.ensures.stops
 
 pub returns-in_err-text-clause-kept : goal.returns-in_err-text-clause-kept
-returns-in_err-text-clause-kept g c =
-    keeps_items_trans (reach_of c.args.w.now (g.L.Locals.items c.args.l.now)) (reach_of c.two_texts.new.w (g.L.Locals.items c.args.l.now))
-    (reach_of c.join.new.w (g.L.Locals.items c.args.l.now)) c.two_texts.ensures.kept c.join.ensures.kept
+returns-in_err-text-clause-kept g c = keeps_live_then c.two_texts.ensures.kept c.join.ensures.kept
 
 pub returns-clause-row : goal.returns-clause-row
 returns-clause-row g c = λ outside.
@@ -52,6 +50,4 @@ returns-clause-row g c = λ outside.
     ∙ ap (λ bytes. Gives (Val (Text bytes)) (setting_of outside c.join.new.w (g.L.Locals.items c.args.l.now))) (sym c.in_ok-text.ensures.text))
 
 pub returns-clause-kept : goal.returns-clause-kept
-returns-clause-kept g c =
-    keeps_items_trans (reach_of c.args.w.now (g.L.Locals.items c.args.l.now)) (reach_of c.two_texts.new.w (g.L.Locals.items c.args.l.now))
-    (reach_of c.join.new.w (g.L.Locals.items c.args.l.now)) c.two_texts.ensures.kept c.join.ensures.kept
+returns-clause-kept g c = keeps_live_then c.two_texts.ensures.kept c.join.ensures.kept

@@ -37,7 +37,7 @@ returns-in_err-target-clause-row g c = λ outside.
 pub returns-in_err-target-clause-live : goal.returns-in_err-target-clause-live
 returns-in_err-target-clause-live g c =
     stop_lives (reach_of c.args.w.now (g.L.Locals.items c.args.l.now)) c.in_err-target.field-0.0 c.from_residual-in_err-target.result
-    c.from_residual-in_err-target.ensures.1 (c.in_err-target.ensures.stops (reach_of c.args.w.now (g.L.Locals.items c.args.l.now)) c.requires.first)
+    c.from_residual-in_err-target.ensures.1 (c.in_err-target.ensures.stops (reach_of c.args.w.now (g.L.Locals.items c.args.l.now)) c.requires.live.first)
 
 pub returns-in_err-now-clause-row : goal.returns-in_err-now-clause-row
 returns-in_err-now-clause-row g c = λ outside.

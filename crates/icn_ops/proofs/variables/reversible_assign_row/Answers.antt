@@ -65,7 +65,7 @@ returns-in_err-target-clause-row g c = λ outside.
 pub returns-in_err-target-clause-live : goal.returns-in_err-target-clause-live
 returns-in_err-target-clause-live g c =
     stop_lives (reach_of c.args.w.now (g.L.Locals.items c.args.l.now)) c.in_err-target.field-0.0 c.from_residual-in_err-target.result
-    c.from_residual-in_err-target.ensures.1 (c.in_err-target.ensures.stops (reach_of c.args.w.now (g.L.Locals.items c.args.l.now)) c.requires.first)
+    c.from_residual-in_err-target.ensures.1 (c.in_err-target.ensures.stops (reach_of c.args.w.now (g.L.Locals.items c.args.l.now)) c.requires.live.first)
 
 pub returns-in_err-variable-clause-row : goal.returns-in_err-variable-clause-row
 returns-in_err-variable-clause-row g c = λ outside.
@@ -105,7 +105,7 @@ returns-in-Done-clause-row g c = λ outside.
     ∙ (done fails (λ (now : Variable). suspends (Var now) (UndoAssign now (value_in (extent_of c.args.w.now.heap) c.in_ok-old.old)))
     ∙ same_undo (variable_in (extent_of c.assign.new.w.heap) c.in-Done.variable) (value_in (extent_of c.args.w.now.heap) c.in_ok-old.old)
     (value_in (extent_of c.assign.new.w.heap) c.in_ok-old.old) (setting_of outside c.assign.new.w (g.L.Locals.items c.assign.new.l))
-    (c.assign.ensures.kept.extent.value c.in_ok-old.old c.in_ok-old.ensures.live)))))
+    (c.assign.ensures.kept.items.extent.value c.in_ok-old.old c.in_ok-old.ensures.live)))))
 
 pub returns-in-OutOfRange-clause-row : goal.returns-in-OutOfRange-clause-row
 returns-in-OutOfRange-clause-row g c = λ outside.
@@ -129,12 +129,12 @@ returns-in-Done-clause-live g c =
         record {
           live = record {
             live_variable = done;
-            live_value = c.assign.ensures.kept.extent.live c.in_ok-old.old c.in_ok-old.ensures.live;
+            live_value = c.assign.ensures.kept.items.extent.live c.in_ok-old.old c.in_ok-old.ensures.live;
             holds = still_holds (extent_of c.args.w.now.heap) c.args.x c.in_ok-target.target (variable_in (extent_of c.assign.new.w.heap) c.in-Done.variable)
                 (value_in (extent_of c.args.w.now.heap) c.in_ok-old.old) (value_in (extent_of c.assign.new.w.heap) c.in_ok-old.old)
                 (setting_of (outside_of []) c.args.w.now (g.L.Locals.items c.args.l.now)) c.in_ok-target.ensures.item
                 (c.in_ok-old.ensures.value (outside_of [])) holds
-                (c.assign.ensures.kept.extent.value c.in_ok-old.old c.in_ok-old.ensures.live);
+                (c.assign.ensures.kept.items.extent.value c.in_ok-old.old c.in_ok-old.ensures.live);
           };
         },
       );

@@ -77,7 +77,7 @@ returns-in_err-left-clause-row g c = λ outside.
 pub returns-in_err-left-clause-live : goal.returns-in_err-left-clause-live
 returns-in_err-left-clause-live g c =
     stop_lives (reach_of c.args.w.now (g.L.Locals.items c.args.l.now)) c.in_err-left.field-0.0 c.from_residual-in_err-left.result
-    c.from_residual-in_err-left.ensures.1 (c.in_err-left.ensures.stops (reach_of c.args.w.now (g.L.Locals.items c.args.l.now)) c.requires.first)
+    c.from_residual-in_err-left.ensures.1 (c.in_err-left.ensures.stops (reach_of c.args.w.now (g.L.Locals.items c.args.l.now)) c.requires.live.first)
 
 pub returns-in_err-right-clause-row : goal.returns-in_err-right-clause-row
 returns-in_err-right-clause-row g c = λ outside.
@@ -113,7 +113,7 @@ returns-in_err-right-clause-row g c = λ outside.
 pub returns-in_err-right-clause-live : goal.returns-in_err-right-clause-live
 returns-in_err-right-clause-live g c =
     stop_lives (reach_of c.args.w.now (g.L.Locals.items c.args.l.now)) c.in_err-right.field-0.0 c.from_residual-in_err-right.result
-    c.from_residual-in_err-right.ensures.1 (c.in_err-right.ensures.stops (reach_of c.args.w.now (g.L.Locals.items c.args.l.now)) c.requires.second)
+    c.from_residual-in_err-right.ensures.1 (c.in_err-right.ensures.stops (reach_of c.args.w.now (g.L.Locals.items c.args.l.now)) c.requires.live.second)
 
 pub returns-in_err-left-2-clause-row : goal.returns-in_err-left-2-clause-row
 returns-in_err-left-2-clause-row g c = λ outside.
@@ -183,8 +183,8 @@ returns-in-Done-clause-row g c = λ outside.
     (variable_in (extent_of c.exchange.new.w.heap) c.in-Done.right) (value_in (extent_of c.args.w.now.heap) c.in_ok-old_left.old_left)
     (value_in (extent_of c.exchange.new.w.heap) c.in_ok-old_left.old_left) (value_in (extent_of c.args.w.now.heap) c.in_ok-old_right.old_right)
     (value_in (extent_of c.exchange.new.w.heap) c.in_ok-old_right.old_right) (setting_of outside c.exchange.new.w (g.L.Locals.items c.exchange.new.l))
-    c.mover_of-mover.ensures (c.exchange.ensures.kept.extent.value c.in_ok-old_left.old_left c.in_ok-old_left.ensures.live)
-    (c.exchange.ensures.kept.extent.value c.in_ok-old_right.old_right c.in_ok-old_right.ensures.live))))))
+    c.mover_of-mover.ensures (c.exchange.ensures.kept.items.extent.value c.in_ok-old_left.old_left c.in_ok-old_left.ensures.live)
+    (c.exchange.ensures.kept.items.extent.value c.in_ok-old_right.old_right c.in_ok-old_right.ensures.live))))))
 
 pub returns-in-OutOfRange-clause-row : goal.returns-in-OutOfRange-clause-row
 returns-in-OutOfRange-clause-row g c = λ outside.
@@ -222,21 +222,21 @@ returns-in-Done-clause-live g c =
           live = (
             record {
               live_variable = done.0;
-              live_value = c.exchange.ensures.kept.extent.live c.in_ok-old_left.old_left c.in_ok-old_left.ensures.live;
+              live_value = c.exchange.ensures.kept.items.extent.live c.in_ok-old_left.old_left c.in_ok-old_left.ensures.live;
               holds = still_holds (extent_of c.args.w.now.heap) c.args.x c.in_ok-left.left (variable_in (extent_of c.exchange.new.w.heap) c.in-Done.left)
                   (value_in (extent_of c.args.w.now.heap) c.in_ok-old_left.old_left) (value_in (extent_of c.exchange.new.w.heap) c.in_ok-old_left.old_left)
                   (setting_of (outside_of []) c.args.w.now (g.L.Locals.items c.args.l.now)) c.in_ok-left.ensures.item
                   (c.in_ok-old_left.ensures.value (outside_of [])) holds.0
-                  (c.exchange.ensures.kept.extent.value c.in_ok-old_left.old_left c.in_ok-old_left.ensures.live);
+                  (c.exchange.ensures.kept.items.extent.value c.in_ok-old_left.old_left c.in_ok-old_left.ensures.live);
             },
             record {
               live_variable = done.1;
-              live_value = c.exchange.ensures.kept.extent.live c.in_ok-old_right.old_right c.in_ok-old_right.ensures.live;
+              live_value = c.exchange.ensures.kept.items.extent.live c.in_ok-old_right.old_right c.in_ok-old_right.ensures.live;
               holds = still_holds (extent_of c.args.w.now.heap) c.args.y c.in_ok-right.right (variable_in (extent_of c.exchange.new.w.heap) c.in-Done.right)
                   (value_in (extent_of c.args.w.now.heap) c.in_ok-old_right.old_right) (value_in (extent_of c.exchange.new.w.heap) c.in_ok-old_right.old_right)
                   (setting_of (outside_of []) c.args.w.now (g.L.Locals.items c.args.l.now)) c.in_ok-right.ensures.item
                   (c.in_ok-old_right.ensures.value (outside_of [])) holds.1
-                  (c.exchange.ensures.kept.extent.value c.in_ok-old_right.old_right c.in_ok-old_right.ensures.live);
+                  (c.exchange.ensures.kept.items.extent.value c.in_ok-old_right.old_right c.in_ok-old_right.ensures.live);
             },
           );
         },

@@ -67,7 +67,7 @@ returns-in_err-left-clause-row g c = λ outside.
 pub returns-in_err-left-clause-live : goal.returns-in_err-left-clause-live
 returns-in_err-left-clause-live g c =
     stop_lives (reach_of c.args.w.now (g.L.Locals.items c.args.l.now)) c.in_err-left.field-0.0 c.from_residual-in_err-left.result
-    c.from_residual-in_err-left.ensures.1 (c.in_err-left.ensures.stops (reach_of c.args.w.now (g.L.Locals.items c.args.l.now)) c.requires.first)
+    c.from_residual-in_err-left.ensures.1 (c.in_err-left.ensures.stops (reach_of c.args.w.now (g.L.Locals.items c.args.l.now)) c.requires.live.first)
 
 pub returns-in_err-right-clause-row : goal.returns-in_err-right-clause-row
 returns-in_err-right-clause-row g c = λ outside.
@@ -96,7 +96,7 @@ returns-in_err-right-clause-row g c = λ outside.
 pub returns-in_err-right-clause-live : goal.returns-in_err-right-clause-live
 returns-in_err-right-clause-live g c =
     stop_lives (reach_of c.args.w.now (g.L.Locals.items c.args.l.now)) c.in_err-right.field-0.0 c.from_residual-in_err-right.result
-    c.from_residual-in_err-right.ensures.1 (c.in_err-right.ensures.stops (reach_of c.args.w.now (g.L.Locals.items c.args.l.now)) c.requires.second)
+    c.from_residual-in_err-right.ensures.1 (c.in_err-right.ensures.stops (reach_of c.args.w.now (g.L.Locals.items c.args.l.now)) c.requires.live.second)
 
 pub returns-in_err-left-2-clause-row : goal.returns-in_err-left-2-clause-row
 returns-in_err-left-2-clause-row g c = λ outside.

@@ -18,7 +18,7 @@ returns-in_err-val g c =
     stops_there (the_value (item_in (extent_of c.args.w.now.heap) c.args.x)) (λ v. elements_of (item_in (extent_of c.args.w.now.heap) c.args.x) v (group_of v))
     (call_state c.args.w.now
     (g.L.Locals.items c.args.l.now) (g.S.Streams.state c.args.streams.now))
-    c.in_err-val.field-0.0 c.from_residual.result c.from_residual.ensures.1 (λ was. c.in_err-val.ensures.value was) c.in_err-val.ensures.stops c.requires.locals
+    c.in_err-val.field-0.0 c.from_residual.result c.from_residual.ensures.1 (λ was. c.in_err-val.ensures.value was) c.in_err-val.ensures.stops c.requires.live.locals
 
 pub returns-in-Std : goal.returns-in-Std
 returns-in-Std g c =
@@ -40,7 +40,7 @@ returns-in_default g c =
     (faultless_applies (elements_of (item_in (extent_of c.args.w.now.heap) c.args.x) (value_in (extent_of c.args.w.now.heap) c.in_ok-val.val)
     (group_of (value_in (extent_of c.args.w.now.heap) c.in_ok-val.val))) c.args.w.now c.elements_of.new.w (g.L.Locals.items c.args.l.now)
     (g.L.Locals.items c.args.l.now) (g.S.Streams.state c.args.streams.now) c.elements_of.result
-    (λ was. c.elements_of.ensures.row was) c.elements_of.ensures.live c.elements_of.ensures.locals c.elements_of.ensures.kept)
+    (λ was. c.elements_of.ensures.row was) c.elements_of.ensures.live c.elements_of.ensures.kept.locals c.elements_of.ensures.kept.items)
 
 pub elements_of-requires-clause-no_file : goal.elements_of-requires-clause-no_file
 elements_of-requires-clause-no_file g c = no_file (extent_of c.args.w.now.heap) c.in_ok-val.val c.in_default.not-Std

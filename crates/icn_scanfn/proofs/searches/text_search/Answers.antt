@@ -54,4 +54,4 @@ pub returns-in_err-check_text-clause-stops : goal.returns-in_err-check_text-clau
 returns-in_err-check_text-clause-stops g c =
     let all = extent_of c.args.w.now.heap in
     stop_lives_on all c.in_err-check_text.field-0.0 c.from_residual.result c.from_residual.ensures.1
-    (c.in_err-check_text.ensures.stops all (c.arg-val.ensures.live all c.requires.args))
+    (c.in_err-check_text.ensures.stops all (c.arg-val.ensures.live all c.requires.live.args))

@@ -21,7 +21,7 @@ returns-in_err-line g c = λ output errors.
     (g.I.Source.counts c.read_text.new.input) c.read_text.ensures.called output errors
     c.in_err-line.field-0.0 c.from_residual.result c.from_residual.ensures.1 (λ was told. c.in_err-line.ensures.reads was output errors told)
     (c.in_err-line.ensures.some output errors) c.in_err-line.ensures.cause
-    c.in_err-line.ensures.halts c.read_text.ensures.locals c.read_text.ensures.kept
+    c.in_err-line.ensures.halts c.read_text.ensures.kept.locals c.read_text.ensures.kept.items
 
 pub returns-in-Some : goal.returns-in-Some
 returns-in-Some g c = λ output errors.
@@ -34,7 +34,7 @@ returns-in-Some g c = λ output errors.
     c.in_ok-line.field-0 c.in-Some.line (Suspends (HeldVal (HeldText c.in-Some.line)) HeldInputLines) c.in-Some.is (λ s. refl)
     (λ was told. c.in_ok-line.ensures.reads was output errors told) (c.in_ok-line.ensures.some output errors)
     c.in_ok-line.ensures.cause
-    (record { live = (record { live = record { live = text } }, record { live = tt }) }) c.read_text.ensures.locals c.read_text.ensures.kept
+    (record { live = (record { live = record { live = text } }, record { live = tt }) }) c.read_text.ensures.kept.locals c.read_text.ensures.kept.items
 
 pub returns-in-None : goal.returns-in-None
 returns-in-None g c = λ output errors.
@@ -43,4 +43,4 @@ returns-in-None g c = λ output errors.
     (g.I.Source.left c.args.input.now) (g.I.Source.left c.read_text.new.input) (g.I.Source.counts c.args.input.now)
     (g.I.Source.counts c.read_text.new.input) c.read_text.ensures.called output errors
     c.in_ok-line.field-0 c.in-None.is (λ was told. c.in_ok-line.ensures.reads was output errors told)
-    (c.in_ok-line.ensures.some output errors) c.in_ok-line.ensures.cause c.read_text.ensures.locals c.read_text.ensures.kept
+    (c.in_ok-line.ensures.some output errors) c.in_ok-line.ensures.cause c.read_text.ensures.kept.locals c.read_text.ensures.kept.items

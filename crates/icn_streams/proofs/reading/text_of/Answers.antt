@@ -1,6 +1,7 @@
 -- The charge of what was read.
 use Rattle.std.proofs.Common.{refl, length}
 use Rattle.icn_heap.specs.Heaps.{extent_of, heap_of}
+use Rattle.icn_heap.proofs.GrowingHeaps.{live_kept}
 use Rattle.icn_vars.specs.Stops.{stop_of}
 use Rattle.icn_vars.proofs.HeapChanges.{bytes_change, fields_charged, change_passes, change_stops}
 use Rattle.icn_streams.proofs.NextRead.{stopped}
@@ -23,9 +24,12 @@ returns-clause-step g c = λ outside.
 
 pub returns-clause-kept : goal.returns-clause-kept
 returns-clause-kept g c = record {
-  extent = c.build.ensures.kept;
-  fields = fields_charged (bytes_change (length c.args.bytes.now)) (heap_of c.args.w.now.heap) (heap_of c.build.new.self) c.in_ok-build.ensures.step;
-  globals = refl;
-  statics = refl;
-  locals = refl;
+  locals = live_kept c.build.ensures.kept _ c.requires.locals;
+  items = record {
+    extent = c.build.ensures.kept;
+    fields = fields_charged (bytes_change (length c.args.bytes.now)) (heap_of c.args.w.now.heap) (heap_of c.build.new.self) c.in_ok-build.ensures.step;
+    globals = refl;
+    statics = refl;
+    locals = refl;
+  };
 }

@@ -1,6 +1,7 @@
 use Rattle.std.proofs.Common.{refl}
 use Rattle.icn_heap.specs.Extents.{text_in}
 use Rattle.icn_heap.specs.Heaps.{extent_of, heap_of}
+use Rattle.icn_heap.proofs.GrowingHeaps.{live_kept}
 use Rattle.icn_vars.proofs.HeapChanges.{same_heap}
 use Rattle.icn_strfn.proofs.RowAnswers.{holds_text}
 use Rattle.icn_strfn.proofs.endings.hold_text.Goals as goal
@@ -14,9 +15,12 @@ returns-clause-row g c = λ outside.
 
 pub returns-clause-kept : goal.returns-clause-kept
 returns-clause-kept g c = record {
-  extent = c.hold.ensures.kept;
-  fields = same_heap (heap_of c.args.w.now.heap) (heap_of c.hold.new.self) c.hold.ensures.unchanged;
-  globals = refl;
-  statics = refl;
-  locals = refl;
+  locals = live_kept c.hold.ensures.kept _ c.requires;
+  items = record {
+    extent = c.hold.ensures.kept;
+    fields = same_heap (heap_of c.args.w.now.heap) (heap_of c.hold.new.self) c.hold.ensures.unchanged;
+    globals = refl;
+    statics = refl;
+    locals = refl;
+  };
 }

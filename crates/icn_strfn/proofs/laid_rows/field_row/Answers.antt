@@ -6,7 +6,7 @@ use Rattle.icn_defs.specs.Rows.{builds, costs_texts}
 use Rattle.icn_defs.specs.Strings.{field_row}
 use Rattle.icn_heap.specs.Extents.{text_in, value_in}
 use Rattle.icn_heap.specs.Heaps.{extent_of}
-use Rattle.icn_vars.proofs.KeptItems.{keeps_items_trans}
+use Rattle.icn_vars.proofs.KeptItems.{keeps_live_then}
 use Rattle.icn_vars.specs.Worlds.{setting_of}
 use Rattle.icn_args.specs.RowWords.{HasText, the_text}
 use Rattle.icn_strfn.specs.Layouts.{laid_out}
@@ -64,7 +64,7 @@ returns-clause-row g c = λ outside.
     (c.build_laid_out.ensures.row outside)
 
 pub returns-clause-kept : goal.returns-clause-kept
-returns-clause-kept g c = keeps_items_trans _ _ _ c.two_texts.ensures.kept c.build_laid_out.ensures.kept
+returns-clause-kept g c = keeps_live_then c.two_texts.ensures.kept c.build_laid_out.ensures.kept
 
 pub returns-in_err-width-clause-limits : goal.returns-in_err-width-clause-limits
 returns-in_err-width-clause-limits g c = λ held held_fill wanting.

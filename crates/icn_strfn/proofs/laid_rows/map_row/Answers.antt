@@ -6,7 +6,7 @@ use Rattle.icn_defs.specs.Rows.{builds, costs_text, costs_texts}
 use Rattle.icn_defs.specs.Strings.{map_row, map_byte}
 use Rattle.icn_heap.specs.Extents.{text_in, value_in}
 use Rattle.icn_heap.specs.Heaps.{extent_of}
-use Rattle.icn_vars.proofs.KeptItems.{keeps_items_trans}
+use Rattle.icn_vars.proofs.KeptItems.{keeps_live_then}
 use Rattle.icn_vars.specs.Worlds.{setting_of}
 use Rattle.icn_args.specs.RowWords.{HasText, the_text}
 use Rattle.icn_strfn.specs.TextArguments.{argument_bytes, or_default}
@@ -48,11 +48,11 @@ returns-in_err-span-clause-row g c = λ outside.
 
 pub text_argument-requires-clause-live : goal.text_argument-requires-clause-live
 text_argument-requires-clause-live g c =
-    c.two_texts.ensures.kept.extent.live c.arg-to.result (c.arg-to.ensures.live (extent_of c.args.w.now.heap) c.requires.args)
+    c.two_texts.ensures.kept.items.extent.live c.arg-to.result (c.arg-to.ensures.live (extent_of c.args.w.now.heap) c.requires.live.args)
 
 pub text_argument-requires-clause-has : goal.text_argument-requires-clause-has
 text_argument-requires-clause-has g c = subst (λ (v : Value). HasText (or_default Lower v))
-    (sym ((c.two_texts.ensures.kept.extent.value c.arg-to.result (c.arg-to.ensures.live (extent_of c.args.w.now.heap) c.requires.args))
+    (sym ((c.two_texts.ensures.kept.items.extent.value c.arg-to.result (c.arg-to.ensures.live (extent_of c.args.w.now.heap) c.requires.live.args))
     ∙ c.arg-to.ensures.value (extent_of c.args.w.now.heap))) c.in_ok-checked_mapping.ensures.mapping.to
 
 pub returns-in_err-second-clause-row : goal.returns-in_err-second-clause-row
@@ -73,14 +73,14 @@ returns-in_err-second-clause-row g c = λ outside.
     ∙ ap (λ (v : Value). costs_text v (builds (map (map_byte (the_text (or_default Upper (value_in (extent_of c.args.w.now.heap) c.arg-from.result)))
     (the_text (or_default Lower (value_in (extent_of c.args.w.now.heap) c.arg-to.result))))
     (the_text (value_in (extent_of c.args.w.now.heap) c.arg-val.result)))) (setting_of outside c.two_texts.new.w (g.L.Locals.items c.args.l.now)))
-    (sym (c.two_texts.ensures.kept.extent.value c.arg-to.result (c.arg-to.ensures.live (extent_of c.args.w.now.heap) c.requires.args))))
+    (sym (c.two_texts.ensures.kept.items.extent.value c.arg-to.result (c.arg-to.ensures.live (extent_of c.args.w.now.heap) c.requires.live.args))))
     c.from_residual-in_err-second.ensures.1 (c.in_err-second.ensures.step outside)
 
 pub build_mapped-requires-clause-text : goal.build_mapped-requires-clause-text
-build_mapped-requires-clause-text g c = c.text_argument.ensures.kept.extent.text c.in_ok-span.span c.in_ok-span.ensures.first_live
+build_mapped-requires-clause-text g c = c.text_argument.ensures.kept.items.extent.text c.in_ok-span.span c.in_ok-span.ensures.first_live
 
 pub build_mapped-requires-clause-from : goal.build_mapped-requires-clause-from
-build_mapped-requires-clause-from g c = argument_stays _ _ c.text_argument.ensures.kept.extent c.in_ok-span.first c.in_ok-span.ensures.second_live
+build_mapped-requires-clause-from g c = argument_stays _ _ c.text_argument.ensures.kept.items.extent c.in_ok-span.first c.in_ok-span.ensures.second_live
 
 pub returns-clause-row : goal.returns-clause-row
 returns-clause-row g c = λ outside.
@@ -99,26 +99,25 @@ returns-clause-row g c = λ outside.
     ∙ ap (λ (v : Value). costs_text v (builds (map (map_byte (the_text (or_default Upper (value_in (extent_of c.args.w.now.heap) c.arg-from.result)))
     (the_text (or_default Lower (value_in (extent_of c.args.w.now.heap) c.arg-to.result)))) (the_text (value_in (extent_of c.args.w.now.heap)
     c.arg-val.result)))) (setting_of outside c.two_texts.new.w (g.L.Locals.items c.args.l.now)))
-    (sym (c.two_texts.ensures.kept.extent.value c.arg-to.result (c.arg-to.ensures.live (extent_of c.args.w.now.heap) c.requires.args))))
+    (sym (c.two_texts.ensures.kept.items.extent.value c.arg-to.result (c.arg-to.ensures.live (extent_of c.args.w.now.heap) c.requires.live.args))))
     ∙ (c.in_ok-second.ensures.step outside (builds (map (map_byte (the_text (or_default Upper (value_in (extent_of c.args.w.now.heap) c.arg-from.result)))
     (the_text (or_default Lower (value_in (extent_of c.args.w.now.heap) c.arg-to.result)))) (the_text (value_in (extent_of c.args.w.now.heap)
     c.arg-val.result))))
     ∙ ap (λ (bytes : List ℕ). builds bytes (setting_of outside c.text_argument.new.w (g.L.Locals.items c.args.l.now)))
     (ap (λ (bytes : List ℕ). map (map_byte (the_text (or_default Upper (value_in (extent_of c.args.w.now.heap) c.arg-from.result))) (the_text (or_default
     Lower (value_in (extent_of c.args.w.now.heap) c.arg-to.result)))) bytes)
-    (sym (c.text_argument.ensures.kept.extent.bytes c.in_ok-span.span c.in_ok-span.ensures.first_live ∙ c.in_ok-span.ensures.first_text))
+    (sym (c.text_argument.ensures.kept.items.extent.bytes c.in_ok-span.span c.in_ok-span.ensures.first_live ∙ c.in_ok-span.ensures.first_text))
     ∙ (ap (λ (bytes : List ℕ). map (map_byte bytes (the_text (or_default Lower (value_in (extent_of c.args.w.now.heap) c.arg-to.result)))) (text_in
     (extent_of c.text_argument.new.w.heap) c.in_ok-span.span))
-    (sym (same_argument _ _ c.text_argument.ensures.kept.extent c.in_ok-span.first c.in_ok-span.ensures.second_live ∙ c.in_ok-span.ensures.second_text))
+    (sym (same_argument _ _ c.text_argument.ensures.kept.items.extent c.in_ok-span.first c.in_ok-span.ensures.second_live ∙ c.in_ok-span.ensures.second_text))
     ∙ ap (λ (bytes : List ℕ). map (map_byte (argument_bytes (extent_of c.text_argument.new.w.heap) c.in_ok-span.first) bytes) (text_in (extent_of
     c.text_argument.new.w.heap) c.in_ok-span.span))
     (sym (c.in_ok-second.ensures.text ∙ ap (λ (v : Value). the_text (or_default Lower v))
-    (c.two_texts.ensures.kept.extent.value c.arg-to.result (c.arg-to.ensures.live (extent_of c.args.w.now.heap) c.requires.args))))))))
+    (c.two_texts.ensures.kept.items.extent.value c.arg-to.result (c.arg-to.ensures.live (extent_of c.args.w.now.heap) c.requires.live.args))))))))
     (c.build_mapped.ensures.row outside)
 
 pub returns-clause-kept : goal.returns-clause-kept
-returns-clause-kept g c =
-    keeps_items_trans _ _ _ c.two_texts.ensures.kept (keeps_items_trans _ _ _ c.text_argument.ensures.kept c.build_mapped.ensures.kept)
+returns-clause-kept g c = keeps_live_then c.two_texts.ensures.kept (keeps_live_then c.text_argument.ensures.kept c.build_mapped.ensures.kept)
 
 pub returns-in_err-checked_mapping-clause-limits : goal.returns-in_err-checked_mapping-clause-limits
 returns-in_err-checked_mapping-clause-limits g c = λ held held_from held_to wanting.
@@ -131,8 +130,8 @@ returns-in_err-span-clause-limits g c = λ held held_from held_to.
 
 pub returns-in_err-second-clause-limits : goal.returns-in_err-second-clause-limits
 returns-in_err-second-clause-limits g c = λ held held_from held_to.
-    absurd (c.in_err-second.ensures.held (subst MakesNoText (sym (c.two_texts.ensures.kept.extent.value c.arg-to.result
-    (c.arg-to.ensures.live (extent_of c.args.w.now.heap) c.requires.args) ∙ c.arg-to.ensures.value (extent_of c.args.w.now.heap))) held_to))
+    absurd (c.in_err-second.ensures.held (subst MakesNoText (sym (c.two_texts.ensures.kept.items.extent.value c.arg-to.result
+    (c.arg-to.ensures.live (extent_of c.args.w.now.heap) c.requires.live.args) ∙ c.arg-to.ensures.value (extent_of c.args.w.now.heap))) held_to))
 
 pub returns-clause-limits : goal.returns-clause-limits
 returns-clause-limits g c = λ held held_from held_to wanting outside at.
@@ -150,10 +149,10 @@ returns-clause-limits g c = λ held held_from held_to wanting outside at.
     (c.in_ok-span.ensures.step outside)
     (subst (λ (v : Value). Passes (costs_text v) (setting_of outside c.two_texts.new.w (g.L.Locals.items c.args.l.now))
     (setting_of outside c.text_argument.new.w (g.L.Locals.items c.args.l.now)))
-    (c.two_texts.ensures.kept.extent.value c.arg-to.result (c.arg-to.ensures.live (extent_of c.args.w.now.heap) c.requires.args))
+    (c.two_texts.ensures.kept.items.extent.value c.arg-to.result (c.arg-to.ensures.live (extent_of c.args.w.now.heap) c.requires.live.args))
     (c.in_ok-second.ensures.step outside))
-    (c.text_argument.ensures.kept.extent.bytes c.in_ok-span.span c.in_ok-span.ensures.first_live ∙ c.in_ok-span.ensures.first_text)
-    (same_argument _ _ c.text_argument.ensures.kept.extent c.in_ok-span.first c.in_ok-span.ensures.second_live ∙ c.in_ok-span.ensures.second_text)
+    (c.text_argument.ensures.kept.items.extent.bytes c.in_ok-span.span c.in_ok-span.ensures.first_live ∙ c.in_ok-span.ensures.first_text)
+    (same_argument _ _ c.text_argument.ensures.kept.items.extent c.in_ok-span.first c.in_ok-span.ensures.second_live ∙ c.in_ok-span.ensures.second_text)
     (c.in_ok-second.ensures.text ∙ ap (λ (v : Value). the_text (or_default Lower v))
-    (c.two_texts.ensures.kept.extent.value c.arg-to.result (c.arg-to.ensures.live (extent_of c.args.w.now.heap) c.requires.args))))
+    (c.two_texts.ensures.kept.items.extent.value c.arg-to.result (c.arg-to.ensures.live (extent_of c.args.w.now.heap) c.requires.live.args))))
     c.build_mapped.ensures.limits wanting

@@ -4,7 +4,7 @@ use Rattle.icn_defs.specs.Rows.{builds, costs_text}
 use Rattle.icn_defs.specs.Strings.{reverse_row}
 use Rattle.icn_heap.specs.Extents.{text_in, value_in}
 use Rattle.icn_heap.specs.Heaps.{extent_of}
-use Rattle.icn_vars.proofs.KeptItems.{keeps_items_trans}
+use Rattle.icn_vars.proofs.KeptItems.{keeps_live_then}
 use Rattle.icn_vars.specs.Worlds.{setting_of}
 use Rattle.icn_args.specs.RowWords.{the_text}
 use Rattle.icn_strfn.proofs.RowAnswers.{row_goes_on, row_stops_at}
@@ -38,7 +38,7 @@ returns-clause-row g c = λ outside.
     (c.build_reversed.ensures.row outside)
 
 pub returns-clause-kept : goal.returns-clause-kept
-returns-clause-kept g c = keeps_items_trans _ _ _ c.text_of.ensures.kept c.build_reversed.ensures.kept
+returns-clause-kept g c = keeps_live_then c.text_of.ensures.kept c.build_reversed.ensures.kept
 
 pub returns-in_err-span-clause-limits : goal.returns-in_err-span-clause-limits
 returns-in_err-span-clause-limits g c = λ held.

@@ -16,7 +16,7 @@ use Rattle.icn_strfn.proofs.CheckedRows as steps
 use Rattle.icn_strfn.proofs.text_rows.trim_row.Goals as goal
 
 pub to_cset-requires : goal.to_cset-requires
-to_cset-requires g c = c.or_blank-set.ensures.live _ (c.arg.ensures.live _ c.requires.args)
+to_cset-requires g c = c.or_blank-set.ensures.live _ (c.arg.ensures.live _ c.requires.live.args)
 
 pub returns-in_default-clause-row : goal.returns-in_default-clause-row
 returns-in_default-clause-row g c = λ outside. steps.trim_no_cset (map (value_in (extent_of c.args.w.now.heap)) c.args.args.now)
@@ -26,10 +26,10 @@ returns-in_default-clause-row g c = λ outside. steps.trim_no_cset (map (value_i
     (c.if-lacks_text.ensures (extent_of c.args.w.now.heap)) (sym c.to_cset.ensures ∙ ap (λ (found : Option Cset). option_map members_of found) c.in_default.is)
 
 pub returns-in_default-clause-live : goal.returns-in_default-clause-live
-returns-in_default-clause-live g c = c.or_blank-set.ensures.live _ (c.arg.ensures.live _ c.requires.args)
+returns-in_default-clause-live g c = c.or_blank-set.ensures.live _ (c.arg.ensures.live _ c.requires.live.args)
 
 pub text_of-requires-clause-live : goal.text_of-requires-clause-live
-text_of-requires-clause-live g c = c.arg-val.ensures.live _ c.requires.args
+text_of-requires-clause-live g c = c.arg-val.ensures.live _ c.requires.live.args
 
 pub returns-in_err-span-clause-row : goal.returns-in_err-span-clause-row
 returns-in_err-span-clause-row g c = λ outside.

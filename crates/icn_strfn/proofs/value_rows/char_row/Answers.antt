@@ -41,3 +41,6 @@ returns-clause-row g c = λ outside.
     (sym c.to_integer.ensures ∙ c.in-Some.is) (let fits : FitsSigned w64 c.in-Some.n = search rules in
     rw (to_z-of_z w64 c.in-Some.n fits) at (sym c.natural_number.ensures ∙ c.in-Some-natural_number.is)) c.if-byte-ge256.false)
     (c.hold_text.ensures.row outside)
+
+pub returns-in_default-natural_number-clause-live : goal.returns-in_default-natural_number-clause-live
+returns-in_default-natural_number-clause-live g c = c.arg-val.ensures.live _ c.requires.live.args

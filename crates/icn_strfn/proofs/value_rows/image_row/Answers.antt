@@ -9,7 +9,7 @@ use Rattle.icn_defs.specs.Strings.{image_row}
 use Rattle.icn_strfn.proofs.value_rows.image_row.Goals as goal
 
 pub image-requires-clause-live : goal.image-requires-clause-live
-image-requires-clause-live g c = c.first_argument-val.ensures.live _ c.requires.args
+image-requires-clause-live g c = c.first_argument-val.ensures.live _ c.requires.live.args
 
 pub image-requires-clause-named : goal.image-requires-clause-named
 image-requires-clause-named g c = c.first_argument-val.ensures.named _ c.requires.named

@@ -3,6 +3,7 @@ use Rattle.icn_heap.specs.Extents.{value_in}
 use Rattle.icn_heap.specs.Heaps.{extent_of, heap_of}
 use Rattle.icn_vars.specs.Worlds.{setting_of}
 use Rattle.std.proofs.lemmas.List.{length-map}
+use Rattle.icn_heap.proofs.GrowingHeaps.{live_kept}
 use Rattle.icn_structs.specs.Numbered.{with_right}
 use Rattle.icn_vars.proofs.HeapChanges.{same_records}
 use Rattle.icn_structfn.proofs.AddedElements.{elements_added, not_added, unfinished}
@@ -28,9 +29,12 @@ returns-clause-step g c =
 
 pub returns-clause-kept : goal.returns-clause-kept
 returns-clause-kept g c = record {
-  extent = c.put_each.ensures.kept;
-  fields = same_records (heap_of c.args.w.now.heap) (heap_of c.put_each.new.heap) c.put_each.ensures.records;
-  globals = refl;
-  statics = refl;
-  locals = refl;
+  locals = live_kept c.put_each.ensures.kept _ c.requires.locals;
+  items = record {
+    extent = c.put_each.ensures.kept;
+    fields = same_records (heap_of c.args.w.now.heap) (heap_of c.put_each.new.heap) c.put_each.ensures.records;
+    globals = refl;
+    statics = refl;
+    locals = refl;
+  };
 }

@@ -13,7 +13,7 @@ use Rattle.icn_structfn.proofs.RowAnswers.{stops_passing}
 use Rattle.icn_structfn.proofs.adding.push.Goals as goal
 
 pub add_left-requires-clause-vals : goal.add_left-requires-clause-vals
-add_left-requires-clause-vals g c = c.values_to_add.ensures.live (extent_of c.args.w.now.heap) c.requires.args
+add_left-requires-clause-vals g c = c.values_to_add.ensures.live (extent_of c.args.w.now.heap) c.requires.live.args
 
 pub returns-in_err-add_left-in-List-clause-row : goal.returns-in_err-add_left-in-List-clause-row
 returns-in_err-add_left-in-List-clause-row g c outside =

@@ -13,7 +13,7 @@ use Rattle.icn_structfn.proofs.RowAnswers.{stops_passing}
 use Rattle.icn_structfn.proofs.adding.put.Goals as goal
 
 pub add_right-requires-clause-vals : goal.add_right-requires-clause-vals
-add_right-requires-clause-vals g c = c.values_to_add.ensures.live (extent_of c.args.w.now.heap) c.requires.args
+add_right-requires-clause-vals g c = c.values_to_add.ensures.live (extent_of c.args.w.now.heap) c.requires.live.args
 
 pub returns-in_err-add_right-in-List-clause-row : goal.returns-in_err-add_right-in-List-clause-row
 returns-in_err-add_right-in-List-clause-row g c outside =

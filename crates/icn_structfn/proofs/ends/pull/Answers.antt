@@ -14,7 +14,7 @@ pub returns-in-Some-clause-row : goal.returns-in-Some-clause-row
 returns-in-Some-clause-row g c =
     element_taken c.args.w.now.heap c.pull.new.self c.args.w.now.pair c.args.w.now.words c.args.w.now.globals.items c.args.w.now.statics.items
     (g.L.Locals.items c.args.l.now) c.pull.ensures.kept
-    c.args.w.now.sound c.requires.locals rightmost without_right (arg (map (value_in (extent_of c.args.w.now.heap)) c.args.args.now) 0) c.in-List.id
+    c.args.w.now.sound c.requires.live.locals rightmost without_right (arg (map (value_in (extent_of c.args.w.now.heap)) c.args.args.now) 0) c.in-List.id
     (sym (c.arg-list.ensures.value (extent_of c.args.w.now.heap)) ∙ ap (value_in (extent_of c.args.w.now.heap)) c.in-List.is)
     (value_in (extent_of c.pull.new.self) c.in-Some.val) c.in-Some.ensures.item c.pull.ensures.step
 
@@ -22,7 +22,7 @@ pub returns-in-None-clause-row : goal.returns-in-None-clause-row
 returns-in-None-clause-row g c =
     none_taken c.args.w.now.heap c.pull.new.self c.args.w.now.pair c.args.w.now.words c.args.w.now.globals.items c.args.w.now.statics.items
     (g.L.Locals.items c.args.l.now) c.pull.ensures.kept
-    c.args.w.now.sound c.requires.locals rightmost without_right (arg (map (value_in (extent_of c.args.w.now.heap)) c.args.args.now) 0) c.in-List.id
+    c.args.w.now.sound c.requires.live.locals rightmost without_right (arg (map (value_in (extent_of c.args.w.now.heap)) c.args.args.now) 0) c.in-List.id
     (sym (c.arg-list.ensures.value (extent_of c.args.w.now.heap)) ∙ ap (value_in (extent_of c.args.w.now.heap)) c.in-List.is)
     c.in-None.ensures.item (right_none (list_at (heap_of c.args.w.now.heap) c.in-List.id) c.in-None.ensures.item) c.pull.ensures.step
 

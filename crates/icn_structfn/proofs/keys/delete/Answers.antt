@@ -19,7 +19,7 @@ returns-in-Ok-clause-row g c outside =
     (sym c.if-not-is_keeper.false ∙ c.is_keeper.ensures (extent_of c.args.w.now.heap)) (setting_of outside c.args.w.now (g.L.Locals.items c.args.l.now))
     ∙ (ap (Gives (ItemVal (value_in (extent_of c.args.w.now.heap) c.arg-kept.result)))
     (heap_changed outside c.args.w.now.heap c.remove.new.self c.args.w.now.pair c.args.w.now.words c.args.w.now.globals.items c.args.w.now.statics.items
-    (g.L.Locals.items c.args.l.now) c.remove.ensures.kept c.in-Ok.ensures.step c.args.w.now.sound c.requires.locals)
+    (g.L.Locals.items c.args.l.now) c.remove.ensures.kept c.in-Ok.ensures.step c.args.w.now.sound c.requires.live.locals)
     ∙ ap (λ (v : Value). Gives (ItemVal v) (setting_over outside
     c.remove.new.self c.args.w.now.pair c.args.w.now.words c.args.w.now.globals.items c.args.w.now.statics.items (g.L.Locals.items c.args.l.now)))
-    (sym (c.remove.ensures.kept.value c.arg-kept.result (c.arg-kept.ensures.live (extent_of c.args.w.now.heap) c.requires.args))))))
+    (sym (c.remove.ensures.kept.value c.arg-kept.result (c.arg-kept.ensures.live (extent_of c.args.w.now.heap) c.requires.live.args))))))

@@ -41,4 +41,4 @@ returns-clause-row g c outside =
     (sym (c.arg-2.ensures.value (extent_of c.args.w.now.heap))))
     ∙ (c.in_ok-insert_into.ensures.step outside (gives_value (value_in (extent_of c.args.w.now.heap) c.arg-kept.result))
     ∙ ap (λ (v : Value). Gives (ItemVal v) (setting_of outside c.insert_into.new.w (g.L.Locals.items c.args.l.now)))
-    (sym (c.insert_into.ensures.kept.extent.value c.arg-kept.result (c.arg-kept.ensures.live (extent_of c.args.w.now.heap) c.requires.args))))
+    (sym (c.insert_into.ensures.kept.items.extent.value c.arg-kept.result (c.arg-kept.ensures.live (extent_of c.args.w.now.heap) c.requires.live.args))))

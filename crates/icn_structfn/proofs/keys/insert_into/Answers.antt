@@ -9,6 +9,7 @@ use Rattle.icn_structs.specs.PairLists.{with_value_of}
 use Rattle.icn_value.specs.Sameness.{has_value, same, with_member}
 use Rattle.icn_value.specs.Store.{with_set, with_table}
 use Rattle.icn_value.specs.Changes.{having_member, value_at_key, with_pair}
+use Rattle.icn_heap.proofs.GrowingHeaps.{live_kept}
 use Rattle.icn_vars.proofs.GrowingWorlds.{setting_over}
 use Rattle.icn_vars.proofs.HeapChanges.{fields_behind, unless_change}
 use Rattle.icn_args.specs.RowWords.{IsPassed}
@@ -48,13 +49,16 @@ returns-in_ok-add-in-Set-clause-step g c outside next =
 
 pub returns-in_ok-add-in-Set-clause-kept : goal.returns-in_ok-add-in-Set-clause-kept
 returns-in_ok-add-in-Set-clause-kept g c = record {
-  extent = c.add.ensures.kept;
-  fields = fields_behind (unless_change (has_value (set_at (heap_of c.args.w.now.heap) c.in-Set.set) (value_in (extent_of c.args.w.now.heap) c.args.key)))
-      (having_member c.in-Set.set (value_in (extent_of c.args.w.now.heap) c.args.key)) (λ heap. refl) (heap_of c.args.w.now.heap)
-      (heap_of c.add.new.self) c.in_ok-add-in-Set.ensures.step;
-  globals = refl;
-  statics = refl;
-  locals = refl;
+  locals = live_kept c.add.ensures.kept _ c.requires.locals;
+  items = record {
+    extent = c.add.ensures.kept;
+    fields = fields_behind (unless_change (has_value (set_at (heap_of c.args.w.now.heap) c.in-Set.set) (value_in (extent_of c.args.w.now.heap) c.args.key)))
+        (having_member c.in-Set.set (value_in (extent_of c.args.w.now.heap) c.args.key)) (λ heap. refl) (heap_of c.args.w.now.heap)
+        (heap_of c.add.new.self) c.in_ok-add-in-Set.ensures.step;
+    globals = refl;
+    statics = refl;
+    locals = refl;
+  };
 }
 
 pub returns-in_err-store-in-Table-clause-step : goal.returns-in_err-store-in-Table-clause-step
@@ -94,12 +98,15 @@ returns-in_ok-store-in-Table-clause-step g c outside next =
 
 pub returns-in_ok-store-in-Table-clause-kept : goal.returns-in_ok-store-in-Table-clause-kept
 returns-in_ok-store-in-Table-clause-kept g c = record {
-  extent = c.store.ensures.kept;
-  fields =
-      fields_behind (unless_change (is_some (value_at_key (heap_of c.args.w.now.heap) c.in-Table.table (value_in (extent_of c.args.w.now.heap) c.args.key))))
-      (with_pair c.in-Table.table (value_in (extent_of c.args.w.now.heap) c.args.key) (value_in (extent_of c.args.w.now.heap) c.args.val)) (λ heap. refl)
-      (heap_of c.args.w.now.heap) (heap_of c.store.new.self) c.in_ok-store-in-Table.ensures.step;
-  globals = refl;
-  statics = refl;
-  locals = refl;
+  locals = live_kept c.store.ensures.kept _ c.requires.locals;
+  items = record {
+    extent = c.store.ensures.kept;
+    fields =
+        fields_behind (unless_change (is_some (value_at_key (heap_of c.args.w.now.heap) c.in-Table.table (value_in (extent_of c.args.w.now.heap) c.args.key))))
+        (with_pair c.in-Table.table (value_in (extent_of c.args.w.now.heap) c.args.key) (value_in (extent_of c.args.w.now.heap) c.args.val)) (λ heap. refl)
+        (heap_of c.args.w.now.heap) (heap_of c.store.new.self) c.in_ok-store-in-Table.ensures.step;
+    globals = refl;
+    statics = refl;
+    locals = refl;
+  };
 }

@@ -2,6 +2,7 @@ use Rattle.std.proofs.Common.{refl, ◌+◌, length, replicate}
 use Rattle.icn_value.specs.Changes.{having_list}
 use Rattle.icn_heap.specs.Extents.{value_in}
 use Rattle.icn_heap.specs.Heaps.{extent_of, heap_of}
+use Rattle.icn_heap.proofs.GrowingHeaps.{live_kept}
 use Rattle.icn_vars.proofs.HeapChanges.{cells_change, fields_behind}
 use Rattle.icn_structfn.proofs.NewStructures.{structure_made, structure_refused, list_number, lists_stay}
 use Rattle.icn_structfn.proofs.making.filled_list.Goals as goal
@@ -26,11 +27,14 @@ returns-clause-found g c =
 
 pub returns-clause-kept : goal.returns-clause-kept
 returns-clause-kept g c = record {
-  extent = c.make_list.ensures.kept;
-  fields = fields_behind (cells_change (1 + length (replicate c.args.count (value_in (extent_of c.args.w.now.heap) c.args.fill))))
-      (having_list (replicate c.args.count (value_in (extent_of c.args.w.now.heap) c.args.fill))) (λ heap. refl) (heap_of c.args.w.now.heap)
-      (heap_of c.make_list.new.self) c.in_ok-make_list.ensures.step;
-  globals = refl;
-  statics = refl;
-  locals = refl;
+  locals = live_kept c.make_list.ensures.kept _ c.requires.locals;
+  items = record {
+    extent = c.make_list.ensures.kept;
+    fields = fields_behind (cells_change (1 + length (replicate c.args.count (value_in (extent_of c.args.w.now.heap) c.args.fill))))
+        (having_list (replicate c.args.count (value_in (extent_of c.args.w.now.heap) c.args.fill))) (λ heap. refl) (heap_of c.args.w.now.heap)
+        (heap_of c.make_list.new.self) c.in_ok-make_list.ensures.step;
+    globals = refl;
+    statics = refl;
+    locals = refl;
+  };
 }

@@ -2,6 +2,7 @@ use Rattle.std.proofs.Common.{refl, ◌+◌, map, length}
 use Rattle.icn_value.specs.Changes.{having_record}
 use Rattle.icn_heap.specs.Extents.{value_in}
 use Rattle.icn_heap.specs.Heaps.{extent_of, heap_of}
+use Rattle.icn_heap.proofs.GrowingHeaps.{live_kept}
 use Rattle.icn_structfn.proofs.NewStructures.{fields_new, structure_made, structure_refused, record_number, records_stay}
 use Rattle.icn_structfn.proofs.making.new_record.Goals as goal
 
@@ -25,10 +26,13 @@ returns-clause-found g c =
 
 pub returns-clause-kept : goal.returns-clause-kept
 returns-clause-kept g c = record {
-  extent = c.make_rec.ensures.kept;
-  fields = fields_new (1 + length (map (value_in (extent_of c.args.w.now.heap)) c.args.fields.now)) c.args.kind
-      (map (value_in (extent_of c.args.w.now.heap)) c.args.fields.now) (heap_of c.args.w.now.heap) (heap_of c.make_rec.new.self) c.in_ok-make_rec.ensures.step;
-  globals = refl;
-  statics = refl;
-  locals = refl;
+  locals = live_kept c.make_rec.ensures.kept _ c.requires.locals;
+  items = record {
+    extent = c.make_rec.ensures.kept;
+    fields = fields_new (1 + length (map (value_in (extent_of c.args.w.now.heap)) c.args.fields.now)) c.args.kind
+        (map (value_in (extent_of c.args.w.now.heap)) c.args.fields.now) (heap_of c.args.w.now.heap) (heap_of c.make_rec.new.self) c.in_ok-make_rec.ensures.step;
+    globals = refl;
+    statics = refl;
+    locals = refl;
+  };
 }

@@ -3,6 +3,7 @@ use Rattle.icn_value.specs.Sameness.{with_member}
 use Rattle.icn_heap.specs.Extents.{value_in}
 use Rattle.icn_heap.specs.MadeStructures.{having_members}
 use Rattle.icn_heap.specs.Heaps.{extent_of, heap_of}
+use Rattle.icn_heap.proofs.GrowingHeaps.{live_kept}
 use Rattle.icn_vars.proofs.HeapChanges.{cells_change, fields_behind}
 use Rattle.icn_structfn.proofs.NewStructures.{structure_made, structure_refused, set_number, sets_stay}
 use Rattle.icn_structfn.proofs.making.new_set.Goals as goal
@@ -27,11 +28,14 @@ returns-clause-found g c =
 
 pub returns-clause-kept : goal.returns-clause-kept
 returns-clause-kept g c = record {
-  extent = c.set_from.ensures.kept;
-  fields = fields_behind (cells_change (1 + length (fold with_member [] (map (value_in (extent_of c.args.w.now.heap)) c.args.vals.now))))
-      (having_members (fold with_member [] (map (value_in (extent_of c.args.w.now.heap)) c.args.vals.now))) (λ heap. refl) (heap_of c.args.w.now.heap)
-      (heap_of c.set_from.new.self) c.in_ok-set_from.ensures.step;
-  globals = refl;
-  statics = refl;
-  locals = refl;
+  locals = live_kept c.set_from.ensures.kept _ c.requires.locals;
+  items = record {
+    extent = c.set_from.ensures.kept;
+    fields = fields_behind (cells_change (1 + length (fold with_member [] (map (value_in (extent_of c.args.w.now.heap)) c.args.vals.now))))
+        (having_members (fold with_member [] (map (value_in (extent_of c.args.w.now.heap)) c.args.vals.now))) (λ heap. refl) (heap_of c.args.w.now.heap)
+        (heap_of c.set_from.new.self) c.in_ok-set_from.ensures.step;
+    globals = refl;
+    statics = refl;
+    locals = refl;
+  };
 }

@@ -2,6 +2,7 @@ use Rattle.std.proofs.Common.{refl}
 use Rattle.icn_value.specs.Changes.{having_table}
 use Rattle.icn_heap.specs.Extents.{value_in}
 use Rattle.icn_heap.specs.Heaps.{extent_of, heap_of}
+use Rattle.icn_heap.proofs.GrowingHeaps.{live_kept}
 use Rattle.icn_vars.proofs.HeapChanges.{cells_change, fields_behind}
 use Rattle.icn_structfn.proofs.NewStructures.{structure_made, structure_refused, table_number, tables_stay}
 use Rattle.icn_structfn.proofs.making.new_table.Goals as goal
@@ -24,10 +25,13 @@ returns-clause-found g c =
 
 pub returns-clause-kept : goal.returns-clause-kept
 returns-clause-kept g c = record {
-  extent = c.make_table.ensures.kept;
-  fields = fields_behind (cells_change 1) (having_table (value_in (extent_of c.args.w.now.heap) c.args.default)) (λ heap. refl) (heap_of c.args.w.now.heap)
-      (heap_of c.make_table.new.self) c.in_ok-make_table.ensures.step;
-  globals = refl;
-  statics = refl;
-  locals = refl;
+  locals = live_kept c.make_table.ensures.kept _ c.requires.locals;
+  items = record {
+    extent = c.make_table.ensures.kept;
+    fields = fields_behind (cells_change 1) (having_table (value_in (extent_of c.args.w.now.heap) c.args.default)) (λ heap. refl) (heap_of c.args.w.now.heap)
+        (heap_of c.make_table.new.self) c.in_ok-make_table.ensures.step;
+    globals = refl;
+    statics = refl;
+    locals = refl;
+  };
 }

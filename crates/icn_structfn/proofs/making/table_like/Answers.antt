@@ -3,6 +3,7 @@ use Rattle.icn_value.specs.Store.{table_at}
 use Rattle.icn_heap.specs.Extents.{value_in}
 use Rattle.icn_heap.specs.MadeStructures.{having_table_of}
 use Rattle.icn_heap.specs.Heaps.{extent_of, heap_of}
+use Rattle.icn_heap.proofs.GrowingHeaps.{live_kept}
 use Rattle.icn_vars.proofs.HeapChanges.{cells_change, fields_behind}
 use Rattle.icn_structfn.proofs.NewStructures.{structure_made, structure_refused, table_number, tables_stay}
 use Rattle.icn_structfn.proofs.making.table_like.Goals as goal
@@ -27,11 +28,14 @@ returns-clause-found g c =
 
 pub returns-clause-kept : goal.returns-clause-kept
 returns-clause-kept g c = record {
-  extent = c.copy_table.ensures.kept;
-  fields = fields_behind (cells_change (1 + length (table_at (heap_of c.args.w.now.heap) c.args.table).pairs))
-      (having_table_of (table_at (heap_of c.args.w.now.heap) c.args.table)) (λ heap. refl) (heap_of c.args.w.now.heap)
-      (heap_of c.copy_table.new.self) c.in_ok-copy_table.ensures.step;
-  globals = refl;
-  statics = refl;
-  locals = refl;
+  locals = live_kept c.copy_table.ensures.kept _ c.requires.locals;
+  items = record {
+    extent = c.copy_table.ensures.kept;
+    fields = fields_behind (cells_change (1 + length (table_at (heap_of c.args.w.now.heap) c.args.table).pairs))
+        (having_table_of (table_at (heap_of c.args.w.now.heap) c.args.table)) (λ heap. refl) (heap_of c.args.w.now.heap)
+        (heap_of c.copy_table.new.self) c.in_ok-copy_table.ensures.step;
+    globals = refl;
+    statics = refl;
+    locals = refl;
+  };
 }

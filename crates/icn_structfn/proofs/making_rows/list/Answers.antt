@@ -18,7 +18,7 @@ same_integer n fits = to_z-of_z w64 n fits
 
 pub integer_of-requires : goal.integer_of-requires
 integer_of-requires g c =
-    c.value_or.ensures.live (extent_of c.args.w.now.heap) (record { live = tt }) (c.arg.ensures.live (extent_of c.args.w.now.heap) c.requires.args)
+    c.value_or.ensures.live (extent_of c.args.w.now.heap) (record { live = tt }) (c.arg.ensures.live (extent_of c.args.w.now.heap) c.requires.live.args)
 
 pub returns-in_err-n-clause-row : goal.returns-in_err-n-clause-row
 returns-in_err-n-clause-row g c outside =
@@ -58,7 +58,7 @@ pub returns-in_err-count-clause-live : goal.returns-in_err-count-clause-live
 returns-in_err-count-clause-live g c =
     stop_lives
     (reach_of c.args.w.now (g.L.Locals.items c.args.l.now)) c.in_err-count.field-0.0 c.from_residual-in_err-count.result c.from_residual-in_err-count.ensures.1
-    (c.in_err-count.ensures.stops (extent_of c.args.w.now.heap) (c.arg-2.ensures.live (extent_of c.args.w.now.heap) c.requires.args))
+    (c.in_err-count.ensures.stops (extent_of c.args.w.now.heap) (c.arg-2.ensures.live (extent_of c.args.w.now.heap) c.requires.live.args))
 
 pub returns-in_err-list-clause-row : goal.returns-in_err-list-clause-row
 returns-in_err-list-clause-row g c outside =

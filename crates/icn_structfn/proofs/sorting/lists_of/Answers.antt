@@ -58,18 +58,18 @@ returns-in_err-list-clause-found g c outside =
 
 pub loop-first-preserved : goal.loop-first-preserved
 loop-first-preserved g c = record {
-  locals = c.new_list.ensures.locals;
+  locals = c.new_list.ensures.kept.locals;
   left = All-rest (AreLive (extent_of c.args.w.now.heap)) _ _ _ c.in-Some.ensures.cases.0 c.loop-first.invariant.left;
   made = All-same (IsLive (extent_of c.new_list.new.w.heap)) _ _ c.in_ok-add.ensures (All-push (IsLive (extent_of c.new_list.new.w.heap))
-      _ _ (live_kept c.new_list.ensures.kept.extent c.loop-first.lists.items c.loop-first.invariant.made) c.in_ok-list.ensures.live);
-  kept = keeps_items_trans _ _ _ c.loop-first.invariant.kept c.new_list.ensures.kept;
+      _ _ (live_kept c.new_list.ensures.kept.items.extent c.loop-first.lists.items c.loop-first.invariant.made) c.in_ok-list.ensures.live);
+  kept = keeps_items_trans _ _ _ c.loop-first.invariant.kept c.new_list.ensures.kept.items;
   is = λ outside.
       let shown : (map (value_in (extent_of c.loop-first.w.heap)) c.loop-first.lists.items) ++ value_in (extent_of c.new_list.new.w.heap) c.in_ok-list.list ∷ []
       ≡ map (value_in (extent_of c.new_list.new.w.heap)) c.add.new.vals.items =
       sym (ap (map (value_in (extent_of c.new_list.new.w.heap))) c.in_ok-add.ensures
       ∙ (map-append (value_in (extent_of c.new_list.new.w.heap)) c.loop-first.lists.items (c.in_ok-list.list ∷ [])
       ∙ ap (λ (values : List Value). values ++ value_in (extent_of c.new_list.new.w.heap) c.in_ok-list.list ∷ [])
-      (values_kept c.new_list.ensures.kept.extent c.loop-first.lists.items c.loop-first.invariant.made))) in
+      (values_kept c.new_list.ensures.kept.items.extent c.loop-first.lists.items c.loop-first.invariant.made))) in
       subst (λ (values : List Value). ListsLeft (map (values_in (extent_of c.args.w.now.heap)) c.args.pairs.now)
       (setting_of outside c.args.w.now (g.L.Locals.items c.args.l.now)) values (map (values_in (extent_of c.args.w.now.heap)) c.in-Some.others.now)
       (setting_of outside c.new_list.new.w (g.L.Locals.items c.args.l.now))) shown

@@ -18,7 +18,7 @@ same_integer n fits = to_z-of_z w64 n fits
 
 pub integer_of-requires : goal.integer_of-requires
 integer_of-requires g c =
-    c.value_or.ensures.live (extent_of c.args.w.now.heap) (record { live = tt }) (c.arg.ensures.live (extent_of c.args.w.now.heap) c.requires.args)
+    c.value_or.ensures.live (extent_of c.args.w.now.heap) (record { live = tt }) (c.arg.ensures.live (extent_of c.args.w.now.heap) c.requires.live.args)
 
 pub returns-in_err-n-clause-row : goal.returns-in_err-n-clause-row
 returns-in_err-n-clause-row g c outside =

@@ -27,7 +27,7 @@ returns-then-branch-clause-assigned g c =
     let live = rw c.in-Whole.is at c.requires.variable.live in
     rw c.in-Whole.is (λ outside. whole_done (root_in (extent_of c.args.w.now.heap) c.in-Whole.root) (value_in (extent_of c.args.w.now.heap) c.args.val)
     (setting_of outside c.args.w.now (g.L.Locals.items c.args.l.now)) (setting_of outside c.assign_root.new.w (g.L.Locals.items c.assign_root.new.l))
-    (Whole (root_in (extent_of c.assign_root.new.w.heap) c.in-Whole.root)) (ap Whole (root_kept c.assign_root.ensures.kept c.in-Whole.root live))
+    (Whole (root_in (extent_of c.assign_root.new.w.heap) c.in-Whole.root)) (ap Whole (root_kept c.assign_root.ensures.kept.items c.in-Whole.root live))
     (root_true (extent_of c.assign_root.new.w.heap)
     (λ refused. assigns_root refused (root_in (extent_of c.args.w.now.heap) c.in-Whole.root) (value_in (extent_of c.args.w.now.heap) c.args.val))
     (setting_of outside c.args.w.now (g.L.Locals.items c.args.l.now)) (setting_of outside c.assign_root.new.w (g.L.Locals.items c.assign_root.new.l))
@@ -36,12 +36,12 @@ returns-then-branch-clause-assigned g c =
 pub returns-then-branch-clause-live : goal.returns-then-branch-clause-live
 returns-then-branch-clause-live g c =
     let live = rw c.in-Whole.is at c.requires.variable in
-    variable_stays c.assign_root.ensures.kept (HeldWhole c.in-Whole.root) live
+    variable_stays c.assign_root.ensures.kept.items (HeldWhole c.in-Whole.root) live
 
 pub returns-then-branch-clause-holds : goal.returns-then-branch-clause-holds
 returns-then-branch-clause-holds g c =
     let live = rw c.in-Whole.is at c.requires.variable in
-    rw c.in-Whole.is (λ value. ap (λ variable. can_hold variable value) (variable_kept c.assign_root.ensures.kept (HeldWhole c.in-Whole.root) live))
+    rw c.in-Whole.is (λ value. ap (λ variable. can_hold variable value) (variable_kept c.assign_root.ensures.kept.items (HeldWhole c.in-Whole.root) live))
 
 pub returns-else-branch-clause-assigned : goal.returns-else-branch-clause-assigned
 returns-else-branch-clause-assigned g c =

@@ -43,7 +43,7 @@ returns-in_err-text-clause-assigned g c = λ outside.
     (setting_of outside c.args.w.now (g.L.Locals.items c.args.l.now)) =
     subst (λ text. GoesOn (reads_text (root_in (extent_of c.args.w.now.heap) c.args.root) c.args.place c.args.len)
     (setting_of outside c.args.w.now (g.L.Locals.items c.args.l.now)) text (setting_of outside c.args.w.now (g.L.Locals.items c.args.l.now)))
-    (sym (c.made_text.ensures.kept.extent.bytes c.in_ok-whole.whole c.in_ok-whole.ensures.live)) (c.in_ok-whole.ensures.value outside) in
+    (sym (c.made_text.ensures.kept.items.extent.bytes c.in_ok-whole.whole c.in_ok-whole.ensures.live)) (c.in_ok-whole.ensures.value outside) in
     assign_err (extent_of c.replace.new.w.heap) (λ refused.
     assigns_or refused (Part (root_in (extent_of c.args.w.now.heap) c.args.root) c.args.place c.args.len) (value_in (extent_of c.args.w.now.heap) c.args.val))
     (setting_of outside c.args.w.now (g.L.Locals.items c.args.l.now)) (setting_of outside c.replace.new.w (g.L.Locals.items c.args.l.now))
@@ -58,7 +58,7 @@ pub assign_root-requires-clause-root : goal.assign_root-requires-clause-root
 assign_root-requires-clause-root g c =
     let kept : KeepsItems (reach_of c.args.w.now (g.L.Locals.items c.args.l.now)) (reach_of c.replace.new.w (g.L.Locals.items c.args.l.now)) =
     keeps_items_trans (reach_of c.args.w.now (g.L.Locals.items c.args.l.now)) (reach_of c.made_text.new.w (g.L.Locals.items c.args.l.now))
-    (reach_of c.replace.new.w (g.L.Locals.items c.args.l.now)) c.made_text.ensures.kept c.replace.ensures.kept in
+    (reach_of c.replace.new.w (g.L.Locals.items c.args.l.now)) c.made_text.ensures.kept.items c.replace.ensures.kept.items in
     root_stays kept c.args.root c.requires.root
 
 pub returns-in_err-assign_root-clause-assigned : goal.returns-in_err-assign_root-clause-assigned
@@ -68,10 +68,10 @@ returns-in_err-assign_root-clause-assigned g c = λ outside.
     (setting_of outside c.args.w.now (g.L.Locals.items c.args.l.now)) =
     subst (λ text. GoesOn (reads_text (root_in (extent_of c.args.w.now.heap) c.args.root) c.args.place c.args.len)
     (setting_of outside c.args.w.now (g.L.Locals.items c.args.l.now)) text (setting_of outside c.args.w.now (g.L.Locals.items c.args.l.now)))
-    (sym (c.made_text.ensures.kept.extent.bytes c.in_ok-whole.whole c.in_ok-whole.ensures.live)) (c.in_ok-whole.ensures.value outside) in
+    (sym (c.made_text.ensures.kept.items.extent.bytes c.in_ok-whole.whole c.in_ok-whole.ensures.live)) (c.in_ok-whole.ensures.value outside) in
     let kept : KeepsItems (reach_of c.args.w.now (g.L.Locals.items c.args.l.now)) (reach_of c.replace.new.w (g.L.Locals.items c.args.l.now)) =
     keeps_items_trans (reach_of c.args.w.now (g.L.Locals.items c.args.l.now)) (reach_of c.made_text.new.w (g.L.Locals.items c.args.l.now))
-    (reach_of c.replace.new.w (g.L.Locals.items c.args.l.now)) c.made_text.ensures.kept c.replace.ensures.kept in
+    (reach_of c.replace.new.w (g.L.Locals.items c.args.l.now)) c.made_text.ensures.kept.items c.replace.ensures.kept.items in
     assign_err (extent_of c.assign_root.new.w.heap) (λ refused.
     assigns_or refused (Part (root_in (extent_of c.args.w.now.heap) c.args.root) c.args.place c.args.len) (value_in (extent_of c.args.w.now.heap) c.args.val))
     (setting_of outside c.args.w.now (g.L.Locals.items c.args.l.now)) (setting_of outside c.assign_root.new.w (g.L.Locals.items c.assign_root.new.l))
@@ -101,13 +101,13 @@ returns-then-branch-clause-assigned g c = λ outside.
     (setting_of outside c.args.w.now (g.L.Locals.items c.args.l.now)) =
     subst (λ text. GoesOn (reads_text (root_in (extent_of c.args.w.now.heap) c.args.root) c.args.place c.args.len)
     (setting_of outside c.args.w.now (g.L.Locals.items c.args.l.now)) text (setting_of outside c.args.w.now (g.L.Locals.items c.args.l.now)))
-    (sym (c.made_text.ensures.kept.extent.bytes c.in_ok-whole.whole c.in_ok-whole.ensures.live)) (c.in_ok-whole.ensures.value outside) in
+    (sym (c.made_text.ensures.kept.items.extent.bytes c.in_ok-whole.whole c.in_ok-whole.ensures.live)) (c.in_ok-whole.ensures.value outside) in
     let kept : KeepsItems (reach_of c.args.w.now (g.L.Locals.items c.args.l.now)) (reach_of c.replace.new.w (g.L.Locals.items c.args.l.now)) =
     keeps_items_trans (reach_of c.args.w.now (g.L.Locals.items c.args.l.now)) (reach_of c.made_text.new.w (g.L.Locals.items c.args.l.now))
-    (reach_of c.replace.new.w (g.L.Locals.items c.args.l.now)) c.made_text.ensures.kept c.replace.ensures.kept in
+    (reach_of c.replace.new.w (g.L.Locals.items c.args.l.now)) c.made_text.ensures.kept.items c.replace.ensures.kept.items in
     let last : KeepsItems (reach_of c.args.w.now (g.L.Locals.items c.args.l.now)) (reach_of c.assign_root.new.w (g.L.Locals.items c.assign_root.new.l)) =
     keeps_items_trans (reach_of c.args.w.now (g.L.Locals.items c.args.l.now)) (reach_of c.replace.new.w (g.L.Locals.items c.args.l.now))
-    (reach_of c.assign_root.new.w (g.L.Locals.items c.assign_root.new.l)) kept c.assign_root.ensures.kept in
+    (reach_of c.assign_root.new.w (g.L.Locals.items c.assign_root.new.l)) kept c.assign_root.ensures.kept.items in
     λ refused next.
     part_built (extent_of c.assign_root.new.w.heap) (root_in (extent_of c.args.w.now.heap) c.args.root) c.args.place c.args.len
     (value_in (extent_of c.args.w.now.heap) c.args.val) (text_in (extent_of c.made_text.new.w.heap) c.in_ok-new.new) c.in_ok-new.ensures.text
@@ -133,10 +133,10 @@ pub returns-then-branch-clause-live : goal.returns-then-branch-clause-live
 returns-then-branch-clause-live g c =
     let kept : KeepsItems (reach_of c.args.w.now (g.L.Locals.items c.args.l.now)) (reach_of c.replace.new.w (g.L.Locals.items c.args.l.now)) =
     keeps_items_trans (reach_of c.args.w.now (g.L.Locals.items c.args.l.now)) (reach_of c.made_text.new.w (g.L.Locals.items c.args.l.now))
-    (reach_of c.replace.new.w (g.L.Locals.items c.args.l.now)) c.made_text.ensures.kept c.replace.ensures.kept in
+    (reach_of c.replace.new.w (g.L.Locals.items c.args.l.now)) c.made_text.ensures.kept.items c.replace.ensures.kept.items in
     let last : KeepsItems (reach_of c.args.w.now (g.L.Locals.items c.args.l.now)) (reach_of c.assign_root.new.w (g.L.Locals.items c.assign_root.new.l)) =
     keeps_items_trans (reach_of c.args.w.now (g.L.Locals.items c.args.l.now)) (reach_of c.replace.new.w (g.L.Locals.items c.args.l.now))
-    (reach_of c.assign_root.new.w (g.L.Locals.items c.assign_root.new.l)) kept c.assign_root.ensures.kept in
+    (reach_of c.assign_root.new.w (g.L.Locals.items c.assign_root.new.l)) kept c.assign_root.ensures.kept.items in
     record { live = (root_stays last c.args.root c.requires.root, c.requires.place) }
 
 pub returns-else-branch-clause-assigned : goal.returns-else-branch-clause-assigned
@@ -146,10 +146,10 @@ returns-else-branch-clause-assigned g c = λ outside.
     (setting_of outside c.args.w.now (g.L.Locals.items c.args.l.now)) =
     subst (λ text. GoesOn (reads_text (root_in (extent_of c.args.w.now.heap) c.args.root) c.args.place c.args.len)
     (setting_of outside c.args.w.now (g.L.Locals.items c.args.l.now)) text (setting_of outside c.args.w.now (g.L.Locals.items c.args.l.now)))
-    (sym (c.made_text.ensures.kept.extent.bytes c.in_ok-whole.whole c.in_ok-whole.ensures.live)) (c.in_ok-whole.ensures.value outside) in
+    (sym (c.made_text.ensures.kept.items.extent.bytes c.in_ok-whole.whole c.in_ok-whole.ensures.live)) (c.in_ok-whole.ensures.value outside) in
     let kept : KeepsItems (reach_of c.args.w.now (g.L.Locals.items c.args.l.now)) (reach_of c.replace.new.w (g.L.Locals.items c.args.l.now)) =
     keeps_items_trans (reach_of c.args.w.now (g.L.Locals.items c.args.l.now)) (reach_of c.made_text.new.w (g.L.Locals.items c.args.l.now))
-    (reach_of c.replace.new.w (g.L.Locals.items c.args.l.now)) c.made_text.ensures.kept c.replace.ensures.kept in
+    (reach_of c.replace.new.w (g.L.Locals.items c.args.l.now)) c.made_text.ensures.kept.items c.replace.ensures.kept.items in
     λ refused next.
     part_built (extent_of c.assign_root.new.w.heap) (root_in (extent_of c.args.w.now.heap) c.args.root) c.args.place c.args.len
     (value_in (extent_of c.args.w.now.heap) c.args.val) (text_in (extent_of c.made_text.new.w.heap) c.in_ok-new.new) c.in_ok-new.ensures.text

@@ -25,13 +25,13 @@ returns-in_err-now-clause-exchanged g c = λ outside.
     (setting_of outside c.assign.new.w (g.L.Locals.items c.assign.new.l)) c.in_err-now.field-0.0 (c.in_err-now.ensures.assigned outside))
 
 pub assign_moved-requires-clause-right : goal.assign_moved-requires-clause-right
-assign_moved-requires-clause-right g c = variable_stays c.assign.ensures.kept c.args.right c.requires.right
+assign_moved-requires-clause-right g c = variable_stays c.assign.ensures.kept.items c.args.right c.requires.right
 
 pub assign_right-requires-clause-right : goal.assign_right-requires-clause-right
-assign_right-requires-clause-right g c = variable_stays c.assign.ensures.kept c.args.right c.requires.right
+assign_right-requires-clause-right g c = variable_stays c.assign.ensures.kept.items c.args.right c.requires.right
 
 pub assign_right-requires-in-Right-clause-right : goal.assign_right-requires-in-Right-clause-right
-assign_right-requires-in-Right-clause-right g c = variable_stays c.assign.ensures.kept c.args.right c.requires.right
+assign_right-requires-in-Right-clause-right g c = variable_stays c.assign.ensures.kept.items c.args.right c.requires.right
 
 pub returns-in-Left-clause-exchanged : goal.returns-in-Left-clause-exchanged
 returns-in-Left-clause-exchanged g c = rw c.in-Left.is (λ outside.
@@ -42,7 +42,7 @@ returns-in-Left-clause-exchanged g c = rw c.in-Left.is (λ outside.
     (value_in (extent_of c.args.w.now.heap) c.args.to_right) (value_in (extent_of c.assign.new.w.heap) c.args.to_right) c.part_length.result
     (setting_of outside c.args.w.now (g.L.Locals.items c.args.l.now)) (setting_of outside c.assign.new.w (g.L.Locals.items c.assign.new.l))
     (setting_of outside c.assign_moved.new.w (g.L.Locals.items c.assign_moved.new.l)) c.assign_moved.result
-    (variable_kept c.assign.ensures.kept c.args.right c.requires.right) (c.assign.ensures.kept.extent.value c.args.to_right c.requires.to_right)
+    (variable_kept c.assign.ensures.kept.items c.args.right c.requires.right) (c.assign.ensures.kept.items.extent.value c.args.to_right c.requires.to_right)
     (c.part_length.ensures (extent_of c.args.w.now.heap)) assigned (c.assign_moved.ensures.exchanged outside))
 
 pub returns-in-Left-clause-holds : goal.returns-in-Left-clause-holds
@@ -51,7 +51,7 @@ returns-in-Left-clause-holds g c =
     hold_as (extent_of c.assign_moved.new.w.heap)
     (variable_in (extent_of c.args.w.now.heap) c.args.left) (variable_in (extent_of c.assign.new.w.heap) c.in-Done.now)
     (variable_in (extent_of c.args.w.now.heap) c.args.right) (variable_in (extent_of c.assign.new.w.heap) c.args.right) c.assign_moved.result holds
-    (λ value. ap (λ variable. can_hold variable value) (variable_kept c.assign.ensures.kept c.args.right c.requires.right)) c.assign_moved.ensures.holds
+    (λ value. ap (λ variable. can_hold variable value) (variable_kept c.assign.ensures.kept.items c.args.right c.requires.right)) c.assign_moved.ensures.holds
 
 pub returns-in-OutOfRange-clause-exchanged : goal.returns-in-OutOfRange-clause-exchanged
 returns-in-OutOfRange-clause-exchanged g c = λ outside.
@@ -69,8 +69,8 @@ returns-in-Neither-clause-exchanged g c = rw c.in-Neither.is (λ outside.
     (variable_in (extent_of c.assign.new.w.heap) c.in-Done.now) (value_in (extent_of c.args.w.now.heap) c.args.to_left)
     (value_in (extent_of c.args.w.now.heap) c.args.to_right) (value_in (extent_of c.assign.new.w.heap) c.args.to_right)
     (setting_of outside c.args.w.now (g.L.Locals.items c.args.l.now)) (setting_of outside c.assign.new.w (g.L.Locals.items c.assign.new.l)) (setting_of outside
-    c.assign_right.new.w (g.L.Locals.items c.assign_right.new.l)) c.assign_right.result tt (variable_kept c.assign.ensures.kept c.args.right c.requires.right)
-    (c.assign.ensures.kept.extent.value c.args.to_right c.requires.to_right) assigned (c.assign_right.ensures.exchanged outside))
+    c.assign_right.new.w (g.L.Locals.items c.assign_right.new.l)) c.assign_right.result tt (variable_kept c.assign.ensures.kept.items c.args.right c.requires.right)
+    (c.assign.ensures.kept.items.extent.value c.args.to_right c.requires.to_right) assigned (c.assign_right.ensures.exchanged outside))
 
 pub returns-in-Neither-clause-holds : goal.returns-in-Neither-clause-holds
 returns-in-Neither-clause-holds g c =
@@ -78,7 +78,7 @@ returns-in-Neither-clause-holds g c =
     hold_as (extent_of c.assign_right.new.w.heap)
     (variable_in (extent_of c.args.w.now.heap) c.args.left) (variable_in (extent_of c.assign.new.w.heap) c.in-Done.now)
     (variable_in (extent_of c.args.w.now.heap) c.args.right) (variable_in (extent_of c.assign.new.w.heap) c.args.right) c.assign_right.result holds
-    (λ value. ap (λ variable. can_hold variable value) (variable_kept c.assign.ensures.kept c.args.right c.requires.right)) c.assign_right.ensures.holds
+    (λ value. ap (λ variable. can_hold variable value) (variable_kept c.assign.ensures.kept.items c.args.right c.requires.right)) c.assign_right.ensures.holds
 
 pub returns-in-Right-clause-exchanged : goal.returns-in-Right-clause-exchanged
 returns-in-Right-clause-exchanged g c = rw c.in-Right.is (λ outside.
@@ -89,7 +89,7 @@ returns-in-Right-clause-exchanged g c = rw c.in-Right.is (λ outside.
     (value_in (extent_of c.args.w.now.heap) c.args.to_right) (value_in (extent_of c.assign.new.w.heap) c.args.to_right)
     (setting_of outside c.args.w.now (g.L.Locals.items c.args.l.now)) (setting_of outside c.assign.new.w (g.L.Locals.items c.assign.new.l))
     (setting_of outside c.assign_right-in-Right.new.w (g.L.Locals.items c.assign_right-in-Right.new.l)) c.assign_right-in-Right.result tt
-    (variable_kept c.assign.ensures.kept c.args.right c.requires.right) (c.assign.ensures.kept.extent.value c.args.to_right c.requires.to_right) assigned
+    (variable_kept c.assign.ensures.kept.items c.args.right c.requires.right) (c.assign.ensures.kept.items.extent.value c.args.to_right c.requires.to_right) assigned
     (c.assign_right-in-Right.ensures.exchanged outside))
 
 pub returns-in-Right-clause-holds : goal.returns-in-Right-clause-holds
@@ -98,7 +98,7 @@ returns-in-Right-clause-holds g c =
     hold_as (extent_of c.assign_right-in-Right.new.w.heap) (variable_in (extent_of c.args.w.now.heap) c.args.left)
     (variable_in (extent_of c.assign.new.w.heap) c.in-Done.now) (variable_in (extent_of c.args.w.now.heap) c.args.right)
     (variable_in (extent_of c.assign.new.w.heap) c.args.right) c.assign_right-in-Right.result holds (λ value.
-    ap (λ variable. can_hold variable value) (variable_kept c.assign.ensures.kept c.args.right c.requires.right)) c.assign_right-in-Right.ensures.holds
+    ap (λ variable. can_hold variable value) (variable_kept c.assign.ensures.kept.items c.args.right c.requires.right)) c.assign_right-in-Right.ensures.holds
 
 -- memory
 
@@ -108,10 +108,10 @@ returns-in_err-now-clause-memory g c = λ neither one two held_left held_right.
 
 pub returns-in-Neither-clause-memory : goal.returns-in-Neither-clause-memory
 returns-in-Neither-clause-memory g c = λ neither one two held_left held_right.
-    let stays = variable_kept c.assign.ensures.kept c.args.right c.requires.right in
+    let stays = variable_kept c.assign.ensures.kept.items c.args.right c.requires.right in
     c.assign_right.ensures.memory (ap takes_no_memory stays ∙ two)
     (ap (λ variable. can_hold variable (value_in (extent_of c.assign.new.w.heap) c.args.to_right)) stays
-    ∙ ap (can_hold (variable_in (extent_of c.args.w.now.heap) c.args.right)) (c.assign.ensures.kept.extent.value c.args.to_right c.requires.to_right)
+    ∙ ap (can_hold (variable_in (extent_of c.args.w.now.heap) c.args.right)) (c.assign.ensures.kept.items.extent.value c.args.to_right c.requires.to_right)
     ∙ held_right)
 
 pub returns-in-Left-clause-memory : goal.returns-in-Left-clause-memory

@@ -37,19 +37,19 @@ returns-in-To-clause-exchanged g c = rw c.in-Right.is (λ outside.
     (variable_in (extent_of c.assign.new.w.heap) c.in-To.left) (variable_in (extent_of c.assign.new.w.heap) c.in-Done.now)
     (variable_in (extent_of c.assign.new.w.heap) c.args.left) (c.part_length.ensures (extent_of c.args.w.now.heap))
     (c.part_length-in-Right.ensures (extent_of c.assign.new.w.heap))
-    (variable_kept c.assign.ensures.kept c.args.left c.requires.left) assigned
+    (variable_kept c.assign.ensures.kept.items c.args.left c.requires.left) assigned
     (c.in-To.ensures.moved (extent_of c.assign.new.w.heap) (setting_of outside c.assign.new.w (g.L.Locals.items c.assign.new.l))))
 
 pub returns-in-To-clause-live : goal.returns-in-To-clause-live
 returns-in-To-clause-live g c =
     let live = rw c.in-Done.is at c.in_ok-now.ensures.live in
-    (c.in-To.ensures.live (reach_of c.assign.new.w (g.L.Locals.items c.assign.new.l)) (variable_stays c.assign.ensures.kept c.args.left c.requires.left), live)
+    (c.in-To.ensures.live (reach_of c.assign.new.w (g.L.Locals.items c.assign.new.l)) (variable_stays c.assign.ensures.kept.items c.args.left c.requires.left), live)
 
 pub returns-in-To-clause-holds : goal.returns-in-To-clause-holds
 returns-in-To-clause-holds g c =
     let holds = rw c.in-Done.is at c.in_ok-now.ensures.holds in (
       λ value. c.in-To.ensures.holds (extent_of c.assign.new.w.heap) value
-          ∙ ap (λ variable. can_hold variable value) (variable_kept c.assign.ensures.kept c.args.left c.requires.left),
+          ∙ ap (λ variable. can_hold variable value) (variable_kept c.assign.ensures.kept.items c.args.left c.requires.left),
       holds,
     )
 
@@ -61,7 +61,7 @@ returns-in-BeforeText-clause-exchanged g c = rw c.in-Right.is (λ outside.
     (setting_of outside c.assign.new.w (g.L.Locals.items c.assign.new.l)) c.part_length.result c.part_length-in-Right.result
     (variable_in (extent_of c.assign.new.w.heap) c.in-Done.now) (variable_in (extent_of c.assign.new.w.heap) c.args.left)
     (c.part_length.ensures (extent_of c.args.w.now.heap)) (c.part_length-in-Right.ensures (extent_of c.assign.new.w.heap))
-    (variable_kept c.assign.ensures.kept c.args.left c.requires.left) assigned
+    (variable_kept c.assign.ensures.kept.items c.args.left c.requires.left) assigned
     (c.in-BeforeText.ensures.moved (extent_of c.assign.new.w.heap) (setting_of outside c.assign.new.w (g.L.Locals.items c.assign.new.l))))
 
 pub returns-in-OutOfRange-clause-exchanged : goal.returns-in-OutOfRange-clause-exchanged
@@ -77,17 +77,17 @@ returns-in-Neither-clause-exchanged g c = rw c.in-Neither.is (λ outside.
     right_done (extent_of c.assign.new.w.heap) Neither (variable_in (extent_of c.args.w.now.heap) c.args.left) (variable_in (extent_of c.args.w.now.heap)
     c.args.right) (value_in (extent_of c.args.w.now.heap) c.args.to_right) (setting_of outside c.args.w.now (g.L.Locals.items c.args.l.now))
     (setting_of outside c.assign.new.w (g.L.Locals.items c.assign.new.l)) (variable_in (extent_of c.assign.new.w.heap) c.args.left)
-    (variable_in (extent_of c.assign.new.w.heap) c.in-Done.now) tt (variable_kept c.assign.ensures.kept c.args.left c.requires.left) assigned)
+    (variable_in (extent_of c.assign.new.w.heap) c.in-Done.now) tt (variable_kept c.assign.ensures.kept.items c.args.left c.requires.left) assigned)
 
 pub returns-in-Neither-clause-live : goal.returns-in-Neither-clause-live
 returns-in-Neither-clause-live g c =
     let live = rw c.in-Done.is at c.in_ok-now.ensures.live in
-    (variable_stays c.assign.ensures.kept c.args.left c.requires.left, live)
+    (variable_stays c.assign.ensures.kept.items c.args.left c.requires.left, live)
 
 pub returns-in-Neither-clause-holds : goal.returns-in-Neither-clause-holds
 returns-in-Neither-clause-holds g c =
     let holds = rw c.in-Done.is at c.in_ok-now.ensures.holds in
-    (λ value. ap (λ variable. can_hold variable value) (variable_kept c.assign.ensures.kept c.args.left c.requires.left), holds)
+    (λ value. ap (λ variable. can_hold variable value) (variable_kept c.assign.ensures.kept.items c.args.left c.requires.left), holds)
 
 pub returns-in-Left-clause-exchanged : goal.returns-in-Left-clause-exchanged
 returns-in-Left-clause-exchanged g c = rw c.in-Left.is (λ outside.
@@ -95,17 +95,17 @@ returns-in-Left-clause-exchanged g c = rw c.in-Left.is (λ outside.
     right_done (extent_of c.assign.new.w.heap) Left (variable_in (extent_of c.args.w.now.heap) c.args.left) (variable_in (extent_of c.args.w.now.heap)
     c.args.right) (value_in (extent_of c.args.w.now.heap) c.args.to_right) (setting_of outside c.args.w.now (g.L.Locals.items c.args.l.now))
     (setting_of outside c.assign.new.w (g.L.Locals.items c.assign.new.l)) (variable_in (extent_of c.assign.new.w.heap) c.args.left)
-    (variable_in (extent_of c.assign.new.w.heap) c.in-Done.now) tt (variable_kept c.assign.ensures.kept c.args.left c.requires.left) assigned)
+    (variable_in (extent_of c.assign.new.w.heap) c.in-Done.now) tt (variable_kept c.assign.ensures.kept.items c.args.left c.requires.left) assigned)
 
 pub returns-in-Left-clause-live : goal.returns-in-Left-clause-live
 returns-in-Left-clause-live g c =
     let live = rw c.in-Done.is at c.in_ok-now.ensures.live in
-    (variable_stays c.assign.ensures.kept c.args.left c.requires.left, live)
+    (variable_stays c.assign.ensures.kept.items c.args.left c.requires.left, live)
 
 pub returns-in-Left-clause-holds : goal.returns-in-Left-clause-holds
 returns-in-Left-clause-holds g c =
     let holds = rw c.in-Done.is at c.in_ok-now.ensures.holds in
-    (λ value. ap (λ variable. can_hold variable value) (variable_kept c.assign.ensures.kept c.args.left c.requires.left), holds)
+    (λ value. ap (λ variable. can_hold variable value) (variable_kept c.assign.ensures.kept.items c.args.left c.requires.left), holds)
 
 -- memory
 

@@ -5,6 +5,7 @@ use Rattle.icn_value.specs.Changes.{value_at_key, with_pair}
 use Rattle.icn_defs.specs.ReadAndAssign.{assigns_root}
 use Rattle.icn_heap.specs.Extents.{value_in}
 use Rattle.icn_heap.specs.Heaps.{extent_of, heap_of}
+use Rattle.icn_heap.proofs.GrowingHeaps.{live_kept}
 use Rattle.icn_vars.specs.Stops.{stop_of}
 use Rattle.icn_vars.specs.Worlds.{setting_of}
 use Rattle.icn_vars.proofs.HeapChanges.{fields_behind, unless_change}
@@ -31,11 +32,14 @@ returns-clause-assigned g c = λ outside.
 
 pub returns-clause-kept : goal.returns-clause-kept
 returns-clause-kept g c = record {
-  extent = c.store.ensures.kept;
-  fields = fields_behind (unless_change (is_some (value_at_key (heap_of c.args.w.now.heap) c.args.table (value_in (extent_of c.args.w.now.heap) c.args.key))))
-      (with_pair c.args.table (value_in (extent_of c.args.w.now.heap) c.args.key) (value_in (extent_of c.args.w.now.heap) c.args.val)) (λ heap. refl)
-      (heap_of c.args.w.now.heap) (heap_of c.store.new.self) c.in_ok-store.ensures.step;
-  globals = refl;
-  statics = refl;
-  locals = refl;
+  locals = live_kept c.store.ensures.kept _ c.requires.locals;
+  items = record {
+    extent = c.store.ensures.kept;
+    fields = fields_behind (unless_change (is_some (value_at_key (heap_of c.args.w.now.heap) c.args.table (value_in (extent_of c.args.w.now.heap) c.args.key))))
+        (with_pair c.args.table (value_in (extent_of c.args.w.now.heap) c.args.key) (value_in (extent_of c.args.w.now.heap) c.args.val)) (λ heap. refl)
+        (heap_of c.args.w.now.heap) (heap_of c.store.new.self) c.in_ok-store.ensures.step;
+    globals = refl;
+    statics = refl;
+    locals = refl;
+  };
 }

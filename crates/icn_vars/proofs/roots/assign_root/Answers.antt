@@ -4,6 +4,7 @@ use Rattle.std.proofs.lemmas.Int.{to_z-of_z}
 use Rattle.icn_value.specs.Changes.{with_field}
 use Rattle.icn_heap.specs.Extents.{value_in}
 use Rattle.icn_heap.specs.Heaps.{extent_of, heap_of}
+use Rattle.icn_heap.proofs.GrowingHeaps.{live_kept}
 use Rattle.icn_vars.proofs.HeapChanges.{fields_by, fields_set}
 use Rattle.icn_vars.proofs.ReadValues.{field_there}
 use Rattle.icn_vars.proofs.RootChanges.{field_assigned, global_assigned, local_assigned, static_assigned}
@@ -44,13 +45,16 @@ returns-in-Field-clause-assigned g c =
 
 pub returns-in-Field-clause-kept : goal.returns-in-Field-clause-kept
 returns-in-Field-clause-kept g c = record {
-  extent = c.set_field.ensures.kept;
-  fields = fields_by (heap_of c.args.w.now.heap) (with_field c.in-Field.rec c.in-Field.place (value_in (extent_of c.args.w.now.heap) c.args.val)
-      (heap_of c.args.w.now.heap)) (heap_of c.set_field.new.self)
-      (fields_set c.in-Field.rec c.in-Field.place (value_in (extent_of c.args.w.now.heap) c.args.val) (heap_of c.args.w.now.heap)) c.set_field.ensures.step;
-  globals = refl;
-  statics = refl;
-  locals = refl;
+  locals = live_kept c.set_field.ensures.kept _ c.requires.locals;
+  items = record {
+    extent = c.set_field.ensures.kept;
+    fields = fields_by (heap_of c.args.w.now.heap) (with_field c.in-Field.rec c.in-Field.place (value_in (extent_of c.args.w.now.heap) c.args.val)
+        (heap_of c.args.w.now.heap)) (heap_of c.set_field.new.self)
+        (fields_set c.in-Field.rec c.in-Field.place (value_in (extent_of c.args.w.now.heap) c.args.val) (heap_of c.args.w.now.heap)) c.set_field.ensures.step;
+    globals = refl;
+    statics = refl;
+    locals = refl;
+  };
 }
 
 pub returns-in-Key-clause-assigned : goal.returns-in-Key-clause-assigned

@@ -2,6 +2,7 @@ use Rattle.icn_defs.specs.Rows.{costs_text}
 use Rattle.std.proofs.Common.{refl}
 use Rattle.icn_heap.specs.Extents.{value_in}
 use Rattle.icn_heap.specs.Heaps.{extent_of, heap_of}
+use Rattle.icn_heap.proofs.GrowingHeaps.{live_kept}
 use Rattle.icn_vars.specs.Stops.{stop_of}
 use Rattle.icn_vars.specs.Worlds.{setting_of}
 use Rattle.icn_vars.proofs.HeapChanges.{fields_charged, change_passes, change_stops, stopped_part, text_change}
@@ -27,10 +28,13 @@ returns-clause-passes g c = λ outside.
 
 pub returns-clause-kept : goal.returns-clause-kept
 returns-clause-kept g c = record {
-  extent = c.to_text.ensures.kept;
-  fields = fields_charged (text_change (value_in (extent_of c.args.w.now.heap) c.args.val)) (heap_of c.args.w.now.heap)
-      (heap_of c.to_text.new.heap) c.in_ok-span.ensures.step;
-  globals = refl;
-  statics = refl;
-  locals = refl;
+  locals = live_kept c.to_text.ensures.kept _ c.requires.locals;
+  items = record {
+    extent = c.to_text.ensures.kept;
+    fields = fields_charged (text_change (value_in (extent_of c.args.w.now.heap) c.args.val)) (heap_of c.args.w.now.heap)
+        (heap_of c.to_text.new.heap) c.in_ok-span.ensures.step;
+    globals = refl;
+    statics = refl;
+    locals = refl;
+  };
 }

@@ -4,6 +4,7 @@ use Rattle.icn_defs.specs.ReadAndAssign.{with_part}
 use Rattle.icn_defs.specs.Rows.{costs_bytes}
 use Rattle.icn_heap.specs.Extents.{text_in}
 use Rattle.icn_heap.specs.Heaps.{extent_of, heap_of}
+use Rattle.icn_heap.proofs.GrowingHeaps.{live_kept}
 use Rattle.icn_vars.specs.Stops.{stop_of}
 use Rattle.icn_vars.specs.Worlds.{setting_of}
 use Rattle.icn_vars.proofs.HeapChanges.{bytes_change, fields_charged, change_passes, change_stops, stopped_part}
@@ -40,9 +41,12 @@ returns-clause-passes g c = λ outside.
 
 pub returns-clause-kept : goal.returns-clause-kept
 returns-clause-kept g c = record {
-  extent = c.build.ensures.kept;
-  fields = fields_charged (bytes_change (length c.deref.result.now)) (heap_of c.args.w.now.heap) (heap_of c.build.new.self) c.in_ok-build.ensures.step;
-  globals = refl;
-  statics = refl;
-  locals = refl;
+  locals = live_kept c.build.ensures.kept _ c.requires.locals;
+  items = record {
+    extent = c.build.ensures.kept;
+    fields = fields_charged (bytes_change (length c.deref.result.now)) (heap_of c.args.w.now.heap) (heap_of c.build.new.self) c.in_ok-build.ensures.step;
+    globals = refl;
+    statics = refl;
+    locals = refl;
+  };
 }

@@ -15,5 +15,5 @@ pub keep-requires-clause-ready : goal.keep-requires-clause-ready
 keep-requires-clause-ready g c = record {
   named = (pair_ready (g.N.Names.known c.args.names.now) c.in_ok-w.w c.new_record.new.w c.args.l.now.vals.items (pos 7)
       (pos 8) c.in_ok-rec.rec c.in_ok-w.ensures c.requires.records (c.in_ok-rec.ensures.found (outside_of []))).1;
-  live = c.new_record.ensures.locals;
+  live = c.new_record.ensures.kept.locals;
 }

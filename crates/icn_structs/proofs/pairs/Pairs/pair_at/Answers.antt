@@ -7,7 +7,8 @@ pub returns-in_err-number : goal.returns-in_err-number
 returns-in_err-number g c = record {
   pair = ap (option_map (λ pair. (pair.0.now, pair.1))) c.from_residual.ensures
       ∙ sym (ap (λ pairs. slice_get pairs c.args.place) (sym c.self.view_is)
-      ∙ no_pair g.K.PartialEq.eq g.met.K.Eq.laws c.self.inside.entries.entries c.self.inside.turns c.self.invariant c.args.place (sym c.in_err-number.ensures.number));
+      ∙ no_pair g.K.PartialEq.eq g.met.K.Eq.laws c.self.inside.entries.entries c.self.inside.turns c.self.invariant c.args.place
+      (sym c.in_err-number.ensures.number));
 }
 
 pub returns : goal.returns

@@ -1,0 +1,41 @@
+// In which chunk a range lies.
+ghost use Rattle.std.specs.Prelude.{◌≡◌, ◌<◌, ◌≤◌, ℕ, List, true, length, take, drop};
+ghost use Rattle.std.specs.List.{All, AllPairs, AllWithin, HoldsAt, list_any};
+ghost use Rattle.icn_strings.specs.Chunks.{holds, HasItsPart, EndsBefore};
+
+use crate::byte_range::ByteRange;
+use crate::chunk::Chunk;
+
+/// The bytes of a range that lies in one of these chunks, which are in order.
+pub fn bytes_in(chunks: &[Chunk], range: ByteRange) -> &[u8]
+    requires order { AllPairs EndsBefore chunks.now }
+    requires held { list_any (holds range) chunks.now ≡ true }
+    requires some { 0 < range.len }
+    ensures bytes { (all : List ℕ) → All (HasItsPart all) chunks.now
+        → result.now ≡ take range.len (drop range.start all) }
+    ensures len { length result.now ≡ range.len }
+{
+    let index = index_of(chunks, range);
+    chunks[index].part(range)
+}
+
+// The index of the chunk in which a range lies: of the last one that begins where the range does, or before.
+fn index_of(chunks: &[Chunk], range: ByteRange) -> usize
+    requires order { AllPairs EndsBefore chunks.now }
+    requires held { list_any (holds range) chunks.now ≡ true }
+    requires some { 0 < range.len }
+    ensures within { result < length chunks.now }
+    ensures held { HoldsAt (λ chunk. holds range chunk ≡ true) chunks.now result }
+{
+    begun_by(chunks, range.start) - 1
+}
+
+// How many of the chunks begin at `start` or before. By halving.
+fn begun_by(chunks: &[Chunk], start: u64) -> usize
+    requires { AllPairs EndsBefore chunks.now }
+    ensures few { result ≤ length chunks.now }
+    ensures before { AllWithin (λ chunk. chunk.first ≤ start) chunks.now 0 result }
+    ensures behind { AllWithin (λ chunk. start < chunk.first) chunks.now result (length chunks.now) }
+{
+    chunks.partition_point(|chunk| chunk.first <= start)
+}
