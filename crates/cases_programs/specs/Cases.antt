@@ -5,7 +5,7 @@ use Rattle.std.specs.Prelude.{◌≡◌, ℕ, zero, suc, pred, List, [], ◌∷�
 use Rattle.std.specs.Option.{option_map}
 use Rattle.icn_tree.specs.Trees.{Declaration}
 use Rattle.icn_value.specs.Limited.{Bounds, default_limits}
-use Rattle.icn_value.specs.Store.{errors_in, output_in}
+use Rattle.icn_value.specs.Store.{errors_in, output_in, no_files}
 use Rattle.icn_code.specs.Codes.{Tables}
 use Rattle.icn_defs.specs.Running.{Ending, Done, Errored, AtBound, Observation, launch_of}
 use Rattle.icn_meaning.specs.Program.{Program, program}
@@ -111,7 +111,8 @@ seen_of state = None
 
 -- what the meaning of a program comes to in the steps of the case
 abbrev pub meant_by : ProgramCase → Program → Option Expectation
-meant_by c p = seen_of (Meaning.steps p c.steps (Meaning.start p (launch_of c.words c.bounds c.input)))
+meant_by c p = seen_of
+    (Meaning.steps p c.steps (Meaning.start p (launch_of c.words c.bounds c.input no_files)))
 
 -- What is seen of the code. Its charges are told by limits: with just the turns, the string bytes and the
 -- cells that the run takes it ends so, and with one less of each it stands at the bound or lacks space.
@@ -162,14 +163,16 @@ just c = record {
 -- the run of the code on flat stacks
 abbrev pub on_flat : ProgramCase → Tables → Bounds → Option Observation
 on_flat c tables bounds =
-    Step.observation (Flat.steps tables c.steps (Flat.start tables (launch_of c.words bounds c.input)))
+    Step.observation
+    (Flat.steps tables c.steps (Flat.start tables (launch_of c.words bounds c.input no_files)))
 
 -- the run of the code on linked marks
 abbrev pub on_linked : ProgramCase → Tables → Bounds → Option Observation
 on_linked c tables bounds =
     let repeats = repeats_of tables in
     Step.observation
-    (Linked.steps repeats tables c.steps (Linked.start repeats tables (launch_of c.words bounds c.input)))
+    (Linked.steps repeats tables c.steps
+    (Linked.start repeats tables (launch_of c.words bounds c.input no_files)))
 
 -- where none of it was needed the run ends as ever
 abbrev pub short : ℕ → Ending → Ending → Option Ending

@@ -1,9 +1,9 @@
--- What runs leave of the input, and what they do outside, in its order.
+-- What runs leave of the input and of the files, and what they do outside, in its order.
 use Rattle.std.specs.Prelude.{◌≡◌, ℕ, List, [], ◌∷◌, ◌++◌, codes, map, Option, Some}
 use Rattle.std.specs.Option.{option_map}
 use Rattle.icn_tree.specs.Trees.{Empty, Declaration}
 use Rattle.icn_value.specs.Limited.{default_limits}
-use Rattle.icn_value.specs.Store.{ALine, SomeBytes, Event, AReading, OutputByte, ErrorByte, Outside}
+use Rattle.icn_value.specs.Store.{ALine, SomeBytes, Event, AReading, OutputByte, ErrorByte, FileReading, FileWriting, Outside, no_files, with_file}
 use Rattle.icn_code.specs.Codes.{Tables}
 use Rattle.icn_defs.specs.Running.{Launch, Observation, launch_of}
 use Rattle.icn_meaning.specs.Program.{Program, program}
@@ -13,7 +13,7 @@ use Rattle.icn_run.specs.FlatStep as Flat
 use Rattle.icn_run.specs.LinkedStep as Linked
 use Rattle.icn_run.specs.LinkedStep.{repeats_of}
 use Rattle.cases_programs.specs.Coded.{tables_of}
-use Rattle.cases_programs.specs.Words.{int, text, name, key, call, write, while, main}
+use Rattle.cases_programs.specs.Words.{int, text, name, key, assign, call, write, while, main}
 
 -- a program with its input, and the outside at its end
 pub record ReadCase : Type 0 where
@@ -52,7 +52,7 @@ left_by launch program tables =
 abbrev pub Reads : ReadCase → Type 0
 Reads r =
     let files = r.file ∷ [] in
-    left_by (launch_of [] default_limits r.input) (program files) (tables_of files)
+    left_by (launch_of [] default_limits r.input no_files) (program files) (tables_of files)
     ≡ record { meant = Some r.outside; on_stacks = Some r.outside; on_marks = Some r.outside }
 
 -- the reading of a line
@@ -70,7 +70,7 @@ on_output text = map OutputByte text
 abbrev pub on_errors : List ℕ → List Event
 on_errors text = map ErrorByte text
 
--- programs that read, with the input that they leave and all that they do outside
+-- programs that read and write, with the input that they leave, the files, and all that they do outside
 abbrev pub readings : List ReadCase
 readings =
     -- procedure main(); while write(read()); end
@@ -79,6 +79,7 @@ readings =
       input = codes "a\n\nb";
       outside = record {
         left = [];
+        files = no_files;
         history =
             a_line ++ on_output (codes "a\n") ++ a_line ++ on_output (codes "\n") ++ a_line
             ++ on_output (codes "b\n") ++ a_line;
@@ -96,9 +97,46 @@ readings =
       input = codes "abcde\nf";
       outside = record {
         left = codes "f";
+        files = no_files;
         history =
             some_bytes 3 ++ on_output (codes "abc\n") ++ on_errors (codes "x") ++ a_line
             ++ on_output (codes "de\n");
+      };
+    } ∷
+    -- procedure main(); f := open("t", "w"); write(f, "a"); write("b"); end
+    record {
+      file =
+          main
+          (assign (name "f") (call (name "open") (text "t" ∷ text "w" ∷ [])) ∷
+          write (name "f" ∷ text "a" ∷ []) ∷
+          write (text "b" ∷ []) ∷
+          []) ∷
+          [];
+      input = [];
+      outside = record {
+        left = [];
+        files = with_file (codes "t") (codes "a\n") no_files;
+        history = on_output (codes "b\n") ++ FileWriting (codes "t") (codes "a\n") ∷ [];
+      };
+    } ∷
+    -- procedure main(); f := open("t", "w"); write(f, "a"); close(f); open("u", "a"); stop("x"); end
+    record {
+      file =
+          main
+          (assign (name "f") (call (name "open") (text "t" ∷ text "w" ∷ [])) ∷
+          write (name "f" ∷ text "a" ∷ []) ∷
+          call (name "close") (name "f" ∷ []) ∷
+          call (name "open") (text "u" ∷ text "a" ∷ []) ∷
+          call (name "stop") (text "x" ∷ []) ∷
+          []) ∷
+          [];
+      input = [];
+      outside = record {
+        left = [];
+        files = with_file (codes "u") [] (with_file (codes "t") (codes "a\n") no_files);
+        history =
+            FileWriting (codes "t") (codes "a\n") ∷ FileReading (codes "u") ∷ on_errors (codes "x\n")
+            ++ FileWriting (codes "u") [] ∷ [];
       };
     } ∷
     []

@@ -58,7 +58,7 @@ pub fn bounded_programs()
     ensures { AllByRecursion Holds bounded_cases }
 {}
 
-/// What a run leaves of the input, and the readings that it makes.
+/// What a run leaves of the input and of the files, and what it does outside.
 pub fn readings()
     ensures { AllByRecursion Reads readings }
 {}

@@ -5,5 +5,6 @@ pub mod ScannedHold
 pub mod StructuredHold
 pub mod AssignedHold
 pub mod OutsideHold
+pub mod OpenedFilesHold
 pub mod LimitedHold
 pub mod ReportedHold

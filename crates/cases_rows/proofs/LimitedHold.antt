@@ -1,12 +1,14 @@
 -- Each case of the table holds, by computing.
 use Rattle.std.proofs.Common.{refl}
+use Rattle.std.specs.Char.{encode_utf8}
 use Rattle.std.specs.Fmt.{digits}
 use Rattle.std.specs.List.{AllByRecursion}
+use Rattle.std.specs.Str.{chars, is_utf8}
 use Rattle.cases_rows.specs.Cases.{CaseHolds}
 use Rattle.cases_rows.specs.Limited.{limits}
 
 pub limits_hold : AllByRecursion CaseHolds limits
-unfolding digits
+unfolding chars digits encode_utf8 is_utf8
 limits_hold = (
   record { saw = refl; facts = refl },
   (
@@ -57,7 +59,10 @@ limits_hold = (
                                                 record { saw = refl; facts = refl },
                                                 (
                                                   record { saw = refl; facts = refl },
-                                                  tt,
+                                                  (
+                                                    record { saw = refl; facts = refl },
+                                                    tt,
+                                                  ),
                                                 ),
                                               ),
                                             ),

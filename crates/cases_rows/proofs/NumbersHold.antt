@@ -1,12 +1,14 @@
 -- Each case of the table holds, by computing.
 use Rattle.std.proofs.Common.{refl}
+use Rattle.std.specs.Char.{encode_utf8}
 use Rattle.std.specs.Fmt.{digits}
 use Rattle.std.specs.List.{AllByRecursion}
+use Rattle.std.specs.Str.{chars, is_utf8}
 use Rattle.cases_rows.specs.Cases.{CaseHolds}
 use Rattle.cases_rows.specs.Numbers.{arithmetic}
 
 pub arithmetic_hold : AllByRecursion CaseHolds arithmetic
-unfolding digits
+unfolding chars digits encode_utf8 is_utf8
 arithmetic_hold = (
   record { saw = refl; facts = refl },
   (

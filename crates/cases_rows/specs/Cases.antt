@@ -4,7 +4,12 @@ use Rattle.std.specs.Prelude.{◌≡◌, ◌&&◌, ◌+◌, ℕ, pos, negsuc, Bo
 use Rattle.icn_text.specs.declared.op.Op.{Op}
 use Rattle.icn_text.specs.declared.func.Func.{Func}
 use Rattle.icn_value.specs.Values.{Value, Null, Integer, Text, Chars, AList, Local, Whole, Part, Item, Val, Var}
-use Rattle.icn_value.specs.Store.{Setting, Heap, Names}
+use Rattle.std.specs.Map.{lookup}
+use Rattle.std.specs.Str.{bytes_eq}
+use Rattle.icn_host.specs.FileMaps.{FileMap}
+use Rattle.icn_value.specs.declared.mode.FileMode.TheVariants.{ToRead, ToWrite, ToAdd}
+use Rattle.icn_value.specs.Changes.{new_file}
+use Rattle.icn_value.specs.Store.{Setting, Heap, Names, outside_of}
 use Rattle.icn_defs.specs.Rows.{Row, Outcome, Fails, Gives, Suspends, Error, Ends}
 use Rattle.icn_defs.specs.Applying.{operation_row, function_row, again}
 use Rattle.icn_defs.specs.RowFacts.{is_outcome, is_setting}
@@ -61,7 +66,8 @@ names =
       records = codes "point" ∷ codes "pair" ∷ codes "point" ∷ [];
     }
 
--- two lists, three sets, two tables, three records, and a co-expression beside `&main`
+-- two lists, three sets, two tables, three records, a co-expression beside `&main`, and four opened files: one
+-- that is read, one that is written anew, one that is added to, and one that is closed
 abbrev pub heap : Heap
 heap = record {
   lists = record { items = Integer (pos 3) ∷ Text (codes "a") ∷ Integer (pos 1) ∷ Null ∷ []; number = pos 1 }
@@ -76,12 +82,24 @@ heap = record {
       ∷ record { kind = 1; fields = [] }
       ∷ record { kind = 2; fields = Null ∷ [] } ∷ [];
   coexps = 0 ∷ 3 ∷ [];
+  files = new_file (codes "in") ToRead (codes "one\n\nlast") ∷ new_file (codes "out") ToWrite (codes "x")
+      ∷ new_file (codes "log") ToAdd (codes "y") ∷ record {
+        name = codes "gone";
+        mode = ToRead;
+        content = [];
+        place = 0;
+        closed = true;
+      } ∷ [];
   strings = 0;
   cells = 30;
   bounds = record { turns = 100; strings = 1000; cells = 1000; levels = 10 };
 }
 
--- the heap, `&subject` "hello" at position 2, three locals, and an input of three lines
+-- the store has one file, `t`
+abbrev pub stored : FileMap
+stored name = lookup (bytes_eq name) ((codes "t", codes "old\n") ∷ [])
+
+-- the heap, `&subject` "hello" at position 2, three locals, an input of three lines, and one file
 abbrev pub plain : Setting
 plain = record {
   world = record {
@@ -95,7 +113,7 @@ plain = record {
     kept = None;
   };
   locals = Text (codes "hello") ∷ Integer (pos 7) ∷ Null ∷ [];
-  outside = record { left = codes "one\n\nlast"; history = [] };
+  outside = outside_of (codes "one\n\nlast") stored;
 }
 
 -- so many string bytes and cells more

@@ -6,5 +6,6 @@ pub mod Scanned
 pub mod Structured
 pub mod Assigned
 pub mod Outside
+pub mod OpenedFiles
 pub mod Limited
 pub mod Reported

@@ -48,7 +48,7 @@ limits =
     ∷ []) (with_room 6 9))) ∷ []) ∷
     -- what was read is taken
     case_from (with_room 2 9) (fn F.Read []) (Stopped 306 None (record (with_room 2 9) {
-      outside = record {
+      outside = record (with_room 2 9).outside {
         left = codes "\nlast";
         history = AReading ALine ∷ [];
       };
@@ -57,6 +57,7 @@ limits =
     over_cells 2 (fn F.List (int 2 ∷ [])) ∷
     over_cells 4 (fn F.Copy (list 0 ∷ [])) ∷
     over_cells 0 (fn F.Table []) ∷
+    over_cells 0 (fn F.Open (str (codes "t") ∷ str (codes "w") ∷ [])) ∷
     over_cells 3 (op O.Union (Val (ASet 0) ∷ Val (ASet 1) ∷ [])) ∷
     over_cells 0 (fn F.Put (list 1 ∷ int 1 ∷ [])) ∷
     over_cells 1 (fn F.Push (list 1 ∷ int 1 ∷ int 2 ∷ [])) ∷

@@ -24,7 +24,7 @@ with_done done setting = record setting { outside = record setting.outside { his
 -- this is left, and these readings were made
 abbrev with_input : List ℕ → List Request → Setting → Setting
 with_input left readings setting =
-    record setting { outside = record { left = left; history = map AReading readings } }
+    record setting { outside = record setting.outside { left = left; history = map AReading readings } }
 
 -- the plain setting at the end of the input
 abbrev at_end : Setting

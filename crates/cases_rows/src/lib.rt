@@ -4,6 +4,6 @@
 mod table;
 
 pub use table::{
-    arithmetic, comparisons, input_and_output, limits, reports, scans, structures, texts,
-    variables, words,
+    arithmetic, comparisons, input_and_output, limits, opened_files, reports, scans, structures,
+    texts, variables, words,
 };

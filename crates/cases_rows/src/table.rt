@@ -5,6 +5,7 @@ ghost use Rattle.cases_rows.specs.Cases.{CaseHolds};
 ghost use Rattle.cases_rows.specs.Compared.{comparisons};
 ghost use Rattle.cases_rows.specs.Limited.{limits};
 ghost use Rattle.cases_rows.specs.Numbers.{arithmetic};
+ghost use Rattle.cases_rows.specs.OpenedFiles.{opened_files};
 ghost use Rattle.cases_rows.specs.Outside.{input_and_output};
 ghost use Rattle.cases_rows.specs.Reported.{IsGiven, IsReported, reports, words};
 ghost use Rattle.cases_rows.specs.Scanned.{scans};
@@ -44,6 +45,11 @@ pub fn variables()
 /// Each case of input and output does.
 pub fn input_and_output()
     ensures { AllByRecursion CaseHolds input_and_output }
+{}
+
+/// Each case of opened files does.
+pub fn opened_files()
+    ensures { AllByRecursion CaseHolds opened_files }
 {}
 
 /// Each case that comes to a limit does.

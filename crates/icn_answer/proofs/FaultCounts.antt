@@ -18,12 +18,12 @@ once_rose before now once = omega (arith, once)
 
 -- a count that stayed rose for nothing
 pub unwanted : {count : ℕ} {matter : Type 0} → CountsIf count count matter
-unwanted = record { later = omega arith; once = omega arith; stayed = λ _. refl }
+unwanted = record { later = omega arith; once = inl refl; stayed = λ _. refl }
 
 -- a count that stayed, or rose once where a matter occurred
 pub counts_if : {before now : ℕ} {matter : Type 0} → before ≤ now → (now ≡ before) ⊎ ((now ≡ one_more before) × matter) → CountsIf before now matter
-counts_if later (inl same) = record { later = later; once = omega (arith, same); stayed = λ _. same }
-counts_if later (inr (rose, is)) = record { later = later; once = omega (arith, rose); stayed = λ n. absurd (n is) }
+counts_if later (inl same) = record { later = later; once = inl same; stayed = λ _. same }
+counts_if later (inr (rose, is)) = record { later = later; once = inr rose; stayed = λ n. absurd (n is) }
 
 -- the same where one matter is another
 pub counts_as : {before now : ℕ} {matter other : Type 0} → (matter → other) → CountsIf before now matter → CountsIf before now other

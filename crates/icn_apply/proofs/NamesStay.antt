@@ -1,5 +1,5 @@
 -- What is answered names only what has a name, by the law over rows.
-use Rattle.std.proofs.Common.{◌≡◌, refl, sym, subst, ◌<◌, arith, List, [], ◌∷◌, length, map, Result, Ok, Err}
+use Rattle.std.proofs.Common.{◌≡◌, sym, subst, ◌<◌, arith, List, [], ◌∷◌, length, map, Result, Ok, Err}
 use Rattle.std.specs.Prelude.{IsErrAnd}
 use Rattle.std.specs.List.{All}
 use Rattle.std.specs.Option.{option_map}
@@ -9,7 +9,7 @@ use Rattle.icn_text.specs.declared.func.Func.{Func}
 use Rattle.icn_value.specs.declared.val.Val.{Val}
 use Rattle.icn_value.specs.declared.val.Val.TheVariants.{Null as NullVal, Integer as IntegerVal, Text as TextVal, Chars as CharsVal, Std as StdVal, Proc as ProcVal, Rec as RecVal, List as ListVal, Set as SetVal, Table as TableVal, Coexp as CoexpVal}
 use Rattle.icn_value.specs.Values.{Value, Item}
-use Rattle.icn_value.specs.Store.{Heap, Names, Record, Outside, Setting, outside_of}
+use Rattle.icn_value.specs.Store.{Heap, Names, Record, Outside, Setting, bare_outside}
 use Rattle.icn_defs.specs.Applying.{function_of}
 use Rattle.icn_defs.specs.Arguments.{arg}
 use Rattle.icn_defs.specs.ReadAndAssign.{the_values}
@@ -28,12 +28,13 @@ use Rattle.icn_vars.specs.Worlds.{setting_of}
 use Rattle.icn_vars.specs.declared.outcome.Outcome.{Outcome as HeldOutcome}
 use Rattle.icn_vars.specs.declared.outcome.Outcome.TheVariants.{Fails as HeldFails, Gives as HeldGives, Suspends as HeldSuspends}
 use Rattle.icn_vars.specs.declared.outcome.Halt.{Halt}
-use Rattle.icn_vars.specs.declared.outcome.Halt.TheVariants.{Error as ErrorHalt, Ends as EndsHalt, ReadFault, WriteFault, NoMemory}
+use Rattle.icn_vars.specs.declared.outcome.Halt.TheVariants.{Error as ErrorHalt, Ends as EndsHalt, ReadFault, WriteFault, FileFault, NoMemory}
 use Rattle.icn_vars.specs.declared.stop.Stop.{Stop}
 use Rattle.icn_vars.specs.declared.stop.Stop.TheVariants.{Error as ErrorStop, NoMemory as NoMemoryStop}
 use Rattle.icn_vars.specs.declared.world.World.{World}
 use Rattle.icn_streams.specs.Answers.{CallState, setting_with}
 use Rattle.icn_streams.specs.Applies.{Applies}
+use Rattle.icn_streams.proofs.CallSequences.{outside_told, told_so}
 use Rattle.icn_apply.specs.NamesAfter.{AnswerNamed}
 
 -- What is named does not ask for the outside
@@ -53,16 +54,17 @@ outcome_elsewhere names all world locals was now (HeldSuspends item rest) is = (
 module _ (names : Names) (row : Row) (at : Setting) (named : OutcomeNamed names (row at)) (world : World) (locals : List Val) (now : Outside) where
   comes_named : (result : Result HeldOutcome Halt) → ComesToAnswer (extent_of world.heap) row at (setting_of now world locals) result
       → AnswerNamed names world locals result
-  comes_named (Ok outcome) is = outcome_elsewhere names (extent_of world.heap) world locals now (outside_of []) outcome (subst (OutcomeNamed names) is named)
+  comes_named (Ok outcome) is = outcome_elsewhere names (extent_of world.heap) world locals now bare_outside outcome (subst (OutcomeNamed names) is named)
   comes_named (Err (ErrorHalt number offending)) is =
       let both : OutcomeNamed names (Error number (option_map (value_in (extent_of world.heap)) offending) (setting_of now world locals)) =
       subst (OutcomeNamed names) is named in
-      (both.0, elsewhere names world locals now (outside_of []) both.1)
+      (both.0, elsewhere names world locals now bare_outside both.1)
   comes_named (Err (EndsHalt status)) is =
       let after : OutcomeNamed names (Ends status (setting_of now world locals)) = subst (OutcomeNamed names) is named in
-      elsewhere names world locals now (outside_of []) after
+      elsewhere names world locals now bare_outside after
   comes_named (Err ReadFault) is = tt
   comes_named (Err WriteFault) is = tt
+  comes_named (Err FileFault) is = tt
   comes_named (Err NoMemory) is = tt
 
 -- whatever the input tells
@@ -70,19 +72,20 @@ pub applies_named : (names : Names) (row : Row) (before after : CallState) (resu
     → ((was : Outside) → OutcomeNamed names (row (setting_with was before)))
     → Applies row before after result → AnswerNamed names after.world after.locals result
 applies_named names row before after (Ok outcome) named is =
-    let comes = is.meant.answers (outside_of is.meant.had) refl in
-    comes_named names row (setting_with (outside_of is.meant.had) before) (named (outside_of is.meant.had)) after.world after.locals comes.now
-    (Ok outcome) comes.comes
+    let was : Outside = outside_told is.meant.had in
+    let comes = is.meant.answers was (told_so is.meant.had) in
+    comes_named names row (setting_with was before) (named was) after.world after.locals comes.now (Ok outcome) comes.comes
 applies_named names row before after (Err (ErrorHalt number offending)) named is =
-    let comes = is.meant.answers (outside_of is.meant.had) refl in
-    comes_named names row (setting_with (outside_of is.meant.had) before) (named (outside_of is.meant.had)) after.world after.locals comes.now
-    (Err (ErrorHalt number offending)) comes.comes
+    let was : Outside = outside_told is.meant.had in
+    let comes = is.meant.answers was (told_so is.meant.had) in
+    comes_named names row (setting_with was before) (named was) after.world after.locals comes.now (Err (ErrorHalt number offending)) comes.comes
 applies_named names row before after (Err (EndsHalt status)) named is =
-    let comes = is.meant.answers (outside_of is.meant.had) refl in
-    comes_named names row (setting_with (outside_of is.meant.had) before) (named (outside_of is.meant.had)) after.world after.locals comes.now
-    (Err (EndsHalt status)) comes.comes
+    let was : Outside = outside_told is.meant.had in
+    let comes = is.meant.answers was (told_so is.meant.had) in
+    comes_named names row (setting_with was before) (named was) after.world after.locals comes.now (Err (EndsHalt status)) comes.comes
 applies_named names row before after (Err ReadFault) named is = tt
 applies_named names row before after (Err WriteFault) named is = tt
+applies_named names row before after (Err FileFault) named is = tt
 applies_named names row before after (Err NoMemory) named is = tt
 
 -- Values of items
@@ -161,17 +164,17 @@ function_named names func world locals was vals named are live =
 
 -- what stopped the reading of items
 pub stop_named : (names : Names) (items : List Item) (world : World) (locals : List Val) (stop : Stop) (result : Result HeldOutcome Halt)
-    → SettingNamed names (setting_of (outside_of []) world locals) → All (ItemNamed names) items → IsErrAnd result (λ halt. halt ≡ halt_of stop)
+    → SettingNamed names (setting_of bare_outside world locals) → All (ItemNamed names) items → IsErrAnd result (λ halt. halt ≡ halt_of stop)
     → ((was : Outside) → StopsFinding (extent_of world.heap) (the_values items) (setting_of was world locals) (setting_of was world locals) stop)
     → AnswerNamed names world locals result
 stop_named names items world locals stop (Ok outcome) named are same stops = absurd same
 stop_named names items world locals stop (Err halt) named are same stops =
-    subst (λ (h : Halt). AnswerNamed names world locals (Err h)) (sym same) (by stop (stops (outside_of [])))
+    subst (λ (h : Halt). AnswerNamed names world locals (Err h)) (sym same) (by stop (stops bare_outside))
   where
     by : (stop : Stop)
-        → StopsFinding (extent_of world.heap) (the_values items) (setting_of (outside_of []) world locals) (setting_of (outside_of []) world locals) stop
+        → StopsFinding (extent_of world.heap) (the_values items) (setting_of bare_outside world locals) (setting_of bare_outside world locals) stop
         → AnswerNamed names world locals (Err (halt_of stop))
     by (ErrorStop number offending) is =
         subst (OutcomeNamed names) (is (λ values. fails))
-        (rows_keep_names.values names items (λ values. fails) (setting_of (outside_of []) world locals) named are (λ values these. named))
+        (rows_keep_names.values names items (λ values. fails) (setting_of bare_outside world locals) named are (λ values these. named))
     by NoMemoryStop is = tt

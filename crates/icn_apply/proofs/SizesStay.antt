@@ -3,7 +3,7 @@ use Rattle.std.proofs.Common.{◌≡◌, ℕ, refl, subst, List, map, Result, Ok
 use Rattle.std.specs.List.{All}
 use Rattle.icn_text.specs.declared.func.Func.{Func}
 use Rattle.icn_value.specs.declared.val.Val.{Val}
-use Rattle.icn_value.specs.Store.{Names, Outside, Setting, outside_of}
+use Rattle.icn_value.specs.Store.{Names, Outside, Setting}
 use Rattle.icn_defs.specs.Applying.{function_of}
 use Rattle.icn_defs.specs.Rows.{Row, Outcome}
 use Rattle.icn_heap.specs.Extents.{IsLive, value_in}
@@ -15,10 +15,11 @@ use Rattle.icn_vars.specs.Worlds.{setting_of}
 use Rattle.icn_vars.specs.declared.outcome.Outcome.{Outcome as HeldOutcome}
 use Rattle.icn_vars.specs.declared.outcome.Outcome.TheVariants.{Fails as HeldFails, Gives as HeldGives, Suspends as HeldSuspends}
 use Rattle.icn_vars.specs.declared.outcome.Halt.{Halt}
-use Rattle.icn_vars.specs.declared.outcome.Halt.TheVariants.{Error as ErrorHalt, Ends as EndsHalt, ReadFault, WriteFault, NoMemory}
+use Rattle.icn_vars.specs.declared.outcome.Halt.TheVariants.{Error as ErrorHalt, Ends as EndsHalt, ReadFault, WriteFault, FileFault, NoMemory}
 use Rattle.icn_vars.specs.declared.world.World.{World}
 use Rattle.icn_streams.specs.Answers.{CallState, setting_with}
 use Rattle.icn_streams.specs.Applies.{Applies}
+use Rattle.icn_streams.proofs.CallSequences.{outside_told, told_so}
 use Rattle.icn_apply.specs.SizesAfter.{AnswerKeepsSizes}
 use Rattle.icn_apply.proofs.NamesStay.{first_there}
 
@@ -33,6 +34,7 @@ same_sized world (Err (ErrorHalt number offending)) = λ sizes. record { kinds =
 same_sized world (Err (EndsHalt status)) = λ sizes. record { kinds = λ id kind is. is; fit = λ fits. fits }
 same_sized world (Err ReadFault) = tt
 same_sized world (Err WriteFault) = tt
+same_sized world (Err FileFault) = tt
 same_sized world (Err NoMemory) = tt
 
 -- What a row comes to
@@ -52,6 +54,7 @@ module _ (row : Row) (at : Setting) (before : World) (sized : Sized before (row 
   comes_sized (Err (EndsHalt status)) is = subst (Sized before) is sized
   comes_sized (Err ReadFault) is = tt
   comes_sized (Err WriteFault) is = tt
+  comes_sized (Err FileFault) is = tt
   comes_sized (Err NoMemory) is = tt
 
 -- whatever the input tells
@@ -59,19 +62,20 @@ pub applies_sized : (row : Row) (before after : CallState) (result : Result Held
     → ((was : Outside) → Sized before.world (row (setting_with was before)))
     → Applies row before after result → AnswerKeepsSizes before.world after.world result
 applies_sized row before after (Ok outcome) sized is =
-    let comes = is.meant.answers (outside_of is.meant.had) refl in
-    comes_sized row (setting_with (outside_of is.meant.had) before) before.world (sized (outside_of is.meant.had)) after.world after.locals comes.now
-    (Ok outcome) comes.comes
+    let was : Outside = outside_told is.meant.had in
+    let comes = is.meant.answers was (told_so is.meant.had) in
+    comes_sized row (setting_with was before) before.world (sized was) after.world after.locals comes.now (Ok outcome) comes.comes
 applies_sized row before after (Err (ErrorHalt number offending)) sized is =
-    let comes = is.meant.answers (outside_of is.meant.had) refl in
-    comes_sized row (setting_with (outside_of is.meant.had) before) before.world (sized (outside_of is.meant.had)) after.world after.locals comes.now
-    (Err (ErrorHalt number offending)) comes.comes
+    let was : Outside = outside_told is.meant.had in
+    let comes = is.meant.answers was (told_so is.meant.had) in
+    comes_sized row (setting_with was before) before.world (sized was) after.world after.locals comes.now (Err (ErrorHalt number offending)) comes.comes
 applies_sized row before after (Err (EndsHalt status)) sized is =
-    let comes = is.meant.answers (outside_of is.meant.had) refl in
-    comes_sized row (setting_with (outside_of is.meant.had) before) before.world (sized (outside_of is.meant.had)) after.world after.locals comes.now
-    (Err (EndsHalt status)) comes.comes
+    let was : Outside = outside_told is.meant.had in
+    let comes = is.meant.answers was (told_so is.meant.had) in
+    comes_sized row (setting_with was before) before.world (sized was) after.world after.locals comes.now (Err (EndsHalt status)) comes.comes
 applies_sized row before after (Err ReadFault) sized is = tt
 applies_sized row before after (Err WriteFault) sized is = tt
+applies_sized row before after (Err FileFault) sized is = tt
 applies_sized row before after (Err NoMemory) sized is = tt
 
 -- a function of values of a world

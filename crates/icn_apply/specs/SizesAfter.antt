@@ -4,7 +4,7 @@ use Rattle.icn_heap.specs.Heaps.{heap_of}
 use Rattle.law_names.specs.RowSizes.{KeepSizes}
 use Rattle.icn_vars.specs.declared.outcome.Outcome.{Outcome}
 use Rattle.icn_vars.specs.declared.outcome.Halt.{Halt}
-use Rattle.icn_vars.specs.declared.outcome.Halt.TheVariants.{Error, Ends, ReadFault, WriteFault, NoMemory}
+use Rattle.icn_vars.specs.declared.outcome.Halt.TheVariants.{Error, Ends, ReadFault, WriteFault, FileFault, NoMemory}
 use Rattle.icn_vars.specs.declared.world.World.{World}
 
 -- whatever number of fields each kind has
@@ -18,4 +18,5 @@ AnswerKeepsSizes before after (Err (Error number offending)) = WorldsKeepSizes b
 AnswerKeepsSizes before after (Err (Ends status)) = WorldsKeepSizes before after
 AnswerKeepsSizes before after (Err ReadFault) = ⊤
 AnswerKeepsSizes before after (Err WriteFault) = ⊤
+AnswerKeepsSizes before after (Err FileFault) = ⊤
 AnswerKeepsSizes before after (Err NoMemory) = ⊤

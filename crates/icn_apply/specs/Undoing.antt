@@ -1,6 +1,6 @@
 -- What is taken back without memory.
 use Rattle.std.specs.Prelude.{Bool, ◌&&◌, false, true}
-use Rattle.icn_defs.specs.Rows.{Residual, TextBytes, VariableBytes, ListItems, SetMembers, TableValues, TableKeys, RecordFields, InputLines, UndoAssign, UndoExchange, UndoPosition, Counting, Sequence, Balanced, Found, Among, Neither, Left, Right}
+use Rattle.icn_defs.specs.Rows.{Residual, TextBytes, VariableBytes, ListItems, SetMembers, TableValues, TableKeys, RecordFields, FileLines, UndoAssign, UndoExchange, UndoPosition, Counting, Sequence, Balanced, Found, Among, Neither, Left, Right}
 use Rattle.icn_vars.specs.Assignments.{takes_no_memory}
 
 -- whether it is taken back without memory: an assignment or an exchange of variables that take none for it, or a move
@@ -12,7 +12,7 @@ undoes_in_place (SetMembers set place) = false
 undoes_in_place (TableValues table place) = false
 undoes_in_place (TableKeys table place) = false
 undoes_in_place (RecordFields rec place) = false
-undoes_in_place InputLines = false
+undoes_in_place (FileLines file) = false
 undoes_in_place (UndoAssign variable old) = takes_no_memory variable
 undoes_in_place (UndoExchange Neither left right old_left old_right) =
     takes_no_memory left && takes_no_memory right

@@ -1,7 +1,7 @@
 // All rows in one call.
 ghost use Rattle.std.specs.Prelude.{◌≡◌, ◌≢◌, [], IfErr, map, true};
 ghost use Rattle.std.specs.List.{All};
-ghost use Rattle.icn_value.specs.Store.{outside_of};
+ghost use Rattle.icn_value.specs.Store.{bare_outside};
 ghost use Rattle.icn_defs.specs.Applying as rows;
 ghost use Rattle.icn_defs.specs.StepRows as step_rows;
 ghost use Rattle.icn_heap.specs.Extents.{IsLive};
@@ -38,9 +38,9 @@ use icn_vars::{Halt, Locals, Outcome, World};
 ///
 /// # Errors
 ///
-/// `Error` and `Ends` where the row says so. `ReadFault` where the input failed in this call and `WriteFault` where an output did,
-/// `NoMemory` where memory ran out: the run is over then, and the row was broken off before it read or put anything, as it read,
-/// or as it put.
+/// `Error` and `Ends` where the row says so. `ReadFault` where the input failed in this call, `WriteFault` where an output did, and
+/// `FileFault` where the store of files did, `NoMemory` where memory ran out: the run is over then, and the row was broken off
+/// before it read or put anything, as it read, as it put, or in a call of the store of files.
 pub fn apply<L: Locals, N: Names, S: Streams>(
     what: Applied,
     args: &[Item],
@@ -51,7 +51,7 @@ pub fn apply<L: Locals, N: Names, S: Streams>(
 ) -> Result<Outcome, Halt>
     requires locals { All (IsLive (extent_of w.old.heap)) (L.items l.old) }
     requires args { All (IsLiveItem (reach_of w.old (L.items l.old))) args.now }
-    requires named { SettingNamed (N.known names.now) (setting_of (outside_of []) w.old (L.items l.old)) }
+    requires named { SettingNamed (N.known names.now) (setting_of bare_outside w.old (L.items l.old)) }
     requires args_named { All (ItemNamed (N.known names.now))
         (map (item_in (extent_of w.old.heap)) args.now) }
     ensures applies { Applies (step_rows.apply (N.known names.now) (applied_of what)
@@ -78,7 +78,7 @@ pub fn again<L: Locals, N: Names, S: Streams>(
 ) -> Result<Outcome, Halt>
     requires locals { All (IsLive (extent_of w.old.heap)) (L.items l.old) }
     requires rest { IsLiveResidual (reach_of w.old (L.items l.old)) rest }
-    requires named { SettingNamed (N.known names.now) (setting_of (outside_of []) w.old (L.items l.old)) }
+    requires named { SettingNamed (N.known names.now) (setting_of bare_outside w.old (L.items l.old)) }
     requires rest_named { ResidualNamed (N.known names.now) (residual_in (extent_of w.old.heap) rest) }
     ensures applies { Applies (rows.again (residual_in (extent_of w.old.heap) rest))
         (call_state w.old (L.items l.old) (S.state streams.old))
@@ -114,7 +114,7 @@ fn resume<L: Locals, S: Streams>(
         Residual::TableValues { table, place } => table_values_from(w, l, table, place),
         Residual::TableKeys { table, place } => Ok(key_again(w, l, table, place)),
         Residual::RecordFields { rec, place } => record_fields_from(w, l, rec, place),
-        Residual::InputLines => streams.lines_again(w, l),
+        Residual::FileLines { file } => streams.lines(file, w, l),
         Residual::UndoAssign { variable, old } => undo_assign_again(w, l, variable, old),
         Residual::UndoExchange {
             mover,

@@ -1,7 +1,7 @@
 // The row of each function.
 ghost use Rattle.std.specs.Prelude.{◌≡◌, [], map};
 ghost use Rattle.std.specs.List.{All};
-ghost use Rattle.icn_value.specs.Store.{outside_of};
+ghost use Rattle.icn_value.specs.Store.{bare_outside};
 ghost use Rattle.icn_defs.specs.Applying.{function_of, function_row};
 ghost use Rattle.icn_heap.specs.Extents.{IsLive, value_in};
 ghost use Rattle.icn_heap.specs.Heaps.{extent_of, heap_of};
@@ -32,7 +32,7 @@ use icn_value::{Item, Val};
 use icn_vars::{Halt, Locals, Outcome, Stop, World};
 
 /// Applies a function to items. `Halt` is the run-time error of its row, the end of the program by `exit`, a reading or a
-/// writing that failed, or want of memory.
+/// writing or a call of the store of files that failed, or want of memory.
 pub fn apply_function<L: Locals, N: Names, S: Streams>(
     func: Func,
     args: &[Item],
@@ -43,7 +43,7 @@ pub fn apply_function<L: Locals, N: Names, S: Streams>(
 ) -> Result<Outcome, Halt>
     requires locals { All (IsLive (extent_of w.old.heap)) (L.items l.now) }
     requires args { All (IsLiveItem (reach_of w.old (L.items l.now))) args.now }
-    requires named { SettingNamed (N.known names.now) (setting_of (outside_of []) w.old (L.items l.now)) }
+    requires named { SettingNamed (N.known names.now) (setting_of bare_outside w.old (L.items l.now)) }
     requires args_named { All (ItemNamed (N.known names.now))
         (map (item_in (extent_of w.old.heap)) args.now) }
     ensures applies { Applies (function_row (N.known names.now) func
@@ -127,6 +127,8 @@ fn apply_to_values<L: Locals, N: Names, S: Streams>(
         Func::Write => streams.write(vals, w, l),
         Func::Writes => streams.writes(vals, w, l),
         Func::ErrorClear => errorclear_row(w, l),
+        Func::Open => streams.open_file(vals, w, l),
+        Func::Close => streams.close_file(vals, w, l),
     }
 }
 

@@ -7,7 +7,7 @@ use Rattle.icn_defs.specs.Rows.{Row, Finds}
 use Rattle.icn_heap.specs.Extents.{Extent}
 use Rattle.icn_vars.specs.declared.outcome.Outcome.{Outcome}
 use Rattle.icn_vars.specs.declared.outcome.Halt.{Halt}
-use Rattle.icn_vars.specs.declared.outcome.Halt.TheVariants.{Error as ErrorHalt, Ends as EndsHalt, ReadFault, WriteFault, NoMemory as NoMemoryHalt}
+use Rattle.icn_vars.specs.declared.outcome.Halt.TheVariants.{Error as ErrorHalt, Ends as EndsHalt, ReadFault, WriteFault, FileFault, NoMemory as NoMemoryHalt}
 use Rattle.icn_vars.specs.declared.stop.Stop.{Stop}
 use Rattle.icn_vars.specs.declared.stop.Stop.TheVariants.{Error, NoMemory}
 use Rattle.icn_vars.specs.Outcomes.{ComesToAnswer, HaltsRow, IsLiveAnswer, IsLiveHalt}
@@ -25,6 +25,7 @@ answer_then all row rest before between after (Err (ErrorHalt number offending))
 answer_then all row rest before between after (Err (EndsHalt status)) same is = same ∙ is
 answer_then all row rest before between after (Err ReadFault) same is = is
 answer_then all row rest before between after (Err WriteFault) same is = is
+answer_then all row rest before between after (Err FileFault) same is = is
 answer_then all row rest before between after (Err NoMemoryHalt) same is = tt
 
 -- the row is over with what stopped it

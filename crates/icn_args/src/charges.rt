@@ -1,16 +1,19 @@
 // Texts that are made, and charged.
-ghost use Rattle.std.specs.Prelude.{◌≡◌, ◌++◌, ◌∷◌, [], length, IfErr, IfOk, OnErr};
+ghost use Rattle.std.specs.Prelude.{◌≡◌, ◌+◌, ◌<◌, ◌++◌, ◌∷◌, [], length, Err, IfErr, IfOk, None, OnErr};
 ghost use Rattle.std.specs.List.{All};
+ghost use Rattle.icn_strings.specs.Pieces.{IsPieceIn, made_of};
 ghost use Rattle.icn_value.specs.Store.{Outside};
 ghost use Rattle.icn_convert.specs.TextCharges.{MakesNoText};
 ghost use Rattle.icn_defs.specs.Rows.{costs_bytes, costs_text, costs_texts};
 ghost use Rattle.icn_heap.specs.Extents.{IsLive, IsText, text_in, value_in};
-ghost use Rattle.icn_heap.specs.Heaps.{extent_of};
+ghost use Rattle.icn_heap.specs.Heaps.{extent_of, heap_of};
+ghost use Rattle.icn_vars.specs.declared.stop.Stop.TheVariants.{Error as StopError};
 ghost use Rattle.icn_vars.specs.Stops.{IsLiveStop};
 ghost use Rattle.icn_vars.specs.Worlds.{KeepsLive, setting_of};
 ghost use Rattle.icn_args.specs.RowWords.{HasText, IsPassed, the_text};
 
 use icn_convert::to_text;
+use icn_strings::StringPiece;
 use icn_value::{Span, Val};
 use icn_vars::{Locals, Stop, World};
 
@@ -74,6 +77,27 @@ pub fn build<L: Locals>(w: &mut World, l: &L, bytes: &[u8]) -> Result<Span, Stop
     ensures kept { KeepsLive w.old (L.items l.now) w.new (L.items l.now) }
 {
     Ok(w.heap.build(bytes)?)
+}
+
+/// A new text of some pieces, one behind the other, which is charged. The errors are 306, also where memory is wanting, and want of
+/// memory.
+#[tactic(auto, using(icn_vars::proofs::GrowingWorlds::grows))]
+pub fn build_of<L: Locals>(w: &mut World, l: &L, pieces: &[StringPiece]) -> Result<Span, Stop>
+    requires locals { All (IsLive (extent_of w.old.heap)) (L.items l.now) }
+    requires pieces { All (IsPieceIn (extent_of w.old.heap).strings) pieces.now }
+    ensures live { IfOk result (IsText (extent_of w.new.heap)) }
+    ensures text { IfOk result
+        (λ span. text_in (extent_of w.new.heap) span ≡ made_of (extent_of w.old.heap).strings pieces.now) }
+    ensures stops { IfErr result (IsLiveStop (extent_of w.new.heap)) }
+    ensures limits { (heap_of w.old.heap).bounds.strings
+        < (heap_of w.old.heap).strings + length (made_of (extent_of w.old.heap).strings pieces.now)
+        → result ≡ Err (StopError 306 None) }
+    ensures step { (outside : Outside) → IsPassed (extent_of w.new.heap)
+        (costs_bytes (length (made_of (extent_of w.old.heap).strings pieces.now)))
+        (setting_of outside w.old (L.items l.now)) (setting_of outside w.new (L.items l.now)) result }
+    ensures kept { KeepsLive w.old (L.items l.now) w.new (L.items l.now) }
+{
+    Ok(w.heap.build_of(pieces)?)
 }
 
 /// The text of the bytes of one and then of another, which is charged whole. The errors are 306 and want of memory.

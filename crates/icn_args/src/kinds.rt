@@ -4,7 +4,7 @@ ghost use Rattle.std.specs.Prelude.{ℕ, IfErr, IfOk};
 ghost use Rattle.icn_defs.specs.Arguments.{file, list};
 ghost use Rattle.icn_heap.specs.Extents.{Extent, IsLive, value_in};
 ghost use Rattle.icn_heap.specs.Keys.{file_of};
-ghost use Rattle.icn_value.specs.declared.val.Val.TheVariants.{List};
+ghost use Rattle.icn_value.specs.declared.val.Val.TheVariants.{List, Std};
 ghost use Rattle.icn_args.specs.RowWords.{IsFound};
 ghost use Rattle.icn_vars.specs.Stops.{IsLiveStop};
 
@@ -15,6 +15,7 @@ use icn_vars::Stop;
 pub fn file_of(val: Val) -> Result<File, Stop>
     ensures found { (all : Extent) (setting : Setting)
         → IsFound all (file (value_in all val)) setting setting file_of result }
+    ensures live { (all : Extent) → IsLive all val → IfOk result (λ file. IsLive all (Std file)) }
     ensures stops { (all : Extent) → IsLive all val → IfErr result (IsLiveStop all) }
 {
     match val {

@@ -10,7 +10,7 @@ mod structures;
 mod value_outcome;
 
 pub use arguments::{arg, is_null, value_or, values_of};
-pub use charges::{build, join, text_of, texts_of};
+pub use charges::{build, build_of, join, text_of, texts_of};
 pub use conversions::{arith_result, check_text, cset_of, integer_of, natural_of, number_of};
 pub use kinds::{file_of, list_of};
 pub use moving::{stands, tab_to, undo_position_again};

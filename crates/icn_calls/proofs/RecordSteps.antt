@@ -24,7 +24,7 @@ use Rattle.icn_vars.specs.Stops.{halt_of}
 use Rattle.icn_args.specs.RowWords.{IsFound}
 use Rattle.icn_defs.specs.Rows.{gives_value}
 use Rattle.icn_defs.specs.Structures.{new_record_of}
-use Rattle.icn_value.specs.Store.{Outside, outside_of}
+use Rattle.icn_value.specs.Store.{Outside, bare_outside}
 use Rattle.icn_vars.specs.Worlds.{IsLiveItem, item_in, field_counts, reach_of, setting_of, world_of}
 use Rattle.law_names.specs.RowSizes.{FitSizes}
 use Rattle.icn_heap.specs.HeapParts.{record_in}
@@ -85,9 +85,9 @@ pub record_counted : (w v : World) (locals : List Val) (kind : ℕ) (fields : Li
     (setting_of outside v locals) (value_in (extent_of v.heap)) result)
     → UnlessNoMemory result (KeepsCounts w v)
 record_counted w v locals kind fields (Ok val) f =
-    record_keeps w v (outside_of []) locals (rows.Val (value_in (extent_of v.heap) val)) kind fields (f (outside_of []) gives_value)
+    record_keeps w v bare_outside locals (rows.Val (value_in (extent_of v.heap) val)) kind fields (f bare_outside gives_value)
 record_counted w v locals kind fields (Err (StopError number offending)) f =
-    record_refuses w v (outside_of []) locals number (option_map (value_in (extent_of v.heap)) offending) kind fields (f (outside_of []) gives_value)
+    record_refuses w v bare_outside locals number (option_map (value_in (extent_of v.heap)) offending) kind fields (f bare_outside gives_value)
 record_counted w v locals kind fields (Err StopNoMemory) f = tt
 
 -- Fields

@@ -9,7 +9,7 @@ use Rattle.icn_code.specs.Codes.{Tables}
 use Rattle.icn_run.specs.Rows.{Done}
 use Rattle.icn_run.specs.Calls as calls
 use Rattle.icn_run.specs.Stacks.{Frames, flat}
-use Rattle.icn_run.specs.Step.{State, Store, failing, over, stuck, proc_fails, swapped_back, all_left, pair_now, is_main}
+use Rattle.icn_run.specs.Step.{State, Store, failing, over_with, stuck, proc_fails, swapped_back, all_left, pair_now, is_main}
 use Rattle.icn_control.specs.StackViews.{instruction_state, stack_in, reading_of}
 use Rattle.icn_control.proofs.ReturnSteps.{leaves_none}
 
@@ -27,7 +27,7 @@ pfail_is all m tables st = by_base (held.is_base m) refl
     by_main true a e = ap (λ (x : Bool). if (true && not x) then stuck else proc_fails flat (stack_in all m) st) a
     by_main false a e =
         let left : Store Frames = all_left flat (stack_in all m) st in
-        let F : Bool → State Frames Frames = λ x. if x then over Done left.outside else stuck in
+        let F : Bool → State Frames Frames = λ x. if x then over_with Done left.world left.outside else stuck in
         ap (λ (x : Bool). if (true && not x) then stuck else proc_fails flat (stack_in all m) st) a
         ∙ sym (leaves_none all m e failing left ∙ ap F (ap is_main (active_left (flat.swap_oldest (pair_now st) (stack_in all m)) st) ∙ a))
 

@@ -26,7 +26,7 @@ use Rattle.std.specs.Option.{option_map}
 use Rattle.icn_vars.specs.declared.stop.Stop.{Stop}
 use Rattle.icn_vars.specs.declared.stop.Stop.TheVariants.{Error as StopError, NoMemory as StopNoMemory}
 use Rattle.icn_args.specs.RowWords.{IsFound}
-use Rattle.icn_value.specs.Store.{outside_of}
+use Rattle.icn_value.specs.Store.{bare_outside}
 use Rattle.icn_control.specs.TakenOperands.{KeepsCounts, UnlessNoMemory}
 use Rattle.icn_control.proofs.KeptItems.{stack_same, stack_stays}
 
@@ -183,7 +183,7 @@ pub list_counted : (w v : World) (locals : List Val) (values : List Value) (resu
     → IsFound (extent_of v.heap) (new_list_of values) (setting_of outside w locals) (setting_of outside v locals) (value_in (extent_of v.heap)) result)
     → UnlessNoMemory result (KeepsCounts w v)
 list_counted w v locals values (Ok val) f =
-    list_keeps w v (outside_of []) locals (ItemVal (value_in (extent_of v.heap) val)) values (f (outside_of []) gives_value)
+    list_keeps w v bare_outside locals (ItemVal (value_in (extent_of v.heap) val)) values (f bare_outside gives_value)
 list_counted w v locals values (Err (StopError number offending)) f =
-    list_refuses w v (outside_of []) locals number (option_map (value_in (extent_of v.heap)) offending) values (f (outside_of []) gives_value)
+    list_refuses w v bare_outside locals number (option_map (value_in (extent_of v.heap)) offending) values (f bare_outside gives_value)
 list_counted w v locals values (Err StopNoMemory) f = tt

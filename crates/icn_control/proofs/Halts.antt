@@ -63,6 +63,7 @@ unless_ended (Err (Halts.Error number offending)) P p = p
 unless_ended (Err (Halts.Ends status)) P p = tt
 unless_ended (Err Halts.ReadFault) P p = tt
 unless_ended (Err Halts.WriteFault) P p = tt
+unless_ended (Err Halts.FileFault) P p = tt
 unless_ended (Err Halts.NoMemory) P p = tt
 
 -- what holds at a halt, unless the run ended, holds where another call hands that halt on
@@ -71,6 +72,7 @@ unless_handed A B (Halts.Error number offending) P p = p
 unless_handed A B (Halts.Ends status) P p = tt
 unless_handed A B Halts.ReadFault P p = tt
 unless_handed A B Halts.WriteFault P p = tt
+unless_handed A B Halts.FileFault P p = tt
 unless_handed A B Halts.NoMemory P p = tt
 
 -- what holds whatever is answered holds unless memory was wanting
@@ -99,6 +101,7 @@ both_unless_ended {A} B (Err h) halt P Q R e f p q = subst (λ (x : Halt). Unles
     by_halt (Halts.Ends status) a b = tt
     by_halt Halts.ReadFault a b = tt
     by_halt Halts.WriteFault a b = tt
+    by_halt Halts.FileFault a b = tt
     by_halt Halts.NoMemory a b = tt
 both_unless_ended B (Ok a) halt P Q R e f p q = absurd e
 
@@ -110,6 +113,7 @@ halt_has_stack m (Err (Halts.Error number offending)) halt e k = k
 halt_has_stack m (Err (Halts.Ends status)) halt e k = tt
 halt_has_stack m (Err Halts.ReadFault) halt e k = tt
 halt_has_stack m (Err Halts.WriteFault) halt e k = tt
+halt_has_stack m (Err Halts.FileFault) halt e k = tt
 halt_has_stack m (Err Halts.NoMemory) halt e k = tt
 
 -- the stack that runs is of the world

@@ -1,7 +1,7 @@
 -- What is of a world stays of it as the world grows, and stands for the same.
 use Rattle.std.proofs.Common.{◌≡◌, ℕ, ◌+◌, ◌<◌, ◌≤◌, List, [], ◌∷◌, length, map, slice_index, refl, sym, ap, ◌∙◌, subst, arith}
 use Rattle.icn_value.specs.declared.val.Val.{Val}
-use Rattle.icn_value.specs.declared.val.Val.TheVariants.{List as ListVal, Set as SetVal, Table as TableVal, Rec as RecVal}
+use Rattle.icn_value.specs.declared.val.Val.TheVariants.{List as ListVal, Set as SetVal, Table as TableVal, Rec as RecVal, Std as StdVal}
 use Rattle.icn_value.specs.declared.val.Span.{Span}
 use Rattle.icn_value.specs.declared.item.Root.{Root as HeldRoot}
 use Rattle.icn_value.specs.declared.item.Root.TheVariants.{Global as HeldGlobal, Static as HeldStatic, Local as HeldLocal, Element as HeldElement, Field as HeldField, Key as HeldKey, Keyword as HeldKeyword}
@@ -11,7 +11,7 @@ use Rattle.icn_value.specs.declared.item.Item.{Item as HeldItem}
 use Rattle.icn_value.specs.declared.item.Item.TheVariants.{Val as HeldVal, Var as HeldVar}
 use Rattle.icn_value.specs.declared.item.Pair.{Pair as HeldPair}
 use Rattle.icn_value.specs.declared.residual.Residual.{Residual as HeldResidual}
-use Rattle.icn_value.specs.declared.residual.Residual.TheVariants.{TextBytes as HeldTextBytes, VariableBytes as HeldVariableBytes, ListItems as HeldListItems, SetMembers as HeldSetMembers, TableValues as HeldTableValues, TableKeys as HeldTableKeys, RecordFields as HeldRecordFields, InputLines as HeldInputLines, UndoAssign as HeldUndoAssign, UndoExchange as HeldUndoExchange, UndoPosition as HeldUndoPosition, Counting as HeldCounting, Sequence as HeldSequence, Balanced as HeldBalanced, Found as HeldFound, Among as HeldAmong}
+use Rattle.icn_value.specs.declared.residual.Residual.TheVariants.{TextBytes as HeldTextBytes, VariableBytes as HeldVariableBytes, ListItems as HeldListItems, SetMembers as HeldSetMembers, TableValues as HeldTableValues, TableKeys as HeldTableKeys, RecordFields as HeldRecordFields, FileLines as HeldFileLines, UndoAssign as HeldUndoAssign, UndoExchange as HeldUndoExchange, UndoPosition as HeldUndoPosition, Counting as HeldCounting, Sequence as HeldSequence, Balanced as HeldBalanced, Found as HeldFound, Among as HeldAmong}
 use Rattle.icn_value.specs.Members.{members_of}
 use Rattle.icn_value.specs.Values.{Value, Root, Key, Variable, Whole, Part, Item, Val as ItemVal, Var as ItemVar}
 use Rattle.icn_defs.specs.RowFacts.{can_hold}
@@ -103,7 +103,7 @@ residual_stays old new n (HeldSetMembers set place) k l = record { live = k.exte
 residual_stays old new n (HeldTableValues table place) k l = record { live = k.extent.live (TableVal table) l.live }
 residual_stays old new n (HeldTableKeys table place) k l = record { live = k.extent.live (TableVal table) l.live }
 residual_stays old new n (HeldRecordFields rec place) k l = record { live = k.extent.live (RecVal rec) l.live }
-residual_stays old new n HeldInputLines k l = record { live = tt }
+residual_stays old new n (HeldFileLines file) k l = record { live = k.extent.live (StdVal file) l.live }
 residual_stays old new n (HeldUndoAssign variable val) k l = record { live = old_stays old new n variable val k l.live }
 residual_stays old new n (HeldUndoExchange mover left right old_left old_right) k l =
     record { live = (old_stays old new n left old_left k l.live.0, old_stays old new n right old_right k l.live.1) }
@@ -124,7 +124,7 @@ residual_same old new n (HeldSetMembers set place) k l = refl
 residual_same old new n (HeldTableValues table place) k l = refl
 residual_same old new n (HeldTableKeys table place) k l = refl
 residual_same old new n (HeldRecordFields rec place) k l = refl
-residual_same old new n HeldInputLines k l = refl
+residual_same old new n (HeldFileLines file) k l = refl
 residual_same old new n (HeldUndoAssign variable val) k l =
     ap (λ (w : Variable). UndoAssign w (value_in new.extent val)) (variable_same old new n variable k l.live.live_variable)
     ∙ ap (UndoAssign (variable_in old.extent variable)) (k.extent.value val l.live.live_value)

@@ -13,7 +13,7 @@ use Rattle.icn_coexp.specs.Transfers.{CoexpTable}
 use Rattle.icn_code.specs.Codes.{Tables}
 use Rattle.icn_run.specs.Rows.{Done}
 use Rattle.icn_run.specs.Stacks.{Frames, flat}
-use Rattle.icn_run.specs.Step.{State, Store, running, failing, over, stuck, all_names, exhaust_active, is_main, proc_fails, without_mark}
+use Rattle.icn_run.specs.Step.{State, Store, running, failing, over_with, stuck, all_names, exhaust_active, is_main, proc_fails, without_mark}
 use Rattle.icn_control.specs.Machines.{store_in, running_of, StandsAt}
 use Rattle.icn_control.specs.declared.machine.Machine.{Machine}
 use Rattle.icn_control.specs.declared.machine.RunState.{RunState}
@@ -47,7 +47,7 @@ stands_at m tables outside w table n state RunStates.Running t heap h o = h ∙ 
 stands_at m tables outside w table n state RunStates.Failing t heap h o = h ∙ moved m tables outside w table n failing t heap
 stands_at m tables outside w table n state RunStates.Hopping t heap h o = absurd h
 stands_at m tables outside w table n state RunStates.Over t heap h o =
-    let F : Bool → State Frames Frames = λ x. if x then over Done outside else stuck in
+    let F : Bool → State Frames Frames = λ x. if x then over_with Done (world_of m.world) outside else stuck in
     h ∙ ap F (ap is_main (o refl))
 stands_at m tables outside w table n state RunStates.AtBound t heap h o = absurd h
 
@@ -58,12 +58,12 @@ main_is zero e = refl
 main_is (suc n) e = cc
 
 -- where the run is over and is not stuck, `&main` is active
-pub over_is_main : (active : ℕ) (outside : Outside) (state : State Frames Frames) → state ≡ (if (is_main active) then over Done outside else stuck)
+pub over_is_main : (active : ℕ) (end state : State Frames Frames) → state ≡ (if (is_main active) then end else stuck)
     → (state ≡ stuck → ⊥) → active ≡ 0
-over_is_main active outside state e d = by_main (is_main active) refl
+over_is_main active end state e d = by_main (is_main active) refl
   where
     F : Bool → State Frames Frames
-    F x = if x then over Done outside else stuck
+    F x = if x then end else stuck
 
     by_main : (b : Bool) → is_main active ≡ b → active ≡ 0
     by_main true q = main_is active q
@@ -116,7 +116,7 @@ ends_at m other tables elsewhere outside w table k n stage r t heap same h d =
     let is_here : without_mark flat tables (stack_in (extent_of w.heap) (running_of table.running)) here ≡ proc_fails flat (stack_in (extent_of w.heap) k) here
     = ap (λ (o : Option FlatStack). without_mark flat tables (stack_in (extent_of w.heap) (running_of o)) here) r ∙ same tables here refl in
     let main : stage ≡ RunStates.Over → table.active ≡ 0
-    = λ e. over_is_main table.active elsewhere (proc_fails flat (stack_in (extent_of w.heap) k) there)
+    = λ e. over_is_main table.active (over_with Done (world_of m.world) elsewhere) (proc_fails flat (stack_in (extent_of w.heap) k) there)
     (subst (λ (z : RunState). StandsWith (proc_fails flat (stack_in (extent_of w.heap) k) there) there m.world n z) e (h there refl)) (λ q. d (is_there ∙ q)) in
     subst (λ (x : State Frames Frames). StandsAt tables outside x m stage) (sym is_here)
     (stands_at m tables outside w table n (proc_fails flat (stack_in (extent_of w.heap) k) here) stage t heap (h here refl) main)

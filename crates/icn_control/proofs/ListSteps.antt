@@ -76,6 +76,8 @@ turn_halts m t tables outside w turns table n event Halts.ReadFault b e p k l h 
     absurd (h (store_in (all_names tables) outside (world_of w) (suc turns) m.begun.items (extent_of w.heap) table) refl)
 turn_halts m t tables outside w turns table n event Halts.WriteFault b e p k l h =
     absurd (h (store_in (all_names tables) outside (world_of w) (suc turns) m.begun.items (extent_of w.heap) table) refl)
+turn_halts m t tables outside w turns table n event Halts.FileFault b e p k l h =
+    absurd (h (store_in (all_names tables) outside (world_of w) (suc turns) m.begun.items (extent_of w.heap) table) refl)
 turn_halts m t tables outside w turns table n event Halts.NoMemory b e p k l h = tt
 
 -- at the bound of turns, a turn ends the run

@@ -43,7 +43,7 @@ use Rattle.icn_control.proofs.ReturnSteps.{present_pair}
 use Rattle.icn_control.proofs.TakenOperandSteps.{FindsItem, made_goes, made_halts, keeps_without_locals}
 use Rattle.icn_control.proofs.GrowthSteps.{text_keeps, text_refuses}
 use Rattle.icn_control.specs.TakenOperands.{KeepsCounts, UnlessNoMemory}
-use Rattle.icn_value.specs.Store.{outside_of}
+use Rattle.icn_value.specs.Store.{bare_outside}
 use Rattle.std.specs.Prelude.{[], IfOk, IfErr}
 use Rattle.std.specs.Option.{option_map}
 use Rattle.icn_vars.proofs.KeptItems.{keeps_items_refl}
@@ -111,12 +111,12 @@ pub text_counted : (w v : World) (locals : List Val) (val : Val) (result : Resul
     → UnlessNoMemory result (KeepsCounts w v)
 text_counted w v locals val (Ok span) f p =
     let value : Value = value_in (extent_of w.heap) val in
-    text_keeps w v (outside_of []) locals (ItemVal (Text (the_text value))) value
-    (f (setting_of (outside_of []) w locals) (λ text. costs_text value (gives_value (Text text))) ∙ p (outside_of []) (gives_value (Text (the_text value))))
+    text_keeps w v bare_outside locals (ItemVal (Text (the_text value))) value
+    (f (setting_of bare_outside w locals) (λ text. costs_text value (gives_value (Text text))) ∙ p bare_outside (gives_value (Text (the_text value))))
 text_counted w v locals val (Err (StopError number offending)) f p =
     let value : Value = value_in (extent_of w.heap) val in
-    text_refuses w v (outside_of []) locals number (option_map (value_in (extent_of v.heap)) offending) value
-    (f (setting_of (outside_of []) w locals) (λ text. costs_text value (gives_value (Text text))) ∙ p (outside_of []) (gives_value (Text (the_text value))))
+    text_refuses w v bare_outside locals number (option_map (value_in (extent_of v.heap)) offending) value
+    (f (setting_of bare_outside w locals) (λ text. costs_text value (gives_value (Text text))) ∙ p bare_outside (gives_value (Text (the_text value))))
 text_counted w v locals val (Err StopNoMemory) f p = tt
 
 -- an answer that stops

@@ -5,7 +5,7 @@ use Rattle.icn_value.specs.declared.item.Pair.{Pair}
 use Rattle.icn_value.specs.declared.val.Span.{Span}
 use Rattle.icn_value.specs.declared.val.Val.{Val}
 use Rattle.icn_value.specs.declared.val.Val.TheVariants.{Text as TextVal}
-use Rattle.icn_value.specs.Store.{Setting, outside_of}
+use Rattle.icn_value.specs.Store.{Setting, bare_outside}
 use Rattle.icn_heap.specs.declared.heap.Heap.{Heap as HeldHeap}
 use Rattle.icn_heap.specs.Extents.{KeepsValues, IsText, text_in}
 use Rattle.icn_heap.specs.Heaps.{extent_of, heap_of}
@@ -36,7 +36,7 @@ pub world_same : (old new : HeldHeap) (pair : Pair) (words : Words) (globals sta
     → world_over new pair words globals statics ≡ world_over old pair words globals statics
 world_same old new pair words globals statics keeps same sound =
     sym
-    (ap (λ (s : Setting). s.world) (heap_changed (outside_of []) old new pair words globals statics [] keeps same sound (All-nil (IsLive (extent_of old)))))
+    (ap (λ (s : Setting). s.world) (heap_changed bare_outside old new pair words globals statics [] keeps same sound (All-nil (IsLive (extent_of old)))))
 
 pub string_runs : (w v : World) (t tables : Tables) (m n : FlatStack) (k : ℕ) (bytes : List ℕ) (span : Span) → slice_get tables.strings k ≡ Some bytes
     → text_in (extent_of v.heap) span ≡ bytes → world_of v ≡ world_of w

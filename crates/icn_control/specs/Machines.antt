@@ -17,7 +17,7 @@ use Rattle.icn_code.specs.Codes.{Tables}
 use Rattle.icn_run.specs.Rows.{Exit, Done}
 use Rattle.icn_run.specs.Stacks.{Frames, flat}
 use Rattle.icn_run.specs.Step as code
-use Rattle.icn_run.specs.Step.{State, Store, Status, Fresh, Active, Waiting, Exhausted, running, failing, hopping, over, instruction, ended_by, errs, at_bound, all_names}
+use Rattle.icn_run.specs.Step.{State, Store, Status, Fresh, Active, Waiting, Exhausted, running, failing, hopping, instruction, ended_by, over_with, errs, at_bound, all_names}
 use Rattle.icn_control.specs.ResultCounts.{AreCounted}
 use Rattle.icn_control.specs.LiveStacks.{IsLiveStack, variable_count}
 use Rattle.icn_control.specs.StackViews.{stack_in}
@@ -91,7 +91,7 @@ StandsAt tables outside state m RunStates.Failing =
     state ≡ failing (stack_seen m) (store_seen tables outside m)
 StandsAt tables outside state m RunStates.Hopping =
     (old : Frames) × (state ≡ hopping old (store_seen tables outside m))
-StandsAt tables outside state m RunStates.Over = state ≡ over Done outside
+StandsAt tables outside state m RunStates.Over = state ≡ over_with Done (world_of m.world) outside
 StandsAt tables outside state m RunStates.AtBound = state ≡ at_bound (store_seen tables outside m)
 
 -- a stack runs, but where a hop is due
@@ -108,9 +108,11 @@ abbrev pub HaltsAt : {K : Type 0} → Tables → Outside → State Frames Frames
 HaltsAt tables outside state m (Halts.Error number offending) =
     state
     ≡ errs number (option_map (value_in (extent m)) offending) (stack_seen m) (store_seen tables outside m)
-HaltsAt tables outside state m (Halts.Ends status) = state ≡ over (Exit status) outside
+HaltsAt tables outside state m (Halts.Ends status) =
+    state ≡ over_with (Exit status) (world_of m.world) outside
 HaltsAt tables outside state m Halts.ReadFault = ⊥
 HaltsAt tables outside state m Halts.WriteFault = ⊥
+HaltsAt tables outside state m Halts.FileFault = ⊥
 HaltsAt tables outside state m Halts.NoMemory = ⊤
 
 -- the machine stands at this state of the run, or it halts as the run comes to an error or ends in it
@@ -123,9 +125,11 @@ ComesTo tables outside state m result =
 abbrev pub EndsAt : {K : Type 0} → Tables → Outside → State Frames Frames → Machine K → Halt → Type 0
 EndsAt tables outside state m (Halts.Error number offending) =
     state ≡ ended_by number (option_map (value_in (extent m)) offending) (store_seen tables outside m)
-EndsAt tables outside state m (Halts.Ends status) = state ≡ over (Exit status) outside
+EndsAt tables outside state m (Halts.Ends status) =
+    state ≡ over_with (Exit status) (world_of m.world) outside
 EndsAt tables outside state m Halts.ReadFault = ⊥
 EndsAt tables outside state m Halts.WriteFault = ⊥
+EndsAt tables outside state m Halts.FileFault = ⊥
 EndsAt tables outside state m Halts.NoMemory = ⊤
 
 -- The same where an error that becomes failure has: the machine stands at this state, or the run is over in it.

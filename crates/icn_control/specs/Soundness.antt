@@ -18,6 +18,7 @@ UnlessEnded (Err (Halts.Error number offending)) P = P
 UnlessEnded (Err (Halts.Ends status)) P = ⊤
 UnlessEnded (Err Halts.ReadFault) P = ⊤
 UnlessEnded (Err Halts.WriteFault) P = ⊤
+UnlessEnded (Err Halts.FileFault) P = ⊤
 UnlessEnded (Err Halts.NoMemory) P = ⊤
 
 -- A stack runs where the run goes on, but where a hop is due; after an error one runs with which the code would fail.
@@ -27,6 +28,7 @@ HasItsStack m (Err (Halts.Error number offending)) = IsSome m.stacks.table.runni
 HasItsStack m (Err (Halts.Ends status)) = ⊤
 HasItsStack m (Err Halts.ReadFault) = ⊤
 HasItsStack m (Err Halts.WriteFault) = ⊤
+HasItsStack m (Err Halts.FileFault) = ⊤
 HasItsStack m (Err Halts.NoMemory) = ⊤
 
 -- a stack runs, and what the machine keeps is sound

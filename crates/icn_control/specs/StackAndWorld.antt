@@ -44,6 +44,7 @@ HaltsWith state st w m (Halts.Error number offending) =
 HaltsWith state st w m (Halts.Ends status) = ⊥
 HaltsWith state st w m Halts.ReadFault = ⊥
 HaltsWith state st w m Halts.WriteFault = ⊥
+HaltsWith state st w m Halts.FileFault = ⊥
 HaltsWith state st w m Halts.NoMemory = ⊤
 
 -- The instruction, done on a stack in a world, goes on with another stack in another world, or halts there.

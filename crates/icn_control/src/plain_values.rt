@@ -20,6 +20,7 @@ fn is_plain_value(slot: Cell) -> bool
         Cell::ValInput => true,
         Cell::ValOutput => true,
         Cell::ValErrout => true,
+        Cell::ValOpened(_) => true,
         Cell::ValProc(_) => true,
         Cell::ValRec(_) => true,
         Cell::ValList(_) => true,

@@ -7,8 +7,8 @@ ghost use Rattle.std.specs.Str.{bytes_eq};
 ghost use Rattle.icn_value.specs.Members.{members_of};
 ghost use Rattle.icn_value.specs.Sizes.{size_of};
 ghost use Rattle.icn_value.specs.Values.{ARecord};
-ghost use Rattle.icn_value.specs.declared.val.Val.TheVariants.{Rec};
-ghost use Rattle.icn_defs.specs.Images.{cset_image, file_name, image, keyword_csets, numbered_image, procedure_image, record_number};
+ghost use Rattle.icn_value.specs.declared.val.Val.TheVariants.{Rec, Std};
+ghost use Rattle.icn_defs.specs.Images.{cset_image, file_image, image, keyword_csets, numbered_image, procedure_image, record_number};
 ghost use Rattle.icn_heap.specs.Extents.{IsLive, value_in};
 ghost use Rattle.icn_heap.specs.Heaps.{extent_of, heap_of};
 ghost use Rattle.icn_heap.specs.Keys.{file_of};
@@ -60,7 +60,7 @@ fn push_image<N: Names>(
         Val::Integer(n) => push(out, decimal(n).as_bytes()),
         Val::Text(span) => push_quoted(out, DOUBLE_QUOTE, heap.bytes(span)),
         Val::Chars(cset) => push_cset(out, &cset),
-        Val::Std(file) => push(out, file_name(file)),
+        Val::Std(file) => push_file(out, heap, file),
         Val::Proc(number) => push_procedure(out, names, number),
         Val::Rec(id) => push_record(out, heap, names, id),
         Val::List(id) => push_structure(out, heap, b"list", id, val),
@@ -76,14 +76,28 @@ fn push(out: &mut Vec<u8>, text: &[u8]) -> Result<(), AllocError>
     out.extend_from_slice(text)
 }
 
-fn file_name(file: File) -> &'static [u8]
-    ensures { result.now ≡ file_name (file_of file) }
+/// Appends the image of a file. Of an opened one the name stands in it as it is. The error is want of memory.
+pub fn push_file(out: &mut Vec<u8>, heap: &Heap, file: File) -> Result<(), AllocError>
+    requires { IsLive (extent_of heap.now) (Std file) }
+    ensures { OnOk result
+        (out.new.items ≡ out.old.items ++ file_image (heap_of heap.now) (file_of file)) }
 {
     match file {
-        File::Input => b"&input",
-        File::Output => b"&output",
-        File::Errout => b"&errout",
+        File::Input => push(out, b"&input"),
+        File::Output => push(out, b"&output"),
+        File::Errout => push(out, b"&errout"),
+        File::Opened(number) => push_named(out, heap.file(number).name()),
     }
+}
+
+// The image of an opened file, by its name.
+fn push_named(out: &mut Vec<u8>, name: &str) -> Result<(), AllocError>
+    ensures { OnOk result
+        (out.new.items ≡ out.old.items ++ (codes "file(" ++ (name.now ++ codes ")"))) }
+{
+    push(out, b"file(")?;
+    push(out, name.as_bytes())?;
+    push(out, b")")
 }
 
 #[tactic(auto, using(crate::proofs::NamedProcedures::procedure_shown))]

@@ -10,7 +10,7 @@ mod quotes;
 mod sameness;
 
 pub use conversions::{to_cset, to_integer, to_text};
-pub use images::image;
+pub use images::{image, push_file};
 pub use names::{Names, ProcKind};
 pub use order::compare;
 pub use sameness::same;

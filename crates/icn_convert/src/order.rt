@@ -79,6 +79,7 @@ fn number(val: Val) -> i64
         Val::Std(File::Errout) => 0,
         Val::Std(File::Input) => 1,
         Val::Std(File::Output) => 2,
+        Val::Std(File::Opened(number)) => 3 + i64::from(number),
         Val::Coexp(id)
         | Val::Proc(id)
         | Val::List(id)

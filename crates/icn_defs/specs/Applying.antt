@@ -3,12 +3,12 @@ use Rattle.std.specs.Prelude.{◌+◌, ℕ, List, slice_get, unwrap_or}
 use Rattle.icn_text.specs.declared.op.Op.{Op}
 use Rattle.icn_text.specs.declared.op.Op.TheVariants.{IsNull, IsNotNull, Dereference, Number, Negate, Size, Complement, Elements, Random, TabMatch, Refresh, Add, Subtract, Multiply, Divide, Remainder, Power, Less, LessOrEqual, Equal, GreaterOrEqual, Greater, NotEqual, LexicallyLess, LexicallyLessOrEqual, LexicallyEqual, LexicallyGreaterOrEqual, LexicallyGreater, LexicallyNotEqual, Equivalent, NotEquivalent, Concatenate, ConcatenateLists, Union, Difference, Intersection, Assign, Swap, ReversibleAssign, ReversibleSwap, Subscript, Section, SectionPlus, SectionMinus, ToBy}
 use Rattle.icn_text.specs.declared.func.Func.{Func}
-use Rattle.icn_text.specs.declared.func.Func.TheVariants.{Abs, Any, Bal, Center, Char, Copy, Cset, Delete, Exit, Find, Get, Iand, Icom, Image, Insert, Integer as IntegerF, Ior, Ishift, Ixor, Key, Left, List as ListF, Many, Map, Match, Member, Move, Numeric, Ord, Pop, Pos, Pull, Push, Put, Read, Reads, Repl, Reverse, Right, Seq, Set, Sort, Stop, String, Tab, Table, Trim, TypeOf, Upto, Write, Writes, ErrorClear}
+use Rattle.icn_text.specs.declared.func.Func.TheVariants.{Abs, Any, Bal, Center, Char, Copy, Cset, Delete, Exit, Find, Get, Iand, Icom, Image, Insert, Integer as IntegerF, Ior, Ishift, Ixor, Key, Left, List as ListF, Many, Map, Match, Member, Move, Numeric, Ord, Pop, Pos, Pull, Push, Put, Read, Reads, Repl, Reverse, Right, Seq, Set, Sort, Stop, String, Tab, Table, Trim, TypeOf, Upto, Write, Writes, ErrorClear, Open, Close}
 use Rattle.icn_value.specs.Values.{Value, Null, Item, Val}
 use Rattle.icn_value.specs.Store.{Names}
-use Rattle.icn_defs.specs.Rows.{◌>>=◌, Row, fails, Residual, TextBytes, VariableBytes, ListItems, SetMembers, TableValues, TableKeys, RecordFields, InputLines, UndoAssign, UndoExchange, UndoPosition, Counting, Sequence, Balanced, Found, Among}
+use Rattle.icn_defs.specs.Rows.{◌>>=◌, Row, fails, Residual, TextBytes, VariableBytes, ListItems, SetMembers, TableValues, TableKeys, RecordFields, FileLines, UndoAssign, UndoExchange, UndoPosition, Counting, Sequence, Balanced, Found, Among}
 use Rattle.icn_defs.specs.ReadAndAssign.{the_values}
-use Rattle.icn_defs.specs.Lines.{lines_again}
+use Rattle.icn_defs.specs.Lines.{lines_row}
 use Rattle.icn_defs.specs.Operations.{is_null_row, is_not_null_row, dereference_row, size_row, complement_row, lexically_less_row, lexically_less_or_equal_row, lexically_equal_row, lexically_greater_or_equal_row, lexically_greater_row, lexically_not_equal_row, equivalent_row, not_equivalent_row, concatenate_row, concatenate_lists_row, union_row, difference_row, intersection_row}
 use Rattle.icn_defs.specs.Arithmetic.{add_row, counting_again, divide_row, equal_row, greater_or_equal_row, greater_row, less_or_equal_row, less_row, multiply_row, negate_row, not_equal_row, number_row, power_row, remainder_row, subtract_row, to_by_row}
 use Rattle.icn_defs.specs.Elements.{elements_row, list_items_from, random_row, record_fields_from, set_members_from, table_values_from, text_bytes_from, variable_bytes_from}
@@ -17,6 +17,7 @@ use Rattle.icn_defs.specs.Scanning.{any_row, bal_row, find_row, many_row, match_
 use Rattle.icn_defs.specs.Strings.{abs_row, center_row, char_row, cset_row, iand_row, icom_row, image_row, integer_row, ior_row, ishift_row, ixor_row, left_row, map_row, ord_row, repl_row, reverse_row, right_row, seq_row, string_row, trim_row, type_row, sequence_again}
 use Rattle.icn_defs.specs.Structures.{copy_row, delete_row, get_row, insert_row, key_row, list_row, member_row, pull_row, push_row, put_row, set_row, sort_row, table_row, table_keys_from}
 use Rattle.icn_defs.specs.ErrorRows.{errorclear_row}
+use Rattle.icn_defs.specs.Files.{close_row, open_row}
 use Rattle.icn_defs.specs.InputOutput.{exit_row, read_row, reads_row, stop_row, write_row, writes_row}
 
 -- An operation on up to three operands. The refreshing of a co-expression is no row here; it fails.
@@ -129,6 +130,8 @@ function_of names Upto args = upto_row args
 function_of names Write args = write_row args
 function_of names Writes args = writes_row args
 function_of names ErrorClear args = errorclear_row
+function_of names Open args = open_row args
+function_of names Close args = close_row args
 
 -- A function is applied: all its arguments are dereferenced first.
 abbrev pub function_row : Names → Func → List Item → Row
@@ -145,7 +148,7 @@ again (SetMembers id index) = set_members_from id index
 again (TableValues id index) = table_values_from id index
 again (TableKeys id index) = table_keys_from id index
 again (RecordFields id index) = record_fields_from id index
-again InputLines = lines_again
+again (FileLines file) = lines_row file
 again (UndoAssign variable old) = undo_assign_again variable old
 again (UndoExchange mover x y old_x old_y) = undo_exchange_again mover x y old_x old_y
 again (UndoPosition old) = undo_position_again old

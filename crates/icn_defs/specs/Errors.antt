@@ -24,6 +24,7 @@ error_texts =
     ∷ (201, codes "division by zero") ∷ (202, codes "remaindering by zero")
     ∷ (203, codes "integer overflow") ∷ (205, codes "invalid value") ∷ (207, codes "invalid field name")
     ∷ (208, codes "second and third arguments to map of unequal length")
+    ∷ (209, codes "invalid second argument to open")
     ∷ (211, codes "by value equal to zero")
     ∷ (212, codes "attempt to read file not open for reading")
     ∷ (213, codes "attempt to write file not open for writing") ∷ (215, codes "attempt to refresh &main")

@@ -10,8 +10,8 @@ use Rattle.icn_profile.specs.Bytes.{backslash, double_quote, single_quote}
 use Rattle.icn_text.specs.declared.func.Func.{Func}
 use Rattle.icn_text.specs.declared.func.TheConstants.Func.{ALL}
 use Rattle.icn_text.specs.Funcs.{func_name}
-use Rattle.icn_value.specs.Values.{Value, Null, Integer, Text, Chars, Std, Procedure, ARecord, AList, ASet, ATable, ACoexp, File, Input, Output, Errout}
-use Rattle.icn_value.specs.Store.{Heap, Record, Names, record_at}
+use Rattle.icn_value.specs.Values.{Value, Null, Integer, Text, Chars, Std, Procedure, ARecord, AList, ASet, ATable, ACoexp, File, Input, Output, Errout, Opened}
+use Rattle.icn_value.specs.Store.{Heap, Record, Names, file_at, record_at}
 use Rattle.icn_defs.specs.Conversions.{ValueRank, shape_of, shape_cmp, size_of}
 
 -- Names
@@ -30,11 +30,12 @@ procedure_name names number =
 abbrev pub record_name : Names → Heap → ℕ → List ℕ
 record_name names heap id = unwrap_or (slice_get names.records (record_at heap id).kind) []
 
--- the name of a standard file
-abbrev pub file_name : File → List ℕ
-file_name Input = codes "&input"
-file_name Output = codes "&output"
-file_name Errout = codes "&errout"
+-- the image of a file: of an opened one the name is in it, with its bytes as they are
+abbrev pub file_image : Heap → File → List ℕ
+file_image heap Input = codes "&input"
+file_image heap Output = codes "&output"
+file_image heap Errout = codes "&errout"
+file_image heap (Opened number) = codes "file(" ++ ((file_at heap number).name ++ codes ")")
 
 -- the name of its type
 abbrev pub type_name : Names → Heap → Value → List ℕ
@@ -130,7 +131,7 @@ image names heap Null = codes "&null"
 image names heap (Integer n) = signed_decimal n
 image names heap (Text bytes) = in_quotes double_quote bytes
 image names heap (Chars bytes) = cset_image bytes
-image names heap (Std file) = file_name file
+image names heap (Std file) = file_image heap file
 image names heap (Procedure number) = procedure_image names number
 image names heap (ARecord id) =
     numbered_image (codes "record " ++ record_name names heap id) (record_number names heap id)

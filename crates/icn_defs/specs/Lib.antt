@@ -7,6 +7,7 @@ pub mod Arguments
 pub mod Images
 pub mod Arithmetic
 pub mod Operations
+pub mod OpenFiles
 pub mod Lines
 pub mod Elements
 pub mod Variables
@@ -14,6 +15,7 @@ pub mod Scanning
 pub mod Strings
 pub mod Structures
 pub mod InputOutput
+pub mod Files
 pub mod ErrorRows
 pub mod Applying
 pub mod RowFacts

@@ -1,14 +1,12 @@
--- The lines of the input.
-use Rattle.std.specs.Prelude.{◌==◌, ◌+◌, ℕ, Bool, true, false, not, List, length, drop, take, take_while, nat_lt, Some}
-use Rattle.icn_value.specs.Values.{Text, Std, File, Input, Output, Errout, Val}
-use Rattle.icn_value.specs.Store.{Request, ALine, SomeBytes, with_reading, having_left}
-use Rattle.icn_defs.specs.Rows.{◌>>=◌, ◌>>◌, Row, Finds, InputLines, suspends, check, fails_unless, here, changes, costs_bytes}
+-- The lines and the bytes of the input and of opened files.
+use Rattle.std.specs.Prelude.{◌==◌, ◌+◌, ℕ, not, List, length, drop, take, take_while, nat_lt}
+use Rattle.icn_value.specs.Values.{Text, Std, File, Val}
+use Rattle.icn_value.specs.Store.{Request, ALine, SomeBytes, file_at, having_left, with_reading}
+use Rattle.icn_value.specs.Changes.{read_on}
+use Rattle.icn_defs.specs.OpenFiles.{Readable, FromInput, FromOpened, left_in, readable}
+use Rattle.icn_defs.specs.Rows.{◌>>=◌, ◌>>◌, Row, Finds, FileLines, suspends, fails_unless, here, changes, changes_heap, costs_bytes}
 
--- whether a file is `&input`
-abbrev pub is_input : File → Bool
-is_input Input = true
-is_input Output = false
-is_input Errout = false
+-- The input
 
 -- the input has so many bytes less
 abbrev pub takes_input : ℕ → Row → Row
@@ -45,14 +43,48 @@ next_bytes count next = do
   costs_bytes (length bytes)
   next bytes
 
--- the next line of the input, and then those behind it
-abbrev pub lines_again : Row
-lines_again = do
-  line ← next_line
-  suspends (Val (Text line)) InputLines
+-- Opened files
 
--- `!f`: 212 where the file is not the input
+-- so many bytes more of an opened file are read
+abbrev pub takes_opened : ℕ → ℕ → Row → Row
+takes_opened number count next = changes_heap (read_on number count) next
+
+-- the same of an opened file: its next line
+abbrev pub next_opened_line : ℕ → Finds (List ℕ)
+next_opened_line number next = do
+  setting ← here
+  let left = left_in (file_at setting.world.heap number)
+  fails_unless (nat_lt 0 (length left))
+  let line = take_while (λ byte. not (byte == 10)) left
+  takes_opened number (length line + 1)
+  costs_bytes (length line)
+  next line
+
+-- so many bytes of an opened file
+abbrev pub next_opened_bytes : ℕ → ℕ → Finds (List ℕ)
+next_opened_bytes number count next = do
+  setting ← here
+  let bytes = take count (left_in (file_at setting.world.heap number))
+  fails_unless (nat_lt 0 (length bytes))
+  takes_opened number (length bytes)
+  costs_bytes (length bytes)
+  next bytes
+
+-- What is open for reading
+
+-- the next line
+abbrev pub line_from : Readable → Finds (List ℕ)
+line_from FromInput next = next_line next
+line_from (FromOpened number) next = next_opened_line number next
+
+-- the next bytes, so many at most
+abbrev pub bytes_from : ℕ → Readable → Finds (List ℕ)
+bytes_from count FromInput next = next_bytes count next
+bytes_from count (FromOpened number) next = next_opened_bytes number count next
+
+-- `!f`: the next line of a file, and then those behind it: 212 where it is not open for reading
 abbrev pub lines_row : File → Row
 lines_row file = do
-  check (is_input file) 212 (Some (Std file))
-  lines_again
+  from ← readable file (Std file)
+  line ← line_from from
+  suspends (Val (Text line)) (FileLines file)

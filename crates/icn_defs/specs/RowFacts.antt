@@ -3,15 +3,15 @@
 use Rattle.std.specs.Prelude.{◌==◌, ℕ, pos, int_le, not, [], ◌∷◌, ◌+◌, ◌^◌, ◌&&◌, ◌+ℤ◌, nat_lt, nat_le, Bool, true, List, length, is_some, Option, None, Some}
 use Rattle.std.specs.List.{list_all}
 use Rattle.std.specs.Map.{keys_of, lookup}
-use Rattle.std.specs.Str.{bytes_eq}
+use Rattle.std.specs.Str.{bytes_eq, is_utf8}
 use Rattle.icn_profile.specs.Numbers.{most_cells, most_strings}
 use Rattle.icn_structs.specs.Numbered.{NumberedList}
-use Rattle.icn_value.specs.Values.{Value, Null, Integer, Text, Chars, Std, Procedure, ARecord, AList, ASet, ATable, ACoexp, KeywordVariable, Subject, Position, Random, ErrorCount, Root, Global, Static, Local, Element, Field, Key, Keyword, Variable, Whole, Part, Item, Val, Var}
-use Rattle.icn_value.specs.Store.{Table, Record, Heap, KeptError, World, Setting, Names, record_at}
+use Rattle.icn_value.specs.Values.{Value, Null, Integer, Text, Chars, Std, Procedure, ARecord, AList, ASet, ATable, ACoexp, File, Input, Output, Errout, Opened, KeywordVariable, Subject, Position, Random, ErrorCount, Root, Global, Static, Local, Element, Field, Key, Keyword, Variable, Whole, Part, Item, Val, Var}
+use Rattle.icn_value.specs.Store.{Table, Record, OpenedFile, Heap, KeptError, World, Setting, Names, record_at}
 use Rattle.icn_defs.specs.Conversions.{has_value, fits, contains, members, held_text, held_integer}
 use Rattle.icn_defs.specs.Errors.{error_texts}
 use Rattle.icn_defs.specs.Images.{functions}
-use Rattle.icn_defs.specs.Rows.{Residual, TextBytes, VariableBytes, ListItems, SetMembers, TableValues, TableKeys, RecordFields, InputLines, UndoAssign, UndoExchange, UndoPosition, Counting, Sequence, Balanced, Found, Among, Outcome, Fails, Gives, Suspends, Error, Ends}
+use Rattle.icn_defs.specs.Rows.{Residual, TextBytes, VariableBytes, ListItems, SetMembers, TableValues, TableKeys, RecordFields, FileLines, UndoAssign, UndoExchange, UndoPosition, Counting, Sequence, Balanced, Found, Among, Outcome, Fails, Gives, Suspends, Error, Ends}
 
 -- Values
 
@@ -27,13 +27,20 @@ is_cset bytes = bytes_eq bytes (members (contains bytes))
 abbrev pub is_procedure : Names → ℕ → Bool
 is_procedure names number = nat_lt number (length names.procedures + length names.records + length functions)
 
+-- a standard file, or the number of one that was opened
+abbrev pub is_file : Heap → File → Bool
+is_file heap Input = true
+is_file heap Output = true
+is_file heap Errout = true
+is_file heap (Opened number) = nat_lt number (length heap.files)
+
 -- an integer of 64 bits, a text of bytes, a cset in order, or a number of something that is there
 abbrev pub is_live : Names → Heap → Value → Bool
 is_live names heap Null = true
 is_live names heap (Integer n) = fits n
 is_live names heap (Text bytes) = are_bytes bytes
 is_live names heap (Chars bytes) = is_cset bytes
-is_live names heap (Std file) = true
+is_live names heap (Std file) = is_file heap file
 is_live names heap (Procedure number) = is_procedure names number
 is_live names heap (ARecord id) = nat_lt id (length heap.records)
 is_live names heap (AList id) = nat_lt id (length heap.lists)
@@ -82,17 +89,23 @@ abbrev pub is_record : Names → Heap → Record → Bool
 is_record names heap structure =
     nat_lt structure.kind (length names.records) && are_live names heap structure.fields
 
+-- the name of an opened file is a text of UTF-8, it holds bytes, and no more were read than it holds
+abbrev pub is_opened : OpenedFile → Bool
+is_opened file =
+    is_utf8 file.name && (are_bytes file.name && (are_bytes file.content
+    && nat_le file.place (length file.content)))
+
 -- the sums are within the limits, and these in their ranges
 abbrev pub are_sums : Heap → Bool
 are_sums heap =
     nat_le heap.strings heap.bounds.strings && (nat_le heap.cells heap.bounds.cells
     && (nat_le heap.bounds.strings most_strings && nat_le heap.bounds.cells most_cells))
 
--- each structure cost a cell, and each co-expression but `&main`
+-- each structure cost a cell, each opened file, and each co-expression but `&main`
 abbrev pub are_counted : Heap → Bool
 are_counted heap =
     nat_le (length heap.lists + length heap.sets + length heap.tables + length heap.records
-    + length heap.coexps) (heap.cells + 1)
+    + length heap.files + length heap.coexps) (heap.cells + 1)
 
 -- what stands in the structures is live
 abbrev pub is_heap : Names → Heap → Bool
@@ -100,7 +113,7 @@ is_heap names heap =
     are_sums heap && (are_counted heap && (list_all (is_list names heap) heap.lists
     && (list_all (is_set names heap) heap.sets
     && (list_all (is_table names heap) heap.tables && (list_all (is_record names heap) heap.records
-    && list_all (λ count. nat_lt count (2 ^ 63)) heap.coexps)))))
+    && (list_all is_opened heap.files && list_all (λ count. nat_lt count (2 ^ 63)) heap.coexps))))))
 
 -- the value that an error is about, if any, is live
 abbrev pub is_live_or_none : Names → Heap → Option Value → Bool
@@ -193,14 +206,15 @@ is_residual names setting (SetMembers id index) = nat_lt id (length setting.worl
 is_residual names setting (TableValues id index) = nat_lt id (length setting.world.heap.tables)
 is_residual names setting (TableKeys id index) = nat_lt id (length setting.world.heap.tables)
 is_residual names setting (RecordFields id index) = nat_lt id (length setting.world.heap.records)
-is_residual names setting InputLines = true
+is_residual names setting (FileLines file) = is_file setting.world.heap file
 is_residual names setting (UndoAssign variable old) = is_old names setting variable old
 is_residual names setting (UndoExchange mover x y old_x old_y) =
     is_old names setting x old_x && is_old names setting y old_y
 is_residual names setting (UndoPosition old) = nat_le 1 old
 is_residual names setting (Counting n last step) = fits n && (fits last && fits step)
 is_residual names setting (Sequence n step) = fits n && fits step
-is_residual names setting (Balanced wanted opening closing text position last) = are_bytes text && nat_le 1 position
+is_residual names setting (Balanced wanted opening closing text position last) = are_bytes text
+    && nat_le 1 position
 is_residual names setting (Found wanted text position last) = are_bytes text && nat_le 1 position
 is_residual names setting (Among bytes text position last) = are_bytes text && nat_le 1 position
 

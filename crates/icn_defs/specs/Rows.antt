@@ -2,7 +2,7 @@
 use Rattle.std.specs.Prelude.{ℕ, ℤ, pos, negsuc, ◌+◌, Bool, true, false, nat_le, List, [], ◌∷◌, ◌++◌, length, Option, None, Some, Result, Ok, Err}
 use Rattle.icn_text.specs.declared.arithmetic.Arith.{Arith}
 use Rattle.icn_text.specs.declared.arithmetic.Arith.TheVariants.{Overflow, DivideByZero, RemainderByZero}
-use Rattle.icn_value.specs.Values.{Value, Text, AList, Variable, Item, Val}
+use Rattle.icn_value.specs.Values.{Value, File, Text, AList, Variable, Item, Val}
 use Rattle.icn_value.specs.Store.{Setting, Heap, having_heap, new_list}
 use Rattle.icn_defs.specs.Conversions.{form_of, text_made}
 
@@ -22,7 +22,7 @@ pub data Residual : Type 0 where
   TableValues : ℕ → ℕ → Residual
   TableKeys : ℕ → ℕ → Residual
   RecordFields : ℕ → ℕ → Residual
-  InputLines : Residual
+  FileLines : File → Residual
   UndoAssign : Variable → Value → Residual
   UndoExchange : Mover → Variable → Variable → Value → Value → Residual
   UndoPosition : ℕ → Residual

@@ -3,8 +3,10 @@ use Rattle.std.specs.Prelude.{◌≡◌, ℕ, ℤ, pos, zero, suc, List, [], ◌
 use Rattle.std.specs.List.{sum_by}
 use Rattle.icn_value.specs.Limited.{Bounds}
 use Rattle.icn_value.specs.Values.{Value, Null, Integer, Text}
+use Rattle.icn_host.specs.FileMaps.{FileMap}
 use Rattle.icn_value.specs.Store.{ErrorByte, Heap, World, Outside, outside_of, with_events}
 use Rattle.icn_defs.specs.Conversions.{integer_of}
+use Rattle.icn_defs.specs.OpenFiles.{all_written_out}
 use Rattle.icn_defs.specs.Rows.{◌>>◌, Row, costs_bytes}
 use Rattle.icn_defs.specs.StepRows.{list_row}
 
@@ -20,7 +22,8 @@ pub data Ending : Type 0 where
   Errored : ℕ → Ending
   AtBound : Ending
 
--- how a run ended, the input left, and all that was done outside, with the report of an error or of the bound
+-- how a run ended, the input left, what each file holds, and all that was done outside, with the report of an
+-- error or of the bound, and the files that were written at the end
 pub record Observation : Type 0 where
   pub ending : Ending
   pub outside : Outside
@@ -31,9 +34,10 @@ pub record Launch : Type 0 where
   pub bounds : Bounds
   pub outside : Outside
 
--- a program is begun with its input, before anything is put or read
-abbrev pub launch_of : List (List ℕ) → Bounds → List ℕ → Launch
-launch_of words bounds input = record { words = words; bounds = bounds; outside = outside_of input }
+-- a program is begun with its input and the files, before anything is put, read or written
+abbrev pub launch_of : List (List ℕ) → Bounds → List ℕ → FileMap → Launch
+launch_of words bounds input files =
+    record { words = words; bounds = bounds; outside = outside_of input files }
 
 -- the state after so many steps
 abbrev pub after_steps : {S : Type 0} → (S → S) → ℕ → S → S
@@ -54,6 +58,11 @@ bound_report = codes "turn bound reached\n"
 abbrev pub with_errors : List ℕ → Outside → Outside
 with_errors text outside = with_events (map ErrorByte text) outside
 
+-- Where a run ends, but at the bound, the files that are still open to be written are written, in the order in
+-- which they were opened. The report of an error stands before that.
+abbrev pub files_written : Heap → Outside → Outside
+files_written heap outside = all_written_out heap.files outside
+
 -- The heap before anything is made. Co-expression 0 is `&main`; its count of results begins with 0.
 abbrev pub first_heap : Bounds → Heap
 first_heap bounds = record {
@@ -62,6 +71,7 @@ first_heap bounds = record {
   tables = [];
   records = [];
   coexps = zero ∷ [];
+  files = [];
   strings = zero;
   cells = zero;
   bounds = bounds;

@@ -36,6 +36,7 @@ pub fn error_text(number: u16) -> &'static [u8]
         205 => b"invalid value",
         207 => b"invalid field name",
         208 => b"second and third arguments to map of unequal length",
+        209 => b"invalid second argument to open",
         211 => b"by value equal to zero",
         212 => b"attempt to read file not open for reading",
         213 => b"attempt to write file not open for writing",

@@ -20,7 +20,7 @@ use Rattle.icn_frames.specs.declared.layout.Cell.TheVariants.{Base, Call, Local,
 use Rattle.icn_frames.specs.declared.slots.Control.{Control}
 use Rattle.icn_frames.specs.declared.slots.Extra.{Extra}
 use Rattle.icn_frames.specs.declared.slots.StackSlot.{StackSlot}
-use Rattle.icn_frames.specs.declared.slots.StackSlot.TheVariants.{BaseFrame, CallFrame, PlainMark, LabelMark, SetMark, LimitMark, AltHeld, OpHeld, CountHeld, ScanHeld, EscanHeld, ProcHeld, LocalOther, ValOther, VarOther, LocalNull, LocalInteger, LocalText, LocalInput, LocalOutput, LocalErrout, LocalProc, LocalRec, LocalList, LocalSet, LocalTable, LocalCoexp, ValNull, ValInteger, ValText, ValInput, ValOutput, ValErrout, ValProc, ValRec, ValList, ValSet, ValTable, ValCoexp, VarGlobal, VarStatic, VarLocal, VarElement, VarField, VarKey, VarSubject, VarPosition, VarRandom}
+use Rattle.icn_frames.specs.declared.slots.StackSlot.TheVariants.{BaseFrame, CallFrame, PlainMark, LabelMark, SetMark, LimitMark, AltHeld, OpHeld, CountHeld, ScanHeld, EscanHeld, ProcHeld, LocalOther, ValOther, VarOther, LocalNull, LocalInteger, LocalText, LocalInput, LocalOutput, LocalErrout, LocalOpened, LocalProc, LocalRec, LocalList, LocalSet, LocalTable, LocalCoexp, ValNull, ValInteger, ValText, ValInput, ValOutput, ValErrout, ValOpened, ValProc, ValRec, ValList, ValSet, ValTable, ValCoexp, VarGlobal, VarStatic, VarLocal, VarElement, VarField, VarKey, VarSubject, VarPosition, VarRandom}
 
 -- what callers of the cells see: the cells, the newest first, and for how many more there is room
 pub record SeenCells : Type 0 where
@@ -42,7 +42,7 @@ abbrev pub no_extra : Extra
 no_extra = record {
   value = Vals.Null;
   variable = VarRefs.Whole (Roots.Global 0);
-  residual = Residuals.InputLines;
+  residual = Residuals.FileLines Files.Input;
   pair = record { subject = record { start = 0; len = 0 }; position = 0 };
 }
 
@@ -86,6 +86,7 @@ cell_of control extra (LocalText len start) = Local (Vals.Text (record { start =
 cell_of control extra LocalInput = Local (Vals.Std Files.Input)
 cell_of control extra LocalOutput = Local (Vals.Std Files.Output)
 cell_of control extra LocalErrout = Local (Vals.Std Files.Errout)
+cell_of control extra (LocalOpened number) = Local (Vals.Std (Files.Opened number))
 cell_of control extra (LocalProc number) = Local (Vals.Proc number)
 cell_of control extra (LocalRec number) = Local (Vals.Rec number)
 cell_of control extra (LocalList number) = Local (Vals.List number)
@@ -99,6 +100,7 @@ cell_of control extra (ValText len start) =
 cell_of control extra ValInput = Operand (Items.Val (Vals.Std Files.Input))
 cell_of control extra ValOutput = Operand (Items.Val (Vals.Std Files.Output))
 cell_of control extra ValErrout = Operand (Items.Val (Vals.Std Files.Errout))
+cell_of control extra (ValOpened number) = Operand (Items.Val (Vals.Std (Files.Opened number)))
 cell_of control extra (ValProc number) = Operand (Items.Val (Vals.Proc number))
 cell_of control extra (ValRec number) = Operand (Items.Val (Vals.Rec number))
 cell_of control extra (ValList number) = Operand (Items.Val (Vals.List number))
@@ -174,6 +176,7 @@ plain_operand (ValText len start) = Some (Items.Val (Vals.Text (record { start =
 plain_operand ValInput = Some (Items.Val (Vals.Std Files.Input))
 plain_operand ValOutput = Some (Items.Val (Vals.Std Files.Output))
 plain_operand ValErrout = Some (Items.Val (Vals.Std Files.Errout))
+plain_operand (ValOpened number) = Some (Items.Val (Vals.Std (Files.Opened number)))
 plain_operand (ValProc number) = Some (Items.Val (Vals.Proc number))
 plain_operand (ValRec number) = Some (Items.Val (Vals.Rec number))
 plain_operand (ValList number) = Some (Items.Val (Vals.List number))
@@ -199,6 +202,7 @@ plain_local (LocalText len start) = Some (Vals.Text (record { start = start; len
 plain_local LocalInput = Some (Vals.Std Files.Input)
 plain_local LocalOutput = Some (Vals.Std Files.Output)
 plain_local LocalErrout = Some (Vals.Std Files.Errout)
+plain_local (LocalOpened number) = Some (Vals.Std (Files.Opened number))
 plain_local (LocalProc number) = Some (Vals.Proc number)
 plain_local (LocalRec number) = Some (Vals.Rec number)
 plain_local (LocalList number) = Some (Vals.List number)

@@ -56,6 +56,7 @@ pub enum StackSlot {
     LocalInput,
     LocalOutput,
     LocalErrout,
+    LocalOpened(u32),
     LocalProc(u32),
     LocalRec(u32),
     LocalList(u32),
@@ -69,6 +70,7 @@ pub enum StackSlot {
     ValInput,
     ValOutput,
     ValErrout,
+    ValOpened(u32),
     ValProc(u32),
     ValRec(u32),
     ValList(u32),
@@ -142,7 +144,7 @@ pub fn blank_extra() -> Extra
     Extra {
         value: Val::Null,
         variable: VarRef::Whole(Root::Global(0)),
-        residual: Residual::InputLines,
+        residual: Residual::FileLines { file: File::Input },
         pair: Pair {
             subject: Span { start: 0, len: 0 },
             position: 0,
@@ -191,7 +193,7 @@ pub fn residual_at(extras: &Vec<Extra>, at: u64) -> Residual
     if at < extras.len() as u64 {
         extras[at as usize].residual
     } else {
-        Residual::InputLines
+        Residual::FileLines { file: File::Input }
     }
 }
 
@@ -272,7 +274,8 @@ pub fn copy_extra(extras: &mut Vec<Extra>, from: u64, at: u64)
 /// The slot of a local at this place, beside which there must be room.
 pub fn keep_local(extras: &mut Vec<Extra>, at: u64, v: Val) -> StackSlot
     requires { at < vec_capacity extras.old }
-    ensures is { (control : Control) → cell_of control (extra_at extras.new.items at) result ≡ CellVariants.Local v }
+    ensures is { (control : Control) → cell_of control (extra_at extras.new.items at) result
+        ≡ CellVariants.Local v }
     ensures others { ExtrasElsewhere at extras.old.items extras.new.items }
     ensures capacity { vec_capacity extras.new ≡ vec_capacity extras.old }
 {
@@ -297,6 +300,7 @@ pub fn keep_local(extras: &mut Vec<Extra>, at: u64, v: Val) -> StackSlot
         Val::Std(File::Input) => StackSlot::LocalInput,
         Val::Std(File::Output) => StackSlot::LocalOutput,
         Val::Std(File::Errout) => StackSlot::LocalErrout,
+        Val::Std(File::Opened(number)) => StackSlot::LocalOpened(number),
         Val::Proc(number) => StackSlot::LocalProc(number),
         Val::Rec(number) => StackSlot::LocalRec(number),
         Val::List(number) => StackSlot::LocalList(number),
@@ -335,6 +339,7 @@ fn keep_value(extras: &mut Vec<Extra>, at: u64, v: Val) -> StackSlot
         Val::Std(File::Input) => StackSlot::ValInput,
         Val::Std(File::Output) => StackSlot::ValOutput,
         Val::Std(File::Errout) => StackSlot::ValErrout,
+        Val::Std(File::Opened(number)) => StackSlot::ValOpened(number),
         Val::Proc(number) => StackSlot::ValProc(number),
         Val::Rec(number) => StackSlot::ValRec(number),
         Val::List(number) => StackSlot::ValList(number),
@@ -406,6 +411,7 @@ pub fn local_of(extras: &Vec<Extra>, at: u64, slot: StackSlot) -> Val
         StackSlot::LocalInput => Val::Std(File::Input),
         StackSlot::LocalOutput => Val::Std(File::Output),
         StackSlot::LocalErrout => Val::Std(File::Errout),
+        StackSlot::LocalOpened(number) => Val::Std(File::Opened(number)),
         StackSlot::LocalProc(number) => Val::Proc(number),
         StackSlot::LocalRec(number) => Val::Rec(number),
         StackSlot::LocalList(number) => Val::List(number),
@@ -432,6 +438,7 @@ pub fn operand_of(extras: &Vec<Extra>, at: u64, slot: StackSlot) -> Item
         StackSlot::ValInput => Item::Val(Val::Std(File::Input)),
         StackSlot::ValOutput => Item::Val(Val::Std(File::Output)),
         StackSlot::ValErrout => Item::Val(Val::Std(File::Errout)),
+        StackSlot::ValOpened(number) => Item::Val(Val::Std(File::Opened(number))),
         StackSlot::ValProc(number) => Item::Val(Val::Proc(number)),
         StackSlot::ValRec(number) => Item::Val(Val::Rec(number)),
         StackSlot::ValList(number) => Item::Val(Val::List(number)),
@@ -473,11 +480,11 @@ pub fn is_operand(slot: StackSlot) -> bool
         | StackSlot::ValInput
         | StackSlot::ValOutput
         | StackSlot::ValErrout => true,
-        StackSlot::ValProc(_)
+        StackSlot::ValOpened(_)
+        | StackSlot::ValProc(_)
         | StackSlot::ValRec(_)
-        | StackSlot::ValList(_)
-        | StackSlot::ValSet(_) => true,
-        StackSlot::ValTable(_) | StackSlot::ValCoexp(_) => true,
+        | StackSlot::ValList(_) => true,
+        StackSlot::ValSet(_) | StackSlot::ValTable(_) | StackSlot::ValCoexp(_) => true,
         StackSlot::VarGlobal(_) | StackSlot::VarStatic(_) | StackSlot::VarLocal(_) => true,
         StackSlot::VarElement { .. } | StackSlot::VarField { .. } | StackSlot::VarKey { .. } =>
             true,
@@ -497,12 +504,13 @@ pub fn is_plain_operand(slot: StackSlot) -> bool
         | StackSlot::ValInput => true,
         StackSlot::ValOutput
         | StackSlot::ValErrout
-        | StackSlot::ValProc(_)
-        | StackSlot::ValRec(_) => true,
-        StackSlot::ValList(_)
+        | StackSlot::ValOpened(_)
+        | StackSlot::ValProc(_) => true,
+        StackSlot::ValRec(_)
+        | StackSlot::ValList(_)
         | StackSlot::ValSet(_)
-        | StackSlot::ValTable(_)
-        | StackSlot::ValCoexp(_) => true,
+        | StackSlot::ValTable(_) => true,
+        StackSlot::ValCoexp(_) => true,
         StackSlot::VarGlobal(_) | StackSlot::VarStatic(_) | StackSlot::VarLocal(_) => true,
         StackSlot::VarElement { .. } | StackSlot::VarField { .. } | StackSlot::VarKey { .. } =>
             true,
@@ -522,9 +530,10 @@ pub fn is_plain_local(slot: StackSlot) -> bool
         | StackSlot::LocalInput => true,
         StackSlot::LocalOutput
         | StackSlot::LocalErrout
-        | StackSlot::LocalProc(_)
-        | StackSlot::LocalRec(_) => true,
-        StackSlot::LocalList(_)
+        | StackSlot::LocalOpened(_)
+        | StackSlot::LocalProc(_) => true,
+        StackSlot::LocalRec(_)
+        | StackSlot::LocalList(_)
         | StackSlot::LocalSet(_)
         | StackSlot::LocalTable(_)
         | StackSlot::LocalCoexp(_) => true,
@@ -543,6 +552,7 @@ pub fn local_as_operand(slot: StackSlot) -> StackSlot
         StackSlot::LocalInput => StackSlot::ValInput,
         StackSlot::LocalOutput => StackSlot::ValOutput,
         StackSlot::LocalErrout => StackSlot::ValErrout,
+        StackSlot::LocalOpened(number) => StackSlot::ValOpened(number),
         StackSlot::LocalProc(number) => StackSlot::ValProc(number),
         StackSlot::LocalRec(number) => StackSlot::ValRec(number),
         StackSlot::LocalList(number) => StackSlot::ValList(number),
@@ -564,6 +574,7 @@ pub fn operand_as_local(slot: StackSlot) -> StackSlot
         StackSlot::ValInput => StackSlot::LocalInput,
         StackSlot::ValOutput => StackSlot::LocalOutput,
         StackSlot::ValErrout => StackSlot::LocalErrout,
+        StackSlot::ValOpened(number) => StackSlot::LocalOpened(number),
         StackSlot::ValProc(number) => StackSlot::LocalProc(number),
         StackSlot::ValRec(number) => StackSlot::LocalRec(number),
         StackSlot::ValList(number) => StackSlot::LocalList(number),

@@ -7,20 +7,22 @@ use Rattle.std.proofs.lemmas.List.Elements.{All-weaker, All-head, All-tail}
 use Rattle.icn_strings.specs.Regions.{KeepsRanges as KeepsTexts, sum_of}
 use Rattle.icn_structs.specs.Numbered.{NumberedList}
 use Rattle.icn_value.specs.declared.val.Span.{Span}
+use Rattle.icn_value.specs.declared.val.File.{File as HeldFile}
+use Rattle.icn_value.specs.declared.val.File.TheVariants.{Input as HeldInput, Output as HeldOutput, Errout as HeldErrout, Opened as HeldOpened}
 use Rattle.icn_value.specs.declared.val.Val.{Val}
 use Rattle.icn_value.specs.declared.val.Val.TheVariants.{Null as NullVal, Integer as IntegerVal, Text as TextVal, Chars as CharsVal, Std as StdVal, Proc as ProcVal, Rec as RecVal, List as ListVal, Set as SetVal, Table as TableVal, Coexp as CoexpVal}
 use Rattle.icn_value.specs.Values.{Value, Text}
 use Rattle.icn_value.specs.Limited.{limits_of}
 use Rattle.icn_value.specs.Store.{Heap, Table, Record}
 use Rattle.icn_heap.specs.Keys.{key_value}
-use Rattle.icn_heap.specs.Extents.{Extent, range_of, IsText, IsLive, LiveBy, text_in, value_in, KeepsValues}
+use Rattle.icn_heap.specs.Extents.{Extent, range_of, IsText, IsLive, FileBy, LiveBy, text_in, value_in, KeepsValues}
 use Rattle.icn_heap.specs.HeapParts.{Parts, list_in, set_in, pair_in, table_in, record_in, heap_over, extent_in, IsSoundList, IsSoundMember, IsSoundPair, IsSoundTable, IsSoundRecord, AreSound, IsCharged, IsSoundHeap}
 use Rattle.icn_heap.specs.Records.{HeldRecord}
 use Rattle.icn_heap.specs.declared.key.Key.{Key}
 use Rattle.icn_heap.specs.declared.entries.Entry.{Entry}
 use Rattle.icn_heap.specs.declared.entries.Entries.{Entries}
 
--- more texts and more structures, or as many
+-- more texts, more structures and more opened files, or as many
 pub record Extends (old new : Extent) : Type 0 where
   pub texts : KeepsTexts old.strings new.strings
   pub lists : old.lists ≤ new.lists
@@ -28,14 +30,21 @@ pub record Extends (old new : Extent) : Type 0 where
   pub tables : old.tables ≤ new.tables
   pub records : old.records ≤ new.records
   pub coexps : old.coexps ≤ new.coexps
+  pub files : old.files ≤ new.files
 
 module _ {a b : Extent} (more : Extends a b) where
+  file_by : (file : HeldFile) → FileBy a file → FileBy b file
+  file_by HeldInput is = tt
+  file_by HeldOutput is = tt
+  file_by HeldErrout is = tt
+  file_by (HeldOpened number) is = let many = more.files in omega arith
+
   live_by : (val : Val) → LiveBy a val → LiveBy b val
   live_by NullVal is = tt
   live_by (IntegerVal n) is = tt
   live_by (TextVal span) is = record { of = more.texts.of (range_of span) is.of }
   live_by (CharsVal cset) is = tt
-  live_by (StdVal file) is = tt
+  live_by (StdVal file) is = file_by file is
   live_by (ProcVal number) is = tt
   live_by (RecVal id) is = let many = more.records in omega arith
   live_by (ListVal id) is = let many = more.lists in omega arith
@@ -131,6 +140,7 @@ module _ {a b : Extent} (keeps : KeepsValues a b) where
             tables = tables';
             records = records';
             coexps = parts.coexps;
+            files = parts.files;
             strings = sum_of parts.strings;
             cells = parts.cells;
             bounds = limits_of parts.limits;
@@ -141,6 +151,7 @@ module _ {a b : Extent} (keeps : KeepsValues a b) where
             tables = tables;
             records = records;
             coexps = parts.coexps;
+            files = parts.files;
             strings = sum_of parts.strings;
             cells = parts.cells;
             bounds = limits_of parts.limits;
@@ -175,6 +186,7 @@ module _ {a b : Extent} (keeps : KeepsValues a b) where
     tables = All-weaker _ _ table_stays parts.tables are.tables;
     records = All-weaker _ _ record_stays parts.records are.records;
     coexps = are.coexps;
+    files = are.files;
   }
 
 sound_list_later : (all : Extent) (cells sum : ℕ) → cells ≤ sum → (list : NumberedList Val) → IsSoundList all cells list → IsSoundList all sum list

@@ -5,6 +5,7 @@ pub mod GrowingHeaps
 pub mod PairViews
 pub mod ListChanges
 pub mod OtherChanges
+pub mod FileChanges
 pub mod TextChanges
 pub mod NewNumbers
 pub mod ChangedParts

@@ -170,13 +170,14 @@ module _ (parts : Parts) (is : IsSoundHeap parts) {sum : ℕ} (more : parts.cell
       let size : length (slice_set parts.lists id list) ≡ length parts.lists = length-set parts.lists id list in
       let charged : IsCharged parts = is.charged in
       becomes
-      (record { texts = texts_stay parts.strings; lists = omega arith; sets = le_refl _; tables = le_refl _; records = le_refl _; coexps = le_refl _ })
+      (record { texts = texts_stay parts.strings; lists = omega arith; sets = le_refl _; tables = le_refl _; records = le_refl _; coexps = le_refl _; files = le_refl _ })
       (record {
         lists = All-set (IsSoundList (extent_in parts) sum) parts.lists id list sound lists_more;
         sets = is.structures.sets;
         tables = is.structures.tables;
         records = is.structures.records;
         coexps = is.structures.coexps;
+        files = is.structures.files;
       })
       (record { limit = charged.limit; within = within; counted = (let few = charged.counted in omega arith); main = charged.main })
       (ap (λ lists. let heap : Heap = record (with_cells sum (heap_over (extent_in parts) parts)) { lists = lists } in heap)
@@ -192,7 +193,7 @@ module _ (parts : Parts) (is : IsSoundHeap parts) {sum : ℕ} (more : parts.cell
       let made : list_in (extent_in parts) list
       ≡ new_list (map (value_in (extent_in parts)) items) = new_by (ap (map (value_in (extent_in parts))) are) number in
       becomes
-      (record { texts = texts_stay parts.strings; lists = omega arith; sets = le_refl _; tables = le_refl _; records = le_refl _; coexps = le_refl _ })
+      (record { texts = texts_stay parts.strings; lists = omega arith; sets = le_refl _; tables = le_refl _; records = le_refl _; coexps = le_refl _; files = le_refl _ })
       (record {
         lists = All-push (IsSoundList (extent_in parts) sum) parts.lists list lists_more
             (record { live = rw are live; low = rw number (omega (arith, ints)); high = rw (number, are) (omega (arith, ints)) });
@@ -200,6 +201,7 @@ module _ (parts : Parts) (is : IsSoundHeap parts) {sum : ℕ} (more : parts.cell
         tables = is.structures.tables;
         records = is.structures.records;
         coexps = is.structures.coexps;
+        files = is.structures.files;
       })
       (record { limit = charged.limit; within = within; counted = (let few = charged.counted in omega arith); main = charged.main })
       (ap (λ lists. let heap : Heap = record (with_cells sum (heap_over (extent_in parts) parts)) { lists = lists } in heap)

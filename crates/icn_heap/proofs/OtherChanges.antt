@@ -48,13 +48,14 @@ module _ (parts : Parts) (is : IsSoundHeap parts) {sum : ℕ} (more : parts.cell
   set_changes id one {value} sound alike =
       let size : length (slice_set parts.sets id one) ≡ length parts.sets = length-set parts.sets id one in
       let charged : IsCharged parts = is.charged in
-      becomes (record { texts = texts_stay parts.strings; lists = le_refl _; sets = omega arith; tables = le_refl _; records = le_refl _; coexps = le_refl _ })
+      becomes (record { texts = texts_stay parts.strings; lists = le_refl _; sets = omega arith; tables = le_refl _; records = le_refl _; coexps = le_refl _; files = le_refl _ })
       (record {
         lists = lists_more;
         sets = All-set (All (IsSoundMember (extent_in parts))) parts.sets id one sound is.structures.sets;
         tables = is.structures.tables;
         records = is.structures.records;
         coexps = is.structures.coexps;
+        files = is.structures.files;
       })
       (record { limit = charged.limit; within = within; counted = (let few = charged.counted in omega arith); main = charged.main })
       (ap (λ structures. let heap : Heap = record (with_cells sum (heap_over (extent_in parts) parts)) { sets = structures } in heap)
@@ -67,13 +68,14 @@ module _ (parts : Parts) (is : IsSoundHeap parts) {sum : ℕ} (more : parts.cell
   set_joins one {value} paid sound alike =
       let size : length (parts.sets ++ one ∷ []) ≡ length parts.sets + 1 = length-append parts.sets (one ∷ []) in
       let charged : IsCharged parts = is.charged in
-      becomes (record { texts = texts_stay parts.strings; lists = le_refl _; sets = omega arith; tables = le_refl _; records = le_refl _; coexps = le_refl _ })
+      becomes (record { texts = texts_stay parts.strings; lists = le_refl _; sets = omega arith; tables = le_refl _; records = le_refl _; coexps = le_refl _; files = le_refl _ })
       (record {
         lists = lists_more;
         sets = All-push (All (IsSoundMember (extent_in parts))) parts.sets one is.structures.sets sound;
         tables = is.structures.tables;
         records = is.structures.records;
         coexps = is.structures.coexps;
+        files = is.structures.files;
       })
       (record { limit = charged.limit; within = within; counted = (let few = charged.counted in omega arith); main = charged.main })
       (ap (λ structures. let heap : Heap = record (with_cells sum (heap_over (extent_in parts) parts)) { sets = structures } in heap)
@@ -85,13 +87,14 @@ module _ (parts : Parts) (is : IsSoundHeap parts) {sum : ℕ} (more : parts.cell
   table_changes id {one} {value} sound alike =
       let size : length (slice_set parts.tables id one) ≡ length parts.tables = length-set parts.tables id one in
       let charged : IsCharged parts = is.charged in
-      becomes (record { texts = texts_stay parts.strings; lists = le_refl _; sets = le_refl _; tables = omega arith; records = le_refl _; coexps = le_refl _ })
+      becomes (record { texts = texts_stay parts.strings; lists = le_refl _; sets = le_refl _; tables = omega arith; records = le_refl _; coexps = le_refl _; files = le_refl _ })
       (record {
         lists = lists_more;
         sets = is.structures.sets;
         tables = All-set (IsSoundTable (extent_in parts)) parts.tables id one sound is.structures.tables;
         records = is.structures.records;
         coexps = is.structures.coexps;
+        files = is.structures.files;
       })
       (record { limit = charged.limit; within = within; counted = (let few = charged.counted in omega arith); main = charged.main })
       (ap (λ structures. let heap : Heap = record (with_cells sum (heap_over (extent_in parts) parts)) { tables = structures } in heap)
@@ -105,13 +108,14 @@ module _ (parts : Parts) (is : IsSoundHeap parts) {sum : ℕ} (more : parts.cell
   table_joins {one} {value} paid sound alike =
       let size : length (parts.tables ++ one ∷ []) ≡ length parts.tables + 1 = length-append parts.tables (one ∷ []) in
       let charged : IsCharged parts = is.charged in
-      becomes (record { texts = texts_stay parts.strings; lists = le_refl _; sets = le_refl _; tables = omega arith; records = le_refl _; coexps = le_refl _ })
+      becomes (record { texts = texts_stay parts.strings; lists = le_refl _; sets = le_refl _; tables = omega arith; records = le_refl _; coexps = le_refl _; files = le_refl _ })
       (record {
         lists = lists_more;
         sets = is.structures.sets;
         tables = All-push (IsSoundTable (extent_in parts)) parts.tables one is.structures.tables sound;
         records = is.structures.records;
         coexps = is.structures.coexps;
+        files = is.structures.files;
       })
       (record { limit = charged.limit; within = within; counted = (let few = charged.counted in omega arith); main = charged.main })
       (ap (λ structures. let heap : Heap = record (with_cells sum (heap_over (extent_in parts) parts)) { tables = structures } in heap)
@@ -123,13 +127,14 @@ module _ (parts : Parts) (is : IsSoundHeap parts) {sum : ℕ} (more : parts.cell
   record_changes id {one} {value} sound alike =
       let size : length (slice_set parts.records id one) ≡ length parts.records = length-set parts.records id one in
       let charged : IsCharged parts = is.charged in
-      becomes (record { texts = texts_stay parts.strings; lists = le_refl _; sets = le_refl _; tables = le_refl _; records = omega arith; coexps = le_refl _ })
+      becomes (record { texts = texts_stay parts.strings; lists = le_refl _; sets = le_refl _; tables = le_refl _; records = omega arith; coexps = le_refl _; files = le_refl _ })
       (record {
         lists = lists_more;
         sets = is.structures.sets;
         tables = is.structures.tables;
         records = All-set (IsSoundRecord (extent_in parts)) parts.records id one sound is.structures.records;
         coexps = is.structures.coexps;
+        files = is.structures.files;
       })
       (record { limit = charged.limit; within = within; counted = (let few = charged.counted in omega arith); main = charged.main })
       (ap (λ structures. let heap : Heap = record (with_cells sum (heap_over (extent_in parts) parts)) { records = structures } in heap)
@@ -142,13 +147,14 @@ module _ (parts : Parts) (is : IsSoundHeap parts) {sum : ℕ} (more : parts.cell
   record_joins {one} {value} paid sound alike =
       let size : length (parts.records ++ one ∷ []) ≡ length parts.records + 1 = length-append parts.records (one ∷ []) in
       let charged : IsCharged parts = is.charged in
-      becomes (record { texts = texts_stay parts.strings; lists = le_refl _; sets = le_refl _; tables = le_refl _; records = omega arith; coexps = le_refl _ })
+      becomes (record { texts = texts_stay parts.strings; lists = le_refl _; sets = le_refl _; tables = le_refl _; records = omega arith; coexps = le_refl _; files = le_refl _ })
       (record {
         lists = lists_more;
         sets = is.structures.sets;
         tables = is.structures.tables;
         records = All-push (IsSoundRecord (extent_in parts)) parts.records one is.structures.records sound;
         coexps = is.structures.coexps;
+        files = is.structures.files;
       })
       (record { limit = charged.limit; within = within; counted = (let few = charged.counted in omega arith); main = charged.main })
       (ap (λ structures. let heap : Heap = record (with_cells sum (heap_over (extent_in parts) parts)) { records = structures } in heap)
@@ -160,13 +166,14 @@ module _ (parts : Parts) (is : IsSoundHeap parts) {sum : ℕ} (more : parts.cell
   coexp_joins paid =
       let size : length (parts.coexps ++ 0 ∷ []) ≡ length parts.coexps + 1 = length-append parts.coexps (0 ∷ []) in
       let charged : IsCharged parts = is.charged in
-      becomes (record { texts = texts_stay parts.strings; lists = le_refl _; sets = le_refl _; tables = le_refl _; records = le_refl _; coexps = omega arith })
+      becomes (record { texts = texts_stay parts.strings; lists = le_refl _; sets = le_refl _; tables = le_refl _; records = le_refl _; coexps = omega arith; files = le_refl _ })
       (record {
         lists = lists_more;
         sets = is.structures.sets;
         tables = is.structures.tables;
         records = is.structures.records;
         coexps = All-push (λ count. count < 2 ^ 63) parts.coexps 0 is.structures.coexps (omega arith);
+        files = is.structures.files;
       })
       (record { limit = charged.limit; within = within; counted = (let few = charged.counted in omega arith); main = (let some = charged.main in omega arith) })
       refl
@@ -176,13 +183,14 @@ pub coexp_counts : (parts : Parts) → IsSoundHeap parts → (id : ℕ) → slic
 coexp_counts parts is id few =
     let size : length (slice_set parts.coexps id (slice_index parts.coexps id + 1)) ≡ length parts.coexps = length-set parts.coexps id _ in
     let charged : IsCharged parts = is.charged in
-    becomes (record { texts = texts_stay parts.strings; lists = le_refl _; sets = le_refl _; tables = le_refl _; records = le_refl _; coexps = omega arith })
+    becomes (record { texts = texts_stay parts.strings; lists = le_refl _; sets = le_refl _; tables = le_refl _; records = le_refl _; coexps = omega arith; files = le_refl _ })
     (record {
       lists = is.structures.lists;
       sets = is.structures.sets;
       tables = is.structures.tables;
       records = is.structures.records;
       coexps = All-set (λ count. count < 2 ^ 63) parts.coexps id (slice_index parts.coexps id + 1) (omega arith) is.structures.coexps;
+      files = is.structures.files;
     })
     (record {
       limit = charged.limit;
@@ -412,13 +420,14 @@ pub texts_join : (parts : Parts) → IsSoundHeap parts → (strings : Region) �
     → Becomes parts (record parts { strings = strings }) (let heap : Heap = record (heap_over (extent_in parts) parts) { strings = sum_of strings } in heap)
 texts_join parts is strings texts =
     let charged : IsCharged parts = is.charged in
-    becomes (record { texts = texts; lists = le_refl _; sets = le_refl _; tables = le_refl _; records = le_refl _; coexps = le_refl _ })
+    becomes (record { texts = texts; lists = le_refl _; sets = le_refl _; tables = le_refl _; records = le_refl _; coexps = le_refl _; files = le_refl _ })
     (record {
       lists = is.structures.lists;
       sets = is.structures.sets;
       tables = is.structures.tables;
       records = is.structures.records;
       coexps = is.structures.coexps;
+      files = is.structures.files;
     })
     (record { limit = texts.limit ∙ charged.limit; within = charged.within; counted = charged.counted; main = charged.main })
     refl

@@ -5,13 +5,15 @@ use Rattle.icn_strings.specs.declared.byte_range.ByteRange.{ByteRange}
 use Rattle.icn_strings.specs.declared.region.Region.{Region}
 use Rattle.icn_strings.specs.Regions.{IsOf, IsOf-prop, bytes_of}
 use Rattle.icn_value.specs.declared.val.Span.{Span}
+use Rattle.icn_value.specs.declared.val.File.{File as HeldFile}
+use Rattle.icn_value.specs.declared.val.File.TheVariants.{Input as HeldInput, Output as HeldOutput, Errout as HeldErrout, Opened as HeldOpened}
 use Rattle.icn_value.specs.declared.val.Val.{Val}
 use Rattle.icn_value.specs.declared.val.Val.TheVariants.{Null as NullVal, Integer as IntegerVal, Text as TextVal, Chars as CharsVal, Std as StdVal, Proc as ProcVal, Rec as RecVal, List as ListVal, Set as SetVal, Table as TableVal, Coexp as CoexpVal}
 use Rattle.icn_value.specs.Values.{Value, Null, Integer, Text, Chars, Std, Procedure, ARecord, AList, ASet, ATable, ACoexp}
 use Rattle.icn_value.specs.Members.{members_of}
 use Rattle.icn_heap.specs.Keys.{file_of}
 
--- the texts that a heap has, and how many structures of each type
+-- the texts that a heap has, how many structures of each type, and how many files were opened
 pub record Extent : Type 0 where
   pub strings : Region
   pub lists : ℕ
@@ -19,6 +21,7 @@ pub record Extent : Type 0 where
   pub tables : ℕ
   pub records : ℕ
   pub coexps : ℕ
+  pub files : ℕ
 
 -- where the bytes of a text lie in the region
 abbrev pub range_of : Span → ByteRange
@@ -50,14 +53,21 @@ value_in all (CoexpVal id) = ACoexp id
 abbrev pub values_in : Extent → Val × Val → Value × Value
 values_in all pair = (value_in all pair.0, value_in all pair.1)
 
--- a text is of the heap, and a structure has a number below the count of its type; other values ask for
--- nothing
+-- an opened file has a number below how many were opened; a standard one asks for nothing
+abbrev pub FileBy : Extent → HeldFile → Type 0
+FileBy all HeldInput = ⊤
+FileBy all HeldOutput = ⊤
+FileBy all HeldErrout = ⊤
+FileBy all (HeldOpened number) = number < all.files
+
+-- a text is of the heap, a structure has a number below the count of its type, and so has an opened file; other
+-- values ask for nothing
 abbrev pub LiveBy : Extent → Val → Type 0
 LiveBy all NullVal = ⊤
 LiveBy all (IntegerVal n) = ⊤
 LiveBy all (TextVal span) = IsText all span
 LiveBy all (CharsVal cset) = ⊤
-LiveBy all (StdVal file) = ⊤
+LiveBy all (StdVal file) = FileBy all file
 LiveBy all (ProcVal number) = ⊤
 LiveBy all (RecVal id) = id < all.records
 LiveBy all (ListVal id) = id < all.lists
@@ -84,12 +94,18 @@ pub record KeepsValues (old new : Extent) : Type 0 where
 IsText-prop : (all : Extent) (span : Span) → IsProp (IsText all span)
 IsText-prop all span = hlevel IsOf-prop
 
+FileBy-prop : (all : Extent) (file : HeldFile) → IsProp (FileBy all file)
+FileBy-prop all HeldInput = Unit-prop
+FileBy-prop all HeldOutput = Unit-prop
+FileBy-prop all HeldErrout = Unit-prop
+FileBy-prop all (HeldOpened number) = le_prop
+
 LiveBy-prop : (all : Extent) (val : Val) → IsProp (LiveBy all val)
 LiveBy-prop all NullVal = Unit-prop
 LiveBy-prop all (IntegerVal n) = Unit-prop
 LiveBy-prop all (TextVal span) = IsText-prop all span
 LiveBy-prop all (CharsVal cset) = Unit-prop
-LiveBy-prop all (StdVal file) = Unit-prop
+LiveBy-prop all (StdVal file) = FileBy-prop all file
 LiveBy-prop all (ProcVal number) = Unit-prop
 LiveBy-prop all (RecVal id) = le_prop
 LiveBy-prop all (ListVal id) = le_prop

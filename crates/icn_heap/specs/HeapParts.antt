@@ -11,7 +11,7 @@ use Rattle.icn_value.specs.declared.val.Val.{Val}
 use Rattle.icn_value.specs.declared.val.Val.TheVariants.{Null}
 use Rattle.icn_value.specs.Limited.{limits_of}
 use Rattle.icn_value.specs.Values.{Value}
-use Rattle.icn_value.specs.Store.{Heap, Table, Record}
+use Rattle.icn_value.specs.Store.{Heap, Table, Record, OpenedFile}
 use Rattle.icn_value.specs.Sameness.{same}
 use Rattle.icn_heap.specs.Extents.{Extent, IsLive, IsLive-prop, value_in}
 use Rattle.icn_heap.specs.Keys.{key_value, IsKey, IsKey-prop}
@@ -21,7 +21,7 @@ use Rattle.icn_heap.specs.declared.entries.Entry.{Entry}
 use Rattle.icn_heap.specs.declared.entries.Entries.{Entries}
 use Rattle.icn_heap.specs.Records.{HeldRecord}
 
--- the parts: the region of strings, the structures of each type, the counts of results, and what cells are charged
+-- the parts: the region of strings, the structures of each type, the counts of results, the files that were opened, and what cells are charged
 pub record Parts : Type 0 where
   pub strings : Region
   pub lists : List (NumberedList Val)
@@ -29,19 +29,21 @@ pub record Parts : Type 0 where
   pub tables : List Entries
   pub records : List HeldRecord
   pub coexps : List ℕ
+  pub files : List OpenedFile
   pub cells : ℕ
   pub limits : Limits
 
 -- the parts of a heap, by name
 abbrev pub parts : Region → List (NumberedList Val) → List (List (Key × Val)) → List Entries → List HeldRecord
-    → List ℕ → ℕ → Limits → Parts
-parts strings lists sets tables records coexps cells limits = record {
+    → List ℕ → List OpenedFile → ℕ → Limits → Parts
+parts strings lists sets tables records coexps files cells limits = record {
   strings = strings;
   lists = lists;
   sets = sets;
   tables = tables;
   records = records;
   coexps = coexps;
+  files = files;
   cells = cells;
   limits = limits;
 }
@@ -80,6 +82,7 @@ heap_over all parts = record {
   tables = map (table_in all) parts.tables;
   records = map (record_in all) parts.records;
   coexps = parts.coexps;
+  files = parts.files;
   strings = sum_of parts.strings;
   cells = parts.cells;
   bounds = limits_of parts.limits;
@@ -94,6 +97,7 @@ extent_in parts = record {
   tables = length parts.tables;
   records = length parts.records;
   coexps = length parts.coexps;
+  files = length parts.files;
 }
 
 -- Structures for numbers that none has
@@ -170,6 +174,10 @@ pub record IsSoundRecord (all : Extent) (held : HeldRecord) : Type 0 where
   pub live : All (IsLive all) held.values
   pub few : length held.values ≤ 2 ^ 16
 
+-- no more of an opened file was read than it holds
+pub record IsSoundFile (file : OpenedFile) : Type 0 where
+  pub within : file.place ≤ length file.content
+
 -- the structures are sound, by an extent
 pub record AreSound (all : Extent) (parts : Parts) : Type 0 where
   pub lists : All (IsSoundList all parts.cells) parts.lists
@@ -177,13 +185,14 @@ pub record AreSound (all : Extent) (parts : Parts) : Type 0 where
   pub tables : All (IsSoundTable all) parts.tables
   pub records : All (IsSoundRecord all) parts.records
   pub coexps : All (λ count. count < 2 ^ 63) parts.coexps
+  pub files : All IsSoundFile parts.files
 
--- the sums are within the limits, and there are no more structures than cells, `&main` aside, which is there
+-- the sums are within the limits, and there are no more structures and opened files than cells, `&main` aside, which is there
 pub record IsCharged (parts : Parts) : Type 0 where
   pub limit : limit_of parts.strings ≡ parts.limits.strings
   pub within : parts.cells ≤ parts.limits.cells
   pub counted : length parts.lists + length parts.sets + length parts.tables + length parts.records
-      + length parts.coexps ≤ parts.cells + 1
+      + length parts.files + length parts.coexps ≤ parts.cells + 1
   pub main : 0 < length parts.coexps
 
 -- what each heap keeps
@@ -206,9 +215,19 @@ IsSoundTable-prop all table = hlevel (IsLive-prop, IsSoundPair-prop)
 IsSoundRecord-prop : (all : Extent) (held : HeldRecord) → IsProp (IsSoundRecord all held)
 IsSoundRecord-prop all held = hlevel (IsLive-prop, props)
 
+IsSoundFile-prop : (file : OpenedFile) → IsProp (IsSoundFile file)
+IsSoundFile-prop file = hlevel props
+
 AreSound-prop : (all : Extent) (parts : Parts) → IsProp (AreSound all parts)
 AreSound-prop all parts =
-    hlevel (IsSoundList-prop, IsSoundMember-prop, IsSoundTable-prop, IsSoundRecord-prop, props)
+    hlevel (
+      IsSoundList-prop,
+      IsSoundMember-prop,
+      IsSoundTable-prop,
+      IsSoundRecord-prop,
+      IsSoundFile-prop,
+      props,
+    )
 
 IsCharged-prop : (parts : Parts) → IsProp (IsCharged parts)
 IsCharged-prop parts = hlevel props

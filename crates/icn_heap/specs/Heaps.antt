@@ -9,7 +9,7 @@ use Rattle.icn_heap.specs.declared.heap.Heap.{Heap as HeldHeap}
 -- the parts that a heap holds
 abbrev pub parts_of : HeldHeap → Parts
 parts_of heap = parts heap.strings heap.lists.items heap.sets.items heap.tables.items heap.records.items
-    heap.coexps.items heap.cells heap.limits
+    heap.coexps.items heap.files.items heap.cells heap.limits
 
 -- the texts that a heap has, and how many structures
 unfoldable pub extent_of : HeldHeap → Extent
@@ -23,11 +23,7 @@ heap_of heap = heap_over (extent_in (parts_of heap)) (parts_of heap)
 abbrev pub with_cells : ℕ → Heap → Heap
 with_cells sum heap = record heap { cells = sum }
 
--- the heap with this many bytes of strings charged
-abbrev pub with_strings : ℕ → Heap → Heap
-with_strings sum heap = record heap { strings = sum }
-
--- the heap of no texts and no structures, but `&main`, which has given nothing
+-- the heap of no texts, structures and opened files, but `&main`, which has given nothing
 abbrev pub empty_heap : Bounds → Heap
 empty_heap bounds = record {
   lists = [];
@@ -35,6 +31,7 @@ empty_heap bounds = record {
   tables = [];
   records = [];
   coexps = 0 ∷ [];
+  files = [];
   strings = 0;
   cells = 0;
   bounds = bounds;

@@ -5,17 +5,18 @@ use Rattle.std.specs.Coded.{Unit-prop}
 use Rattle.std.proofs.Props.{props}
 use Rattle.icn_value.specs.declared.cset.Cset.{Cset}
 use Rattle.icn_value.specs.declared.val.File.{File as StdFile}
-use Rattle.icn_value.specs.declared.val.File.TheVariants.{Input as StdInput, Output as StdOutput, Errout as StdErrout}
-use Rattle.icn_value.specs.Values.{File, Input, Output, Errout, Value, Null as NullValue, Integer as IntegerValue, Text as TextValue, Chars as CharsValue, Std as StdValue, Procedure, ARecord, AList, ASet, ATable, ACoexp}
+use Rattle.icn_value.specs.declared.val.File.TheVariants.{Input as StdInput, Output as StdOutput, Errout as StdErrout, Opened as StdOpened}
+use Rattle.icn_value.specs.Values.{File, Input, Output, Errout, Opened, Value, Null as NullValue, Integer as IntegerValue, Text as TextValue, Chars as CharsValue, Std as StdValue, Procedure, ARecord, AList, ASet, ATable, ACoexp}
 use Rattle.icn_value.specs.Members.{members_of}
 use Rattle.icn_heap.specs.declared.key.Key.{Key}
 use Rattle.icn_heap.specs.declared.key.Key.TheVariants.{Null, Integer, Text, Chars, Std, Proc, Rec, List as ListKey, Set, Table, Coexp}
 
--- a standard file
+-- a file, as definitions see it
 abbrev pub file_of : StdFile → File
 file_of StdInput = Input
 file_of StdOutput = Output
 file_of StdErrout = Errout
+file_of (StdOpened number) = Opened number
 
 -- the value that a key stands for
 abbrev pub key_value : Key → Value

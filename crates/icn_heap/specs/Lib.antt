@@ -2,6 +2,7 @@ pub mod Keys
 pub mod KeyTests
 pub mod Extents
 pub mod Records
+pub mod FileEntries
 pub mod HeapParts
 pub mod Heaps
 pub mod RegionRefusals

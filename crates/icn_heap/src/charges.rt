@@ -3,9 +3,9 @@ use crate::heap::Heap;
 use icn_value::Full;
 
 impl Heap {
-    ghost use Rattle.std.specs.Prelude.{◌≡◌, ◌+◌, ◌≤◌, ◌<◌, ◌^◌, MatchResult, IfOk, IfErr, OnOk, Ok, Err, if◌then◌else◌};
-    ghost use Rattle.icn_value.specs.Changes.{charged_cells, charged_strings, charged_unless};
-    ghost use Rattle.icn_heap.specs.Heaps.{heap_of, with_cells, with_strings};
+    ghost use Rattle.std.specs.Prelude.{◌≡◌, ◌+◌, ◌≤◌, MatchResult, IfOk, IfErr, OnOk, Ok, Err, if◌then◌else◌};
+    ghost use Rattle.icn_value.specs.Changes.{charged_cells, charged_unless};
+    ghost use Rattle.icn_heap.specs.Heaps.{heap_of, with_cells};
 
     /// Whether so many cells may be charged at once, and why they may not. It charges nothing and takes no memory.
     ///
@@ -22,29 +22,6 @@ impl Heap {
             return Err(Full::Cells {
                 sum: self.cells,
                 limit: self.limits.cells,
-            });
-        }
-        Ok(())
-    }
-
-    /// Whether a text of so many bytes may be charged, and why it may not. It charges nothing and takes no memory.
-    ///
-    /// A caller that knows how long a text will be looks here before it makes the text, so that one for which no room is left is refused
-    /// and never made.
-    #[tactic(auto, unfolding(crate::specs::Heaps::heap_of))]
-    pub fn room_for_bytes(&self, bytes: u64) -> Result<(), Full>
-        ensures answer { MatchResult result (λ _. charged_strings (heap_of self.now) bytes
-            ≡ Ok (with_strings ((heap_of self.now).strings + bytes) (heap_of self.now)))
-            (λ full. charged_strings (heap_of self.now) bytes ≡ Err full) }
-        ensures within { OnOk result
-            ((heap_of self.now).strings + bytes ≤ (heap_of self.now).bounds.strings) }
-        ensures bits { (heap_of self.now).bounds.strings < 2 ^ 64 }
-    {
-        let room = self.strings.room();
-        if bytes > room {
-            return Err(Full::Strings {
-                sum: self.limits.strings - room,
-                limit: self.limits.strings,
             });
         }
         Ok(())

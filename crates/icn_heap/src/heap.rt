@@ -4,13 +4,14 @@ ghost use Rattle.icn_heap.specs.HeapParts.{parts, IsSoundHeap, IsSound-prop};
 use crate::counts::add_count;
 use crate::entries::Entries;
 use crate::fields::Fields;
+use crate::file_entries::FileEntry;
 use crate::members::MemberMap;
 use icn_strings::Region;
 use icn_structs::Deque;
 use icn_value::{Limits, Val};
 use std::alloc::{AllocError, Global};
 
-/// The strings and structures of a program, and what is charged for them.
+/// The strings and structures of a program, the files that it opened, and what is charged for them.
 ///
 /// What a value stands for is the same from then on, whatever is made beside it. Nothing is given back.
 #[derive(Drop)]
@@ -22,11 +23,12 @@ pub struct Heap {
     pub(crate) tables: Vec<Entries>,
     pub(crate) records: Vec<Fields>,
     pub(crate) coexps: Vec<u64>,
+    pub(crate) files: Vec<FileEntry>,
     pub(crate) cells: u64,
     pub(crate) limits: Limits,
     ghost sound: { IsSoundHeap (parts strings
-        lists.items sets.items tables.items records.items coexps.items cells limits) } by { IsSound-prop
-            (parts strings lists.items sets.items tables.items records.items coexps.items cells limits) },
+        lists.items sets.items tables.items records.items coexps.items files.items cells limits) } by { IsSound-prop
+            (parts strings lists.items sets.items tables.items records.items coexps.items files.items cells limits) },
 }
 
 impl Heap {
@@ -34,7 +36,7 @@ impl Heap {
     ghost use Rattle.icn_value.specs.Limited.{limits_of};
     ghost use Rattle.icn_heap.specs.Heaps.{heap_of, empty_heap};
 
-    /// A heap without strings and structures, but for `&main`, which is co-expression 0. The error is want of memory.
+    /// A heap without strings, structures and opened files, but for `&main`, which is co-expression 0. The error is want of memory.
     #[tactic(auto, unfolding(crate::specs::Heaps::heap_of))]
     pub fn new(alloc: Global, limits: Limits) -> Result<Heap, AllocError>
         ensures { IfOk result (λ heap. heap_of heap ≡ empty_heap (limits_of limits)) }
@@ -49,6 +51,7 @@ impl Heap {
             tables: Vec::new(alloc),
             records: Vec::new(alloc),
             coexps,
+            files: Vec::new(alloc),
             cells: 0,
             limits,
         })

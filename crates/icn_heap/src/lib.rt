@@ -1,4 +1,4 @@
-//! The heap: the strings and structures of a program, and what is charged for them.
+//! The heap: the strings and structures of a program, the files that it opened, and what is charged for them.
 #![tactic(auto)]
 
 mod charges;
@@ -9,6 +9,8 @@ mod deques;
 mod elements;
 mod entries;
 mod fields;
+mod file_entries;
+mod files;
 mod heap;
 mod heap_laws;
 mod key;
@@ -22,9 +24,11 @@ mod spans;
 mod tables;
 mod texts;
 
+pub use file_entries::FileEntry;
 pub use heap::Heap;
 pub use heap_laws::{
     empty_text, few_coexps, keys_differ, length_of_text, live_numbers, made_differ, main_is_live,
     members_differ, short_text, strings_within_limit, within_limit,
 };
 pub use icn_value::Full;
+pub use spans::as_range;

@@ -1,12 +1,14 @@
 // The texts of a heap.
 use crate::heap::Heap;
 use crate::spans::{as_range, full_of, span_of};
-use icn_strings::{ByteRange, end_of_range, length_of_bytes, part_of_range};
+use icn_strings::{ByteRange, StringPiece, end_of_range, length_of_bytes, part_of_range};
 use icn_value::{Full, Span};
 use std::alloc::AllocError;
 
 impl Heap {
     ghost use Rattle.std.specs.Prelude.{◌≡◌, ◌+◌, ◌≤◌, ◌++◌, take, drop, length, MatchResult, IfOk, OnErr, Ok};
+    ghost use Rattle.std.specs.List.{All};
+    ghost use Rattle.icn_strings.specs.Pieces.{IsPieceIn, made_of};
     ghost use Rattle.icn_value.specs.Changes.{charged_strings, Refuses, LimitsFirst};
     ghost use Rattle.icn_heap.specs.Extents.{IsText, text_in, KeepsValues};
     ghost use Rattle.icn_heap.specs.Heaps.{extent_of, heap_of};
@@ -23,6 +25,29 @@ impl Heap {
         ensures unchanged { OnErr result (heap_of self.new ≡ heap_of self.old) }
     {
         match self.strings.build(bytes) {
+            Ok(range) => Ok(span_of(range)),
+            Err(full) => Err(full_of(full)),
+        }
+    }
+
+    /// Makes a text of some pieces, one behind the other, and charges it. The error is the limit that refuses the charge, or
+    /// else want of memory; the heap is then as it was.
+    #[tactic(auto, unfolding(crate::specs::Heaps::extent_of))]
+    pub fn build_of(&mut self, pieces: &[StringPiece]) -> Result<Span, Full>
+        requires { All (IsPieceIn (extent_of self.old).strings) pieces.now }
+        ensures live { IfOk result (IsText (extent_of self.new)) }
+        ensures bytes { IfOk result
+            (λ span. text_in (extent_of self.new) span ≡ made_of (extent_of self.old).strings pieces.now) }
+        ensures step { MatchResult result (λ _. charged_strings (heap_of self.old)
+            (length (made_of (extent_of self.old).strings pieces.now)) ≡ Ok (heap_of self.new))
+            (Refuses (charged_strings (heap_of self.old)
+            (length (made_of (extent_of self.old).strings pieces.now)))) }
+        ensures limits { LimitsFirst (charged_strings (heap_of self.old)
+            (length (made_of (extent_of self.old).strings pieces.now))) result }
+        ensures kept { KeepsValues (extent_of self.old) (extent_of self.new) }
+        ensures unchanged { OnErr result (heap_of self.new ≡ heap_of self.old) }
+    {
+        match self.strings.build_of(pieces) {
             Ok(range) => Ok(span_of(range)),
             Err(full) => Err(full_of(full)),
         }

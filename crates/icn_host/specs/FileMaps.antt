@@ -10,6 +10,25 @@ use Rattle.std.specs.Str.{bytes_eq}
 abbrev pub FileMap : Type 0
 FileMap = List ℕ → Option (List ℕ)
 
+-- how often a store has failed, has wanted memory, and a file was not there, up to the greatest `u64`
+pub record StoreCounts : Type 0 where
+  pub faults : ℕ
+  pub wants : ℕ
+  pub absences : ℕ
+
+-- a store that has failed, wanted memory and missed a file so often
+abbrev pub store_counts : ℕ → ℕ → ℕ → StoreCounts
+store_counts faults wants absences = record { faults = faults; wants = wants; absences = absences }
+
+-- a store of files: what each name holds, where it tells it, and its counts
+pub record StoreState : Type 0 where
+  pub held : Option FileMap
+  pub counts : StoreCounts
+
+-- a store that holds this, with these counts
+abbrev pub store_state : Option FileMap → StoreCounts → StoreState
+store_state held counts = record { held = held; counts = counts }
+
 -- each file's content is one of bytes
 abbrev pub HoldBytes : FileMap → Type 0
 HoldBytes files = (name bytes : List ℕ) → files name ≡ Some bytes → All (λ byte. byte < 256) bytes

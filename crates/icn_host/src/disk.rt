@@ -1,7 +1,7 @@
 // The files of a file system as a store.
 ghost use Rattle.std.specs.Prelude.{◌≡◌, ◌+◌, ◌≤◌, IfOk, IfSome, IsNone, OnOk, OnErr, IsErrOf, vec_len};
 ghost use Rattle.icn_host.specs.Buffers.{Extends};
-ghost use Rattle.icn_host.specs.FileMaps.{NotHeld, Reads, ReadsPart, TellsFile};
+ghost use Rattle.icn_host.specs.FileMaps.{NotHeld, Reads, ReadsPart, TellsFile, store_counts, store_state};
 ghost use Rattle.icn_host.specs.Readers.{ReadsFirst, ReadsFirstPart};
 
 use crate::fault::{Fault, ReadFailure};
@@ -34,10 +34,10 @@ pub struct DiskFiles<S> {
 impl<S: FileSystem> DiskFiles<S> {
     /// The files of this system. None is opened yet.
     pub fn new(alloc: Global, system: S) -> Self
-        ensures held { ⟦<DiskFiles<S> as Files>⟧.held result ≡ S.held system }
-        ensures faults { ⟦<DiskFiles<S> as Files>⟧.faults result ≡ 0 }
-        ensures wants { ⟦<DiskFiles<S> as Files>⟧.wants result ≡ 0 }
-        ensures absences { ⟦<DiskFiles<S> as Files>⟧.absences result ≡ 0 }
+        ensures held { (⟦<DiskFiles<S> as Files>⟧.state result).held ≡ S.held system }
+        ensures faults { (⟦<DiskFiles<S> as Files>⟧.state result).counts.faults ≡ 0 }
+        ensures wants { (⟦<DiskFiles<S> as Files>⟧.state result).counts.wants ≡ 0 }
+        ensures absences { (⟦<DiskFiles<S> as Files>⟧.state result).counts.absences ≡ 0 }
     {
         DiskFiles {
             alloc,
@@ -112,13 +112,7 @@ fn open<S: FileSystem>(system: &mut S, name: &str) -> Result<Option<S::Reader>, 
 }
 
 impl<S: FileSystem> Files for DiskFiles<S> {
-    ghost held = { λ s. S.held s.system };
-
-    ghost faults = { λ s. s.faults };
-
-    ghost wants = { λ s. s.wants };
-
-    ghost absences = { λ s. s.absences };
+    ghost state = { λ s. store_state (S.held s.system) (store_counts s.faults s.wants s.absences) };
 
     fn read(&mut self, name: &str, most: u64, into: &mut Vec<u8>) -> Result<(), ReadFailure> {
         let result = read_file(&mut self.system, name, most, into);

@@ -2,7 +2,7 @@
 ghost use Rattle.std.specs.Prelude.{◌≡◌, ◌+◌, ◌≤◌, ◌↔◌, drop, length, Some, OnOk, OnErr, IfOk, IsErrOf, vec_len};
 ghost use Rattle.icn_host.specs.Buffers.{Extends};
 ghost use Rattle.icn_host.specs.Counts.{CountsOnce, one_more};
-ghost use Rattle.icn_host.specs.FileMaps.{file_map, Reads, ReadsPart, NotHeld, SetsFile, SetsPart};
+ghost use Rattle.icn_host.specs.FileMaps.{file_map, Reads, ReadsPart, NotHeld, SetsFile, SetsPart, store_counts, store_state};
 ghost use Rattle.icn_host.specs.Sinks.{Gains, GainsPart, sink_state};
 ghost use Rattle.icn_host.specs.Sources.{ExtendsByLine, source_counts, TakesLine, TakesLinePart, TakesFirst, TakesFirstPart};
 
@@ -222,10 +222,10 @@ impl MemFiles {
     /// A store of these files. `failing` has the numbers, from 0, of the calls that fail: those of `read` and of
     /// `write` are counted together.
     pub fn new(alloc: Global, start: StoredFiles, failing: Vec<u64>) -> Self
-        ensures held { ⟦<MemFiles as Files>⟧.held result ≡ Some (file_map start) }
-        ensures faults { ⟦<MemFiles as Files>⟧.faults result ≡ 0 }
-        ensures wants { ⟦<MemFiles as Files>⟧.wants result ≡ 0 }
-        ensures absences { ⟦<MemFiles as Files>⟧.absences result ≡ 0 }
+        ensures held { (⟦<MemFiles as Files>⟧.state result).held ≡ Some (file_map start) }
+        ensures faults { (⟦<MemFiles as Files>⟧.state result).counts.faults ≡ 0 }
+        ensures wants { (⟦<MemFiles as Files>⟧.state result).counts.wants ≡ 0 }
+        ensures absences { (⟦<MemFiles as Files>⟧.state result).counts.absences ≡ 0 }
         ensures plan { files_plan result ≡ first_plan failing.items }
     {
         MemFiles {
@@ -240,7 +240,7 @@ impl MemFiles {
 
     /// The files that it holds, by their names.
     pub fn content(&self) -> &StoredFiles
-        ensures { ⟦<MemFiles as Files>⟧.held self.now ≡ Some (file_map result.now) }
+        ensures { (⟦<MemFiles as Files>⟧.state self.now).held ≡ Some (file_map result.now) }
     {
         &self.files
     }
@@ -249,29 +249,25 @@ impl MemFiles {
 impl Files for MemFiles {
     ghost use Rattle.icn_host.specs.Plans.{files_plan, later_plan, FailsNext};
 
-    ghost held = { λ s. Some (file_map s.files) };
-
-    ghost faults = { λ s. s.faults };
-
-    ghost wants = { λ s. s.wants };
-
-    ghost absences = { λ s. s.absences };
+    ghost state = { λ s. store_state (Some (file_map s.files)) (store_counts s.faults s.wants s.absences) };
 
     fn read(&mut self, name: &str, most: u64, into: &mut Vec<u8>) -> Result<(), ReadFailure>
         ensures ok { OnOk result
-            (Reads (⟦<MemFiles as Files>⟧.held self.old) name.now (most + 1) into.old.items into.new.items) }
+            (Reads (⟦<MemFiles as Files>⟧.state self.old).held name.now (most + 1) into.old.items
+            into.new.items) }
         ensures within { vec_len into.new ≤ vec_len into.old + (most + 1) }
         ensures kept { Extends into.old.items into.new.items }
         ensures err { OnErr result (into.new.items ≡ into.old.items) }
         ensures absent { IsErrOf result ReadFailure.NotThere
-            → NotHeld (⟦<MemFiles as Files>⟧.held self.old) name.now }
-        ensures same { ⟦<MemFiles as Files>⟧.held self.new ≡ ⟦<MemFiles as Files>⟧.held self.old }
-        ensures cause { CountsOnce (⟦<MemFiles as Files>⟧.faults self.old)
-            (⟦<MemFiles as Files>⟧.faults self.new) (IsErrOf result ReadFailure.Failed) }
-        ensures want { CountsOnce (⟦<MemFiles as Files>⟧.wants self.old)
-            (⟦<MemFiles as Files>⟧.wants self.new) (IsErrOf result ReadFailure.NoMemory) }
-        ensures absence { CountsOnce (⟦<MemFiles as Files>⟧.absences self.old)
-            (⟦<MemFiles as Files>⟧.absences self.new) (IsErrOf result ReadFailure.NotThere) }
+            → NotHeld (⟦<MemFiles as Files>⟧.state self.old).held name.now }
+        ensures same { (⟦<MemFiles as Files>⟧.state self.new).held
+            ≡ (⟦<MemFiles as Files>⟧.state self.old).held }
+        ensures cause { CountsOnce (⟦<MemFiles as Files>⟧.state self.old).counts.faults
+            (⟦<MemFiles as Files>⟧.state self.new).counts.faults (IsErrOf result ReadFailure.Failed) }
+        ensures want { CountsOnce (⟦<MemFiles as Files>⟧.state self.old).counts.wants
+            (⟦<MemFiles as Files>⟧.state self.new).counts.wants (IsErrOf result ReadFailure.NoMemory) }
+        ensures absence { CountsOnce (⟦<MemFiles as Files>⟧.state self.old).counts.absences
+            (⟦<MemFiles as Files>⟧.state self.new).counts.absences (IsErrOf result ReadFailure.NotThere) }
         ensures fails { IsErrOf result ReadFailure.Failed ↔ FailsNext (files_plan self.old) }
         ensures plan { files_plan self.new ≡ later_plan (files_plan self.old) }
     {
@@ -289,18 +285,19 @@ impl Files for MemFiles {
     }
 
     fn write(&mut self, name: &str, bytes: &[u8]) -> Result<(), Fault>
-        ensures ok { OnOk result (SetsFile (⟦<MemFiles as Files>⟧.held self.old)
-            (⟦<MemFiles as Files>⟧.held self.new) name.now bytes.now) }
-        ensures err { OnErr result (SetsPart (⟦<MemFiles as Files>⟧.held self.old)
-            (⟦<MemFiles as Files>⟧.held self.new) name.now bytes.now) }
-        ensures cause { CountsOnce (⟦<MemFiles as Files>⟧.faults self.old)
-            (⟦<MemFiles as Files>⟧.faults self.new) (IsErrOf result Fault.Failed) }
-        ensures want { CountsOnce (⟦<MemFiles as Files>⟧.wants self.old)
-            (⟦<MemFiles as Files>⟧.wants self.new) (IsErrOf result Fault.NoMemory) }
-        ensures absences { ⟦<MemFiles as Files>⟧.absences self.new ≡ ⟦<MemFiles as Files>⟧.absences self.old }
+        ensures ok { OnOk result (SetsFile (⟦<MemFiles as Files>⟧.state self.old).held
+            (⟦<MemFiles as Files>⟧.state self.new).held name.now bytes.now) }
+        ensures err { OnErr result (SetsPart (⟦<MemFiles as Files>⟧.state self.old).held
+            (⟦<MemFiles as Files>⟧.state self.new).held name.now bytes.now) }
+        ensures cause { CountsOnce (⟦<MemFiles as Files>⟧.state self.old).counts.faults
+            (⟦<MemFiles as Files>⟧.state self.new).counts.faults (IsErrOf result Fault.Failed) }
+        ensures want { CountsOnce (⟦<MemFiles as Files>⟧.state self.old).counts.wants
+            (⟦<MemFiles as Files>⟧.state self.new).counts.wants (IsErrOf result Fault.NoMemory) }
+        ensures absences { (⟦<MemFiles as Files>⟧.state self.new).counts.absences
+            ≡ (⟦<MemFiles as Files>⟧.state self.old).counts.absences }
         ensures fails { IsErrOf result Fault.Failed ↔ FailsNext (files_plan self.old) }
         ensures same { OnErr result
-            (⟦<MemFiles as Files>⟧.held self.new ≡ ⟦<MemFiles as Files>⟧.held self.old) }
+            ((⟦<MemFiles as Files>⟧.state self.new).held ≡ (⟦<MemFiles as Files>⟧.state self.old).held) }
         ensures plan { files_plan self.new ≡ later_plan (files_plan self.old) }
     {
         if self.failing.fails_now() {

@@ -24,7 +24,7 @@ impl<R: rt::Files> RuntimeFiles<R> {
 }
 
 // Nothing is there, or the system can hold no file under the name: it names a folder, a folder on its way is none, it is too
-// long, or it has a byte 0.
+// long, or it has a byte 0; or what is there may not be opened.
 fn names_no_file(kind: ErrorKind) -> bool {
     matches!(
         kind,
@@ -32,6 +32,7 @@ fn names_no_file(kind: ErrorKind) -> bool {
             | ErrorKind::NotADirectory
             | ErrorKind::InvalidFilename
             | ErrorKind::InvalidInput
+            | ErrorKind::PermissionDenied
     )
 }
 

@@ -1,6 +1,6 @@
 // Objects over memory that never fail.
 ghost use Rattle.std.specs.Prelude.{◌≡◌, ◌≤◌, drop, length, Some};
-ghost use Rattle.icn_host.specs.FileMaps.{file_map};
+ghost use Rattle.icn_host.specs.FileMaps.{file_map, store_counts, store_state};
 ghost use Rattle.icn_host.specs.Sinks.{sink_state};
 ghost use Rattle.icn_host.specs.Sources.{source_counts};
 
@@ -67,8 +67,8 @@ pub struct SureFiles {
 impl SureFiles {
     /// A store of these files.
     pub fn new(alloc: Global, start: StoredFiles) -> Self
-        ensures held { ⟦<SureFiles as Files>⟧.held result ≡ Some (file_map start) }
-        ensures absences { ⟦<SureFiles as Files>⟧.absences result ≡ 0 }
+        ensures held { (⟦<SureFiles as Files>⟧.state result).held ≡ Some (file_map start) }
+        ensures absences { (⟦<SureFiles as Files>⟧.state result).counts.absences ≡ 0 }
     {
         SureFiles {
             alloc,
@@ -80,20 +80,14 @@ impl SureFiles {
 
     /// The files that it holds, by their names.
     pub fn content(&self) -> &StoredFiles
-        ensures { ⟦<SureFiles as Files>⟧.held self.now ≡ Some (file_map result.now) }
+        ensures { (⟦<SureFiles as Files>⟧.state self.now).held ≡ Some (file_map result.now) }
     {
         &self.files
     }
 }
 
 impl Files for SureFiles {
-    ghost held = { λ s. Some (file_map s.files) };
-
-    ghost faults = { λ _. 0 };
-
-    ghost wants = { λ s. s.wants };
-
-    ghost absences = { λ s. s.absences };
+    ghost state = { λ s. store_state (Some (file_map s.files)) (store_counts 0 s.wants s.absences) };
 
     fn read(&mut self, name: &str, most: u64, into: &mut Vec<u8>) -> Result<(), ReadFailure> {
         let result = look(&self.files, name, most, into);

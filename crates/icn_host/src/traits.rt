@@ -4,7 +4,7 @@ ghost use Rattle.std.specs.Io.KnownBytes.{Keeps};
 ghost use Rattle.icn_host.specs.Buffers.{Extends};
 ghost use Rattle.icn_host.specs.Counts.{CountsOnce, one_more};
 ghost use Rattle.icn_host.specs.Sinks.{Gains, GainsPart, SinkState, StaysSettled};
-ghost use Rattle.icn_host.specs.FileMaps.{Reads, ReadsPart, NotHeld, SetsFile, SetsPart, FileMap};
+ghost use Rattle.icn_host.specs.FileMaps.{Reads, ReadsPart, NotHeld, SetsFile, SetsPart, StoreState};
 ghost use Rattle.icn_host.specs.Sources.{ExtendsByLine, SourceCounts, TakesLine, TakesLinePart, TakesFirst, TakesFirstPart};
 
 use crate::fault::{Fault, LineEnd, ReadFailure};
@@ -92,47 +92,44 @@ pub trait Sink {
 
 /// Files by their names.
 pub trait Files {
-    /// What each name holds, where the store tells it.
-    ghost held: { Self → Option FileMap };
-
-    /// How often it has failed, up to the greatest `u64`.
-    ghost faults: { Self → ℕ };
-
-    /// How often it has wanted memory, up to the greatest `u64`.
-    ghost wants: { Self → ℕ };
-
-    /// How often a file was not there, up to the greatest `u64`.
-    ghost absences: { Self → ℕ };
+    /// What each name holds, where the store tells it; how often it has failed and has wanted memory, and how often a file was not
+    /// there, up to the greatest `u64`.
+    ghost state: { Self → StoreState };
 
     /// Appends the first `most + 1` bytes of a file, or all of it, so that the caller sees by the length whether it is
     /// longer than `most`. After an `Err` a part of them was appended. It is `NotThere` where there is no such file,
     /// `Failed` where the store failed, or `NoMemory`.
     fn read(&mut self, name: &str, most: u64, into: &mut Vec<u8>) -> Result<(), ReadFailure>
-        ensures ok { OnOk result (Reads (held self.old) name.now (most + 1) into.old.items into.new.items) }
+        ensures ok { OnOk result
+            (Reads (state self.old).held name.now (most + 1) into.old.items into.new.items) }
         ensures err { OnErr result
-            (ReadsPart (held self.old) name.now (most + 1) into.old.items into.new.items) }
+            (ReadsPart (state self.old).held name.now (most + 1) into.old.items into.new.items) }
 
         // Whatever comes of the call, the buffer begins with what it had, and at most so many bytes came to it.
         ensures kept { Extends into.old.items into.new.items }
         ensures within { vec_len into.new ≤ vec_len into.old + (most + 1) }
 
         // A file that is not there gives nothing.
-        ensures absent { IsErrOf result ReadFailure.NotThere → NotHeld (held self.old) name.now }
+        ensures absent { IsErrOf result ReadFailure.NotThere → NotHeld (state self.old).held name.now }
         ensures nothing { IsErrOf result ReadFailure.NotThere → into.new.items ≡ into.old.items }
-        ensures same { held self.new ≡ held self.old }
-        ensures cause { CountsOnce (faults self.old) (faults self.new) (IsErrOf result ReadFailure.Failed) }
-        ensures want { CountsOnce (wants self.old) (wants self.new) (IsErrOf result ReadFailure.NoMemory) }
-        ensures absence { CountsOnce (absences self.old) (absences self.new)
+        ensures same { (state self.new).held ≡ (state self.old).held }
+        ensures cause { CountsOnce (state self.old).counts.faults (state self.new).counts.faults
+            (IsErrOf result ReadFailure.Failed) }
+        ensures want { CountsOnce (state self.old).counts.wants (state self.new).counts.wants
+            (IsErrOf result ReadFailure.NoMemory) }
+        ensures absence { CountsOnce (state self.old).counts.absences (state self.new).counts.absences
             (IsErrOf result ReadFailure.NotThere) };
 
     /// Sets the whole content of a file. After an `Err` the name is absent, holds what it held, or holds a part of the new
     /// bytes from their start. Each other name stays. It is `Failed` where the store failed, or `NoMemory`.
     fn write(&mut self, name: &str, bytes: &[u8]) -> Result<(), Fault>
-        ensures ok { OnOk result (SetsFile (held self.old) (held self.new) name.now bytes.now) }
-        ensures err { OnErr result (SetsPart (held self.old) (held self.new) name.now bytes.now) }
-        ensures cause { CountsOnce (faults self.old) (faults self.new) (IsErrOf result Fault.Failed) }
-        ensures want { CountsOnce (wants self.old) (wants self.new) (IsErrOf result Fault.NoMemory) }
+        ensures ok { OnOk result (SetsFile (state self.old).held (state self.new).held name.now bytes.now) }
+        ensures err { OnErr result (SetsPart (state self.old).held (state self.new).held name.now bytes.now) }
+        ensures cause { CountsOnce (state self.old).counts.faults (state self.new).counts.faults
+            (IsErrOf result Fault.Failed) }
+        ensures want { CountsOnce (state self.old).counts.wants (state self.new).counts.wants
+            (IsErrOf result Fault.NoMemory) }
 
         // No look-up is made.
-        ensures absences { absences self.new ≡ absences self.old };
+        ensures absences { (state self.new).counts.absences ≡ (state self.old).counts.absences };
 }

@@ -1,6 +1,7 @@
 // The table of globals.
 ghost use Rattle.std.specs.Prelude.{◌≡◌, [], IfOk, slice_index_or};
 ghost use Rattle.icn_code.specs.Rules.{name_of};
+ghost use Rattle.icn_defs.specs.Numbers.{func_of};
 ghost use Rattle.icn_tree.specs.NameSets.{has, none_met, with_name};
 ghost use Rattle.icn_image.specs.Readers.{Gives};
 ghost use Rattle.icn_image.specs.Reading.{func_start, global_at, globals_at, globals_from, new_name_at, start_at, start_of};
@@ -14,20 +15,29 @@ use icn_defs::func_numbered;
 use icn_tree::{Bytes, NameSet, Rule};
 use std::alloc::Global;
 
+// The function of a number.
+fn function_start(number: u32) -> Result<Start, ImageFault>
+    ensures { Gives (λ start. start) result (func_start (func_of number)) }
+{
+    match func_numbered(number) {
+        Some(func) => Ok(Start::Function(func)),
+        None => Err(ImageFault::Broken(Rule::I4)),
+    }
+}
+
 // What a global begins with, by its kind up to 3 and its number.
 #[tactic(auto, unfolding(crate::specs::Reading::start_of))]
 fn start_of(records: usize, kind: u8, number: u32) -> Result<Start, ImageFault>
     ensures { Gives (λ start. start) result (start_of records kind number) }
 {
-    let start = match kind {
-        0 if number == 0 => Some(Start::Null),
-        0 => None,
-        1 => Some(Start::Procedure(number)),
-        2 if (number as usize) < records => Some(Start::Record(number)),
-        2 => None,
-        _ => func_numbered(number).map(Start::Function),
-    };
-    start.ok_or(ImageFault::Broken(Rule::I4))
+    match kind {
+        0 if number == 0 => Ok(Start::Null),
+        0 => Err(ImageFault::Broken(Rule::I4)),
+        1 => Ok(Start::Procedure(number)),
+        2 if (number as usize) < records => Ok(Start::Record(number)),
+        2 => Err(ImageFault::Broken(Rule::I4)),
+        _ => function_start(number),
+    }
 }
 
 #[tactic(auto, unfolding(crate::specs::Reading::start_at))]

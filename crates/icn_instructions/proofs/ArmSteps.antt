@@ -51,6 +51,7 @@ unless_both (Err (Halts.Error number offending)) P Q R f h k = f h k
 unless_both (Err (Halts.Ends status)) P Q R f h k = tt
 unless_both (Err Halts.ReadFault) P Q R f h k = tt
 unless_both (Err Halts.WriteFault) P Q R f h k = tt
+unless_both (Err Halts.FileFault) P Q R f h k = tt
 unless_both (Err Halts.NoMemory) P Q R f h k = tt
 
 pub error_is_not_ok : (A : Type 0) {E : Type 0} (e : E) → (let r : Result A E = Err e in IsOk r) → ⊥

@@ -15,7 +15,7 @@ use Rattle.icn_code.specs.declared.instr.Instr.{Instr}
 use Rattle.icn_code.specs.Codes.{Tables}
 use Rattle.icn_run.specs.Rows.{Done}
 use Rattle.icn_run.specs.Stacks.{Frames, flat}
-use Rattle.icn_run.specs.Step.{State, Store, running, failing, errs, over, stuck, all_names, instruction, is_main, with_world}
+use Rattle.icn_run.specs.Step.{State, Store, running, failing, errs, over_with, stuck, all_names, instruction, is_main, with_world}
 use Rattle.icn_control.specs.LiveStacks.{IsLiveStack}
 use Rattle.icn_control.specs.Machines.{store_in, running_of, AreLiveStacks, IsLiveRunning, ComesTo, HaltsAt, StandsAt}
 use Rattle.icn_control.specs.declared.machine.Machine.{Machine}
@@ -83,7 +83,7 @@ module _ {K : Type 0} (m : Machine K) (tables : Tables) (outside : Outside) (w :
   world_stands state RunStates.Failing h o = h ∙ moved failing
   world_stands state RunStates.Hopping h o = absurd h
   world_stands state RunStates.Over h o =
-      let F : Bool → State Frames Frames = λ x. if x then over Done outside else stuck in
+      let F : Bool → State Frames Frames = λ x. if x then over_with Done (world_of m.world) outside else stuck in
       h ∙ ap F (ap is_main (o refl))
   world_stands state RunStates.AtBound h o = absurd h
 
@@ -93,6 +93,7 @@ module _ {K : Type 0} (m : Machine K) (tables : Tables) (outside : Outside) (w :
   world_halts state (Halts.Ends status) h = absurd h
   world_halts state Halts.ReadFault h = absurd h
   world_halts state Halts.WriteFault h = absurd h
+  world_halts state Halts.FileFault h = absurd h
   world_halts state Halts.NoMemory h = tt
 
 -- what comes of an instruction that touches the stack and the world alone
@@ -109,7 +110,7 @@ world_comes m tables elsewhere outside w table f n instr (Ok stage) t kept live 
     let there : Store Frames = store_was tables elsewhere w table m in
     let here : Store Frames = store_was tables outside w table m in
     let main : stage ≡ RunStates.Over → table.active ≡ 0
-    = λ e. over_is_main table.active elsewhere (instruction_state all tables instr f there)
+    = λ e. over_is_main table.active (over_with Done (world_of m.world) elsewhere) (instruction_state all tables instr f there)
     (subst (λ (z : RunState). StandsWith (instruction_state all tables instr f there) there m.world n z) e (h there refl))
     (done_lacks tables all table f instr there r d) in
     subst (λ (s : State Frames Frames). StandsAt tables outside s m stage) (sym (done_is tables all table f instr here r))
@@ -133,6 +134,7 @@ world_stack m tables instr w f v n (Err (Halts.Error number offending)) st e p h
 world_stack m tables instr w f v n (Err (Halts.Ends status)) st e p h = tt
 world_stack m tables instr w f v n (Err Halts.ReadFault) st e p h = tt
 world_stack m tables instr w f v n (Err Halts.WriteFault) st e p h = tt
+world_stack m tables instr w f v n (Err Halts.FileFault) st e p h = tt
 world_stack m tables instr w f v n (Err Halts.NoMemory) st e p h = tt
 
 -- A world that keeps what it may name, and its counts

@@ -1,9 +1,9 @@
 -- How puts on files add up to what a line puts.
 use Rattle.std.proofs.Common.{◌≡◌, ◌∙◌, refl, sym, ap, subst, ℕ, zero, suc, Bool, true, false, List, [], ◌∷◌, ◌++◌, inl, inr, ◌≤◌, Result, Ok, Err, append_assoc, append-nil, length, take, Option, arith}
-use Rattle.std.specs.Prelude.{◌&&◌, drop, not, map, OnErr, OnOk, IfErr, IfOk, IsErrOf, IsErrAnd, if◌then◌else◌}
+use Rattle.std.specs.Prelude.{◌&&◌, drop, not, map, slice_get, slice_set, unwrap_or, OnErr, OnOk, IfErr, IfOk, IsErrOf, IsErrAnd, if◌then◌else◌}
 use Rattle.std.specs.List.{All}
 use Rattle.std.proofs.lemmas.List.{map-append}
-use Rattle.std.proofs.lemmas.List.Elements.{All-tail}
+use Rattle.std.proofs.lemmas.List.Elements.{All-head, All-tail}
 use Rattle.icn_host.specs.Counts.{CountsOnce}
 use Rattle.std.specs.Io.KnownBytes.{Appends, Keeps}
 use Rattle.icn_host.specs.Sinks.{SinkState, Gains, GainsPart}
@@ -14,67 +14,117 @@ use Rattle.icn_host.proofs.KeptSteps.{gains_keeps, part_kept}
 use Rattle.icn_value.specs.declared.val.Val.{Val}
 use Rattle.icn_value.specs.declared.val.Val.TheVariants as Vals
 use Rattle.icn_value.specs.declared.val.File.{File as HeldFile}
-use Rattle.icn_value.specs.Values.{File, Input, Output, Errout}
-use Rattle.icn_value.specs.Store.{ErrorByte, Event, Outside, OutputByte, errors_in, output_in, readings_in, with_events}
-use Rattle.icn_defs.specs.InputOutput.{WriteArgument, Puts, Selects, newline, put_on, put_pieces}
+use Rattle.icn_value.specs.Values.{File, Input, Output, Errout, Opened}
+use Rattle.icn_value.specs.Store.{ErrorByte, Event, Heap, OpenedFile, Outside, OutputByte, Setting, errors_in, having_heap, no_file, output_in, readings_in, with_events, writings_in}
+use Rattle.icn_value.specs.Changes.{added_to}
+use Rattle.icn_defs.specs.InputOutput.{WriteArgument, Puts, Selects, having_events, line_put, newline, put_on, put_pieces}
 use Rattle.icn_defs.specs.Interruptions.{ExtendsBy}
-use Rattle.icn_defs.proofs.Interruptions.{bytes_split, errors_of_output, errors_put, errors_read_none, errors_then, extends_by_errors, extends_by_output, extends_itself, extends_then, none_read, output_of_errors, output_put, output_reads_none, output_then}
-use Rattle.icn_heap.specs.Extents.{Extent, IsLive, value_in}
+use Rattle.icn_defs.proofs.Interruptions.{bytes_split, errors_of_output, errors_put, errors_read_none, errors_then, errors_write_none, extends_by_errors, extends_by_output, extends_itself, extends_then, none_read, none_written, output_of_errors, output_put, output_reads_none, output_then, output_writes_none}
+use Rattle.icn_heap.specs.Extents.{Extent, IsLive, KeepsValues, value_in}
+use Rattle.icn_heap.specs.Heaps.{extent_of}
+use Rattle.icn_heap.specs.Keys.{file_of}
+use Rattle.icn_vars.specs.Worlds.{KeepsItems, reach_of, setting_of}
+use Rattle.icn_vars.specs.declared.world.World.{World}
 use Rattle.icn_args.specs.RowWords.{the_text}
 use Rattle.icn_streams.specs.Handed.{KeepsFaultCounts, FailsOnce, LeavesSink, WantsOnce}
 use Rattle.icn_streams.proofs.IdleCalls.{keeps_counts_refl}
-use Rattle.icn_iofn.specs.PutPieces.{HasEffect, BrokenBy, GainsOutputs, GainedPart, IsOneSettled, KeepsBoth, Outputs, PutsBehind, PutsOn, PutsPartBehind, PutsPartOn, StopsEffect, errors_failed, errors_wanted, file_after, line_put, output_failed, output_wanted, other_failed, other_wanted, outputs, piece_in, pieces_in, put_failed, put_wanted, text_of_piece, uncounted, waiting_text}
+use Rattle.icn_iofn.specs.PutPieces.{HasEffect, HasPut, BrokenBy, GainsOutputs, GainedPart, IsOneSettled, KeepsBoth, Outputs, PutState, PutsBehind, PutsPartBehind, PutsPartOn, StopsEffect, errors_failed, errors_wanted, file_after, output_failed, output_wanted, other_failed, other_wanted, outputs, piece_in, pieces_in, put_failed, put_setting, put_state, put_wanted, text_of_piece, uncounted, waiting_text}
 
 -- Puts on a file
 
+-- a file that holds this too
+abbrev grown : List ℕ → OpenedFile → OpenedFile
+grown bytes file = record file { content = file.content ++ bytes }
+
+-- the file at a number
+abbrev one_of : List OpenedFile → ℕ → OpenedFile
+one_of files number = unwrap_or (slice_get files number) no_file
+
+content_more : (files : List OpenedFile) (number : ℕ) (a b : List ℕ)
+    → slice_set (slice_set files number (grown a (one_of files number))) number
+    (grown b (one_of (slice_set files number (grown a (one_of files number))) number))
+    ≡ slice_set files number (grown (a ++ b) (one_of files number))
+content_more [] number a b = refl
+content_more (file ∷ files) zero a b = ap (λ (c : List ℕ). let f : OpenedFile = record file { content = c } in f ∷ files) (append_assoc file.content a b)
+content_more (file ∷ files) (suc number) a b = ap (λ (others : List OpenedFile). file ∷ others) (content_more files number a b)
+
+content_same : (files : List OpenedFile) (number : ℕ) → slice_set files number (grown [] (one_of files number)) ≡ files
+content_same [] number = refl
+content_same (file ∷ files) zero = ap (λ (c : List ℕ). let f : OpenedFile = record file { content = c } in f ∷ files) (append-nil file.content)
+content_same (file ∷ files) (suc number) = ap (λ (others : List OpenedFile). file ∷ others) (content_same files number)
+
+-- a setting with another history, or with other opened files
+abbrev having_history : List Event → Setting → Setting
+having_history history s = record s { outside = record s.outside { history = history } }
+
+abbrev having_files : List OpenedFile → Setting → Setting
+having_files files s = having_heap (λ heap. record heap { files = files }) s
+
 -- bytes behind others, whatever they are put on
-put_events_more : (to : ℕ → Event) (a b : List ℕ) (o : Outside) → with_events (map to b) (with_events (map to a) o) ≡ with_events (map to (a ++ b)) o
-put_events_more to a b o = ap (λ (h : List Event). let p : Outside = record o { history = h } in p)
-    (append_assoc o.history (map to a) (map to b) ∙ ap (λ (e : List Event). o.history ++ e) (sym (map-append to a b)))
+put_events_more : (to : ℕ → Event) (a b : List ℕ) (s : Setting) → having_events (map to b) (having_events (map to a) s) ≡ having_events (map to (a ++ b)) s
+put_events_more to a b s = ap (λ (h : List Event). having_history h s)
+    (append_assoc s.outside.history (map to a) (map to b) ∙ ap (λ (e : List Event). s.outside.history ++ e) (sym (map-append to a b)))
 
-pub put_more : (file : File) (a b : List ℕ) (o : Outside) → put_on file b (put_on file a o) ≡ put_on file (a ++ b) o
-put_more Input a b o = refl
-put_more Output a b o = put_events_more OutputByte a b o
-put_more Errout a b o = put_events_more ErrorByte a b o
+pub put_more : (file : File) (a b : List ℕ) (s : Setting) → put_on file b (put_on file a s) ≡ put_on file (a ++ b) s
+put_more Input a b s = refl
+put_more Output a b s = put_events_more OutputByte a b s
+put_more Errout a b s = put_events_more ErrorByte a b s
+put_more (Opened number) a b s = ap (λ (files : List OpenedFile). having_files files s) (content_more s.world.heap.files number a b)
 
-pub put_nothing : (file : File) (o : Outside) → put_on file [] o ≡ o
-put_nothing Input o = refl
-put_nothing Output o = ap (λ (h : List Event). let p : Outside = record o { history = h } in p) (append-nil o.history)
-put_nothing Errout o = ap (λ (h : List Event). let p : Outside = record o { history = h } in p) (append-nil o.history)
+pub put_nothing : (file : File) (s : Setting) → put_on file [] s ≡ s
+put_nothing Input s = refl
+put_nothing Output s = ap (λ (h : List Event). having_history h s) (append-nil s.outside.history)
+put_nothing Errout s = ap (λ (h : List Event). having_history h s) (append-nil s.outside.history)
+put_nothing (Opened number) s = ap (λ (files : List OpenedFile). having_files files s) (content_same s.world.heap.files number)
 
 -- What only grows
 
--- bytes were put behind what was done, and nothing was read
+-- bytes were put behind what was done, and nothing was read or written
 pub record Grows (was now : Outside) : Type 0 where
   pub done : List Event
   pub extends : ExtendsBy was done now
   pub unread : readings_in done ≡ 0
+  pub unwritten : writings_in done ≡ []
 
 pub grows_all : (o : Outside) → Grows o o
-grows_all o = record { done = []; extends = extends_itself o; unread = refl }
+grows_all o = record { done = []; extends = extends_itself o; unread = refl; unwritten = refl }
 
 pub grows_then : {o p q : Outside} → Grows o p → Grows p q → Grows o q
 grows_then {o} {p} {q} first second = record {
   done = first.done ++ second.done;
   extends = extends_then first.extends second.extends;
   unread = none_read first.done second.done first.unread second.unread;
+  unwritten = none_written first.done second.done first.unwritten second.unwritten;
 }
 
-pub grows_on : (file : File) (text : List ℕ) (o : Outside) → Grows o (put_on file text o)
-grows_on Input text o = grows_all o
-grows_on Output text o = record { done = map OutputByte text; extends = extends_by_output text o; unread = output_reads_none text }
-grows_on Errout text o = record { done = map ErrorByte text; extends = extends_by_errors text o; unread = errors_read_none text }
+pub grows_on : (file : File) (text : List ℕ) (s : Setting) → Grows s.outside (put_on file text s).outside
+grows_on Input text s = grows_all s.outside
+grows_on Output text s = record {
+  done = map OutputByte text;
+  extends = extends_by_output text s.outside;
+  unread = output_reads_none text;
+  unwritten = output_writes_none text;
+}
+grows_on Errout text s = record {
+  done = map ErrorByte text;
+  extends = extends_by_errors text s.outside;
+  unread = errors_read_none text;
+  unwritten = errors_write_none text;
+}
+grows_on (Opened number) text s = grows_all s.outside
 
-pub grows_pieces : (end : List ℕ) (is_first : Bool) (parts : List WriteArgument) (file : File) (o : Outside) → Grows o (put_pieces end is_first parts file o).1
-grows_pieces end is_first [] file o = grows_all o
-grows_pieces end is_first (Puts text ∷ parts) file o = grows_then (grows_on file text o) (grows_pieces end false parts file (put_on file text o))
-grows_pieces end is_first (Selects other ∷ parts) file o =
-    grows_then (grows_on file (if is_first then [] else end) o) (grows_pieces end false parts other (put_on file (if is_first then [] else end) o))
+pub grows_pieces : (end : List ℕ) (is_first : Bool) (parts : List WriteArgument) (file : File) (s : Setting)
+    → Grows s.outside (put_pieces end is_first parts file s).1.outside
+grows_pieces end is_first [] file s = grows_all s.outside
+grows_pieces end is_first (Puts text ∷ parts) file s = grows_then (grows_on file text s) (grows_pieces end false parts file (put_on file text s))
+grows_pieces end is_first (Selects other ∷ parts) file s =
+    grows_then (grows_on file (if is_first then [] else end) s) (grows_pieces end false parts other (put_on file (if is_first then [] else end) s))
 
-pub grows_line : (end : List ℕ) (is_first : Bool) (parts : List WriteArgument) (file : File) (o : Outside) → Grows o (line_put end is_first parts file o)
-grows_line end is_first parts file o =
-    let past = put_pieces end is_first parts file o in
-    grows_then (grows_pieces end is_first parts file o) (grows_on (put_pieces end is_first parts file o).0 end (put_pieces end is_first parts file o).1)
+pub grows_line : (end : List ℕ) (is_first : Bool) (parts : List WriteArgument) (file : File) (s : Setting)
+    → Grows s.outside (line_put end is_first parts file s).outside
+grows_line end is_first parts file s =
+    grows_then (grows_pieces end is_first parts file s)
+    (grows_on (put_pieces end is_first parts file s).0 end (put_pieces end is_first parts file s).1)
 
 -- What the outputs gained
 
@@ -105,6 +155,7 @@ gained_all a o = record {
   done = [];
   extends = extends_itself o;
   unread = refl;
+  unwritten = refl;
   output = gains_nothing a.output.held;
   errors = gains_nothing a.errors.held;
 }
@@ -123,6 +174,7 @@ gained_then {a} {b} {c} {o} {p} {q} first second = record {
   done = first.done ++ second.done;
   extends = extends_then first.extends second.extends;
   unread = none_read first.done second.done first.unread second.unread;
+  unwritten = none_written first.done second.done first.unwritten second.unwritten;
   output = output_gained a.output b.output c.output first.done second.done first.output second.output;
   errors = errors_gained a.errors b.errors c.errors first.done second.done first.errors second.errors;
 }
@@ -139,6 +191,7 @@ then_gained_part {a} {b} {c} {o} {p} {q} first second = record {
   due = second.due;
   are = behind_both o.history first.done second.done second.due p.history q.history first.extends.history second.are;
   unread = none_read first.done second.done first.unread second.unread;
+  unwritten = none_written first.done second.done first.unwritten second.unwritten;
   output = output_gained a.output b.output c.output first.done second.done first.output second.output;
   errors = errors_gained a.errors b.errors c.errors first.done second.done first.errors second.errors;
 }
@@ -150,6 +203,7 @@ part_grows {a} {b} {o} {p} {q} part more = record {
   are = more.extends.history ∙ ap (λ (h : List Event). h ++ more.done) part.are ∙ append_assoc o.history (part.done ++ part.due) more.done
       ∙ ap (λ (e : List Event). o.history ++ e) (append_assoc part.done part.due more.done);
   unread = part.unread;
+  unwritten = part.unwritten;
   output = part.output;
   errors = part.errors;
 }
@@ -161,30 +215,33 @@ part_idle a more = record {
   due = more.done;
   are = more.extends.history;
   unread = refl;
+  unwritten = refl;
   output = gains_nothing a.output.held;
   errors = gains_nothing a.errors.held;
 }
 
-gained_by : (file : File) (text : List ℕ) (a b : Outputs) → PutsOn file text a b → (o : Outside) → GainsOutputs a b o (put_on file text o)
-gained_by Input text a b puts o =
-    record { done = []; extends = extends_itself o; unread = refl; output = puts.output; errors = puts.errors }
-gained_by Output text a b puts o = record {
+-- a text that was put on an output
+gained_output : (text : List ℕ) (a b : Outputs) → Gains a.output.held b.output.held text → Gains a.errors.held b.errors.held [] → (o : Outside)
+    → GainsOutputs a b o (with_events (map OutputByte text) o)
+gained_output text a b output errors o = record {
   done = map OutputByte text;
   extends = extends_by_output text o;
   unread = output_reads_none text;
-  output = subst (Gains a.output.held b.output.held) (sym (output_put text)) puts.output;
-  errors = subst (Gains a.errors.held b.errors.held) (sym (errors_of_output text)) puts.errors;
+  unwritten = output_writes_none text;
+  output = subst (Gains a.output.held b.output.held) (sym (output_put text)) output;
+  errors = subst (Gains a.errors.held b.errors.held) (sym (errors_of_output text)) errors;
 }
-gained_by Errout text a b puts o = record {
+
+gained_errors : (text : List ℕ) (a b : Outputs) → Gains a.output.held b.output.held [] → Gains a.errors.held b.errors.held text → (o : Outside)
+    → GainsOutputs a b o (with_events (map ErrorByte text) o)
+gained_errors text a b output errors o = record {
   done = map ErrorByte text;
   extends = extends_by_errors text o;
   unread = errors_read_none text;
-  output = subst (Gains a.output.held b.output.held) (sym (output_of_errors text)) puts.output;
-  errors = subst (Gains a.errors.held b.errors.held) (sym (errors_put text)) puts.errors;
+  unwritten = errors_write_none text;
+  output = subst (Gains a.output.held b.output.held) (sym (output_of_errors text)) output;
+  errors = subst (Gains a.errors.held b.errors.held) (sym (errors_put text)) errors;
 }
-
-pub gained_on : {file : File} {text : List ℕ} {a b : Outputs} → PutsOn file text a b → (o : Outside) → GainsOutputs a b o (put_on file text o)
-gained_on {file} {text} {a} {b} puts o = gained_by file text a b puts o
 
 first_part : {before after : Option (List ℕ)} {text : List ℕ} (part : GainsPart before after text) → Gains before after (take part.count text)
 first_part part = record { appends = part.appends }
@@ -196,38 +253,50 @@ no_part {before} {after} part = record { appends = subst (Appends before after) 
     none zero = refl
     none (suc n) = refl
 
-gained_part_by : (file : File) (text : List ℕ) (a b : Outputs) (fault : Fault) → PutsPartOn file text a b fault → (o : Outside)
-    → GainedPart a b o (put_on file text o)
-gained_part_by Input text a b fault puts o = record {
+gained_part_by : (file : File) (text : List ℕ) (a b : Outputs) (fault : Fault) → PutsPartOn file text a b fault → (s : Setting)
+    → GainedPart a b s.outside (put_on file text s).outside
+gained_part_by Input text a b fault puts s = record {
   done = [];
   due = [];
-  are = sym (append-nil o.history);
+  are = sym (append-nil s.outside.history);
   unread = refl;
+  unwritten = refl;
   output = no_part puts.output;
   errors = no_part puts.errors;
 }
-gained_part_by Output text a b fault puts o =
+gained_part_by Output text a b fault puts s =
     let n = puts.output.count in record {
       done = map OutputByte (take n text);
       due = map OutputByte (drop n text);
-      are = ap (λ (e : List Event). o.history ++ e) (bytes_split OutputByte n text);
+      are = ap (λ (e : List Event). s.outside.history ++ e) (bytes_split OutputByte n text);
       unread = output_reads_none (take n text);
+      unwritten = output_writes_none (take n text);
       output = subst (Gains a.output.held b.output.held) (sym (output_put (take n text))) (first_part puts.output);
       errors = subst (Gains a.errors.held b.errors.held) (sym (errors_of_output (take n text))) (no_part puts.errors);
     }
-gained_part_by Errout text a b fault puts o =
+gained_part_by Errout text a b fault puts s =
     let n = puts.errors.count in record {
       done = map ErrorByte (take n text);
       due = map ErrorByte (drop n text);
-      are = ap (λ (e : List Event). o.history ++ e) (bytes_split ErrorByte n text);
+      are = ap (λ (e : List Event). s.outside.history ++ e) (bytes_split ErrorByte n text);
       unread = errors_read_none (take n text);
+      unwritten = errors_write_none (take n text);
       output = subst (Gains a.output.held b.output.held) (sym (output_of_errors (take n text))) (no_part puts.output);
       errors = subst (Gains a.errors.held b.errors.held) (sym (errors_put (take n text))) (first_part puts.errors);
     }
+gained_part_by (Opened number) text a b fault puts s = record {
+  done = [];
+  due = [];
+  are = sym (append-nil s.outside.history);
+  unread = refl;
+  unwritten = refl;
+  output = no_part puts.output;
+  errors = no_part puts.errors;
+}
 
-pub gained_part_on : {file : File} {text : List ℕ} {a b : Outputs} {fault : Fault} → PutsPartOn file text a b fault → (o : Outside)
-    → GainedPart a b o (put_on file text o)
-gained_part_on {file} {text} {a} {b} {fault} puts o = gained_part_by file text a b fault puts o
+pub gained_part_on : {file : File} {text : List ℕ} {a b : Outputs} {fault : Fault} → PutsPartOn file text a b fault → (s : Setting)
+    → GainedPart a b s.outside (put_on file text s).outside
+gained_part_on {file} {text} {a} {b} {fault} puts s = gained_part_by file text a b fault puts s
 
 -- One put, once the other output is settled
 
@@ -294,23 +363,54 @@ none_gained a b same = gains_keeps (gains_nothing a.held) same
 none_part : (a b : SinkState) → Keeps a.held b.held → GainsPart a.held b.held []
 none_part a b same = part_kept [] same
 
-pub puts_on_output : (r : Result (Unit {0}) Fault) (o o' e e' : SinkState) (file : File) (text : List ℕ) → file ≡ Output
-    → OnOk r (PutsBehind text o o' e e') → OnOk r (PutsOn file text (outputs o e) (outputs o' e'))
-puts_on_output (Ok _) o o' e e' file text is puts = rw is (record {
-  output = puts.gains;
-  errors = none_gained e e' puts.left.held;
-  counts = record { output = puts.counts; errors = puts.left.counts };
-})
-puts_on_output (Err _) o o' e e' file text is puts = tt
+module _ (w : World) (locals : List Val) where
+  pub puts_on_output : (r : Result (Unit {0}) Fault) (o o' e e' : SinkState) (file : File) (text : List ℕ) → file ≡ Output
+      → OnOk r (PutsBehind text o o' e e')
+      → OnOk r ((was : Outside) → HasPut (put_state w locals (outputs o e)) (put_state w locals (outputs o' e')) was (put_on file text))
+  puts_on_output (Ok _) o o' e e' file text is puts = λ was. rw is (record {
+    reached = with_events (map OutputByte text) was;
+    gained = gained_output text (outputs o e) (outputs o' e') puts.gains (none_gained e e' puts.left.held) was;
+    same = refl;
+  })
+  puts_on_output (Err _) o o' e e' file text is puts = tt
 
-pub puts_on_errors : (r : Result (Unit {0}) Fault) (o o' e e' : SinkState) (file : File) (text : List ℕ) → file ≡ Errout
-    → OnOk r (PutsBehind text e e' o o') → OnOk r (PutsOn file text (outputs o e) (outputs o' e'))
-puts_on_errors (Ok _) o o' e e' file text is puts = rw is (record {
-  output = none_gained o o' puts.left.held;
-  errors = puts.gains;
-  counts = record { output = puts.left.counts; errors = puts.counts };
+  pub puts_on_errors : (r : Result (Unit {0}) Fault) (o o' e e' : SinkState) (file : File) (text : List ℕ) → file ≡ Errout
+      → OnOk r (PutsBehind text e e' o o')
+      → OnOk r ((was : Outside) → HasPut (put_state w locals (outputs o e)) (put_state w locals (outputs o' e')) was (put_on file text))
+  puts_on_errors (Ok _) o o' e e' file text is puts = λ was. rw is (record {
+    reached = with_events (map ErrorByte text) was;
+    gained = gained_errors text (outputs o e) (outputs o' e') (none_gained o o' puts.left.held) puts.gains was;
+    same = refl;
+  })
+  puts_on_errors (Err _) o o' e e' file text is puts = tt
+
+  -- nothing is put, or nothing of a text without bytes
+  pub puts_nothing : (both : Outputs) (file : File) (text : List ℕ) → text ≡ [] → (was : Outside)
+      → HasPut (put_state w locals both) (put_state w locals both) was (put_on file text)
+  puts_nothing both file text empty was = record {
+    reached = was;
+    gained = gained_all both was;
+    same = sym (ap (λ t. put_on file t (setting_of was w locals)) empty ∙ put_nothing file (setting_of was w locals));
+  }
+
+  pub puts_on_input : (both : Outputs) (file : File) (text : List ℕ) → file ≡ Input → (was : Outside)
+      → HasPut (put_state w locals both) (put_state w locals both) was (put_on file text)
+  puts_on_input both file text is was = rw is (record { reached = was; gained = gained_all both was; same = refl })
+
+  -- it goes behind what an opened file holds
+  pub puts_in_file : (now : World) (both : Outputs) (number : ℕ) (file : File) (text : List ℕ) → file ≡ Opened number
+      → ((was : Outside) → setting_of was now locals ≡ having_heap (added_to number text) (setting_of was w locals)) → (was : Outside)
+      → HasPut (put_state w locals both) (put_state now locals both) was (put_on file text)
+  puts_in_file now both number file text is step was = rw is (record { reached = was; gained = gained_all both was; same = step was })
+
+-- there was no memory for it
+pub file_broken : (both : Outputs) (number : ℕ) (file : File) (text : List ℕ) (fault : Fault) → file ≡ Opened number → fault ≡ NoMemory
+    → PutsPartOn file text both both fault
+file_broken both number file text fault is want = rw is (record {
+  output = part_nothing both.output.held [];
+  errors = part_nothing both.errors.held [];
+  cause = subst (BrokenBy both both) (sym want) (uncounted (both_all both));
 })
-puts_on_errors (Err _) o o' e e' file text is puts = tt
 
 output_part_by : (o o' e e' : SinkState) (text : List ℕ) (fault : Fault) → PutsPartBehind text o o' e e' fault
     → PutsPartOn Output text (outputs o e) (outputs o' e') fault
@@ -369,40 +469,45 @@ other_way (inr none) = inl none
 -- One piece
 
 -- a text waits with what waits on the file
-pub waits_more : (file now : File) (text more later : List ℕ) (a : Outputs) → now ≡ file → later ≡ text ++ more
+pub waits_more : (file now : File) (text more later : List ℕ) (a : PutState) → now ≡ file → later ≡ text ++ more
     → HasEffect (waiting_text file text a) (waiting_text now later a) (put_on file more)
 waits_more file now text more later a same is = record {
   reached = λ was. was;
-  gained = λ was. gained_all a was;
-  same = λ was. ap (λ f. put_on f later was) same ∙ (ap (λ t. put_on file t was) is ∙ sym (put_more file text more was));
-  counts = both_all a;
+  gained = λ was. gained_all a.outputs was;
+  same = λ was. ap (λ f. put_on f later (put_setting was a)) same
+      ∙ (ap (λ t. put_on file t (put_setting was a)) is ∙ sym (put_more file text more (put_setting was a)));
+  counts = both_all a.outputs;
 }
 
 -- what waits was put, and another file is selected
-pub puts_waiting : (file other : File) (text more whole rest : List ℕ) (a b : Outputs) → PutsOn file whole a b → whole ≡ text ++ more → rest ≡ []
+pub puts_waiting : (file other : File) (text more whole rest : List ℕ) (a b : PutState) → ((was : Outside) → HasPut a b was (put_on file whole))
+    → KeepsBoth a.outputs b.outputs → whole ≡ text ++ more → rest ≡ []
     → HasEffect (waiting_text file text a) (waiting_text other rest b) (put_on file more)
-puts_waiting file other text more whole rest a b puts is empty = record {
-  reached = λ was. put_on file whole was;
-  gained = λ was. gained_on puts was;
-  same = λ was. ap (λ t. put_on other t (put_on file whole was)) empty
-      ∙ (put_nothing other (put_on file whole was) ∙ (ap (λ t. put_on file t was) is ∙ sym (put_more file text more was)));
-  counts = puts.counts;
+puts_waiting file other text more whole rest a b puts counts is empty = record {
+  reached = λ was. (puts was).reached;
+  gained = λ was. (puts was).gained;
+  same = λ was. ap (λ t. put_on other t (put_setting (puts was).reached b)) empty
+      ∙ (put_nothing other (put_setting (puts was).reached b)
+      ∙ ((puts was).same ∙ (ap (λ t. put_on file t (put_setting was a)) is ∙ sym (put_more file text more (put_setting was a)))));
+  counts = counts;
 }
 
 -- what waits could not be put whole
-pub stops_waiting : (file : File) (text more whole : List ℕ) (a b : Outputs) (fault : Fault) → PutsPartOn file whole a b fault → whole ≡ text ++ more
-    → StopsEffect (waiting_text file text a) b (put_on file more) fault
+pub stops_waiting : (file : File) (text more whole : List ℕ) (a : PutState) (b : Outputs) (fault : Fault) → PutsPartOn file whole a.outputs b fault
+    → whole ≡ text ++ more → StopsEffect (waiting_text file text a) b (put_on file more) fault
 stops_waiting file text more whole a b fault puts is = record {
-  gained = λ was. subst (GainedPart a b was) (ap (λ t. put_on file t was) is ∙ sym (put_more file text more was)) (gained_part_on puts was);
+  gained = λ was. subst (λ (s : Setting). GainedPart a.outputs b was s.outside)
+      (ap (λ t. put_on file t (put_setting was a)) is ∙ sym (put_more file text more (put_setting was a)))
+      (gained_part_on puts (put_setting was a));
   cause = puts.cause;
 }
 
 -- memory was wanting before anything was put
-pub stops_idle : (file : File) (text more : List ℕ) (a : Outputs) (fault : Fault) → fault ≡ NoMemory
-    → StopsEffect (waiting_text file text a) a (put_on file more) fault
+pub stops_idle : (file : File) (text more : List ℕ) (a : PutState) (fault : Fault) → fault ≡ NoMemory
+    → StopsEffect (waiting_text file text a) a.outputs (put_on file more) fault
 stops_idle file text more a fault is = record {
-  gained = λ was. part_idle a (grows_then (grows_on file text was) (grows_on file more (put_on file text was)));
-  cause = subst (BrokenBy a a) (sym is) (uncounted (both_all a));
+  gained = λ was. part_idle a.outputs (grows_then (grows_on file text (put_setting was a)) (grows_on file more (put_on file text (put_setting was a))));
+  cause = subst (BrokenBy a.outputs a.outputs) (sym is) (uncounted (both_all a.outputs));
 }
 
 -- what is no file is put as its text
@@ -419,6 +524,13 @@ text_piece all (Vals.Set id) other = refl
 text_piece all (Vals.Table id) other = refl
 text_piece all (Vals.Coexp id) other = refl
 
+-- a file that is selected is one of the heap behind the put too
+pub selected_lives : (all now : Extent) → KeepsValues all now → (val : Val) (other : HeldFile) (r : Result HeldFile Fault) → val ≡ Vals.Std other
+    → IsLive all val → IfOk r (λ file. file ≡ other) → IfOk r (λ file. IsLive now (Vals.Std file))
+selected_lives all now keeps val other (Ok file) is live same =
+    subst (λ (f : HeldFile). IsLive now (Vals.Std f)) (sym same) (keeps.live (Vals.Std other) (subst (IsLive all) is live))
+selected_lives all now keeps val other (Err fault) is live same = tt
+
 -- Results
 
 -- what holds of a known error holds of the result's error
@@ -430,10 +542,6 @@ pub if_ok_of_error : {T : Type 0} (r : Result T Fault) (P : T → Type 0) (Q : F
 if_ok_of_error (Ok value) P Q same = absurd same
 if_ok_of_error (Err other) P Q same = tt
 
-pub on_ok_map : {P Q : Type 0} (r : Result (Unit {0}) Fault) → OnOk r P → (P → Q) → OnOk r Q
-on_ok_map (Ok value) is next = next is
-on_ok_map (Err other) is next = tt
-
 pub if_err_map : {P Q : Fault → Type 0} (r : Result (Unit {0}) Fault) → IfErr r P → ((fault : Fault) → P fault → Q fault) → IfErr r Q
 if_err_map (Ok value) is next = tt
 if_err_map (Err other) is next = next other is
@@ -442,28 +550,41 @@ pub on_err_map : {P : Fault → Type 0} {Q : Type 0} (r : Result (Unit {0}) Faul
 on_err_map (Ok value) is next = tt
 on_err_map (Err other) is next = next other is
 
+pub on_ok_map : {P Q : Type 0} {E : Type 0} (r : Result (Unit {0}) E) → OnOk r P → (P → Q) → OnOk r Q
+on_ok_map (Ok value) is next = next is
+on_ok_map (Err other) is next = tt
+
+-- the records of a heap stay, whether or not a file in it grew
+pub added_or_same : {E : Type 0} (r : Result (Unit {0}) E) (old new : Heap) → OnOk r (new.records ≡ old.records) → OnErr r (new ≡ old)
+    → new.records ≡ old.records
+added_or_same (Ok value) old new grown same = grown
+added_or_same (Err other) old new grown same = ap (λ (heap : Heap). heap.records) same
+
 -- A line
 
 -- what ends a line, where lines end
 abbrev pub end_of : Bool → List ℕ
 end_of ends = if ends then newline else []
 
--- the line as far as its pieces have come: what is still to be put, from here on, gives the whole line
-pub record LineSo (all : Extent) (vals rest : List Val) (ends is_first : Bool) (start now : File) (text : List ℕ) (before after : Outputs) : Type 0 where
+-- The line as far as its pieces have come: what is still to be put, from here on, gives the whole line. Values are those of the
+-- extent with which it began.
+pub record LineSo (all : Extent) (vals rest : List Val) (ends is_first : Bool) (start now : File) (text : List ℕ) (before after : PutState) : Type 0 where
   pub reached : Outside → Outside
-  pub gained : (was : Outside) → GainsOutputs before after was (reached was)
-  pub same : (was : Outside) → line_put (end_of ends) is_first (pieces_in (map (value_in all) rest)) now (put_on now text (reached was))
-      ≡ line_put (end_of ends) true (pieces_in (map (value_in all) vals)) start was
-  pub counts : KeepsBoth before after
+  pub gained : (was : Outside) → GainsOutputs before.outputs after.outputs was (reached was)
+  pub same : (was : Outside) → line_put (end_of ends) is_first (pieces_in (map (value_in all) rest)) now (put_on now text (put_setting (reached was) after))
+      ≡ line_put (end_of ends) true (pieces_in (map (value_in all) vals)) start (put_setting was before)
+  pub counts : KeepsBoth before.outputs after.outputs
   pub live : All (IsLive all) rest
 
-pub line_begins : (all : Extent) (vals : List Val) (ends : Bool) (start : File) (text : List ℕ) (a : Outputs) → text ≡ [] → All (IsLive all) vals
+pub line_begins : (all : Extent) (vals : List Val) (ends : Bool) (start : File) (text : List ℕ) (a : PutState) → text ≡ [] → All (IsLive all) vals
     → LineSo all vals vals ends true start start text a a
 line_begins all vals ends start text a empty live = record {
   reached = λ was. was;
-  gained = λ was. gained_all a was;
-  same = λ was. ap (line_put (end_of ends) true (pieces_in (map (value_in all) vals)) start) (ap (λ t. put_on start t was) empty ∙ put_nothing start was);
-  counts = both_all a;
+  gained = λ was. gained_all a.outputs was;
+  same = λ was.
+      ap (line_put (end_of ends) true (pieces_in (map (value_in all) vals)) start)
+      (ap (λ t. put_on start t (put_setting was a)) empty ∙ put_nothing start (put_setting was a));
+  counts = both_all a.outputs;
   live = live;
 }
 
@@ -475,33 +596,40 @@ piece_text true false (Selects other) = refl
 piece_text false true (Selects other) = refl
 piece_text false false (Selects other) = refl
 
-line_step : (end : List ℕ) (is_first : Bool) (piece : WriteArgument) (parts : List WriteArgument) (file : File) (o : Outside)
-    → line_put end is_first (piece ∷ parts) file o ≡ line_put end false parts (file_after file piece) (put_on file (text_of_piece end is_first piece) o)
-line_step end is_first (Puts text) parts file o = refl
-line_step end is_first (Selects other) parts file o = refl
+line_step : (end : List ℕ) (is_first : Bool) (piece : WriteArgument) (parts : List WriteArgument) (file : File) (s : Setting)
+    → line_put end is_first (piece ∷ parts) file s ≡ line_put end false parts (file_after file piece) (put_on file (text_of_piece end is_first piece) s)
+line_step end is_first (Puts text) parts file s = refl
+line_step end is_first (Selects other) parts file s = refl
 
 -- what is left, said again
-pub line_at : (all : Extent) (vals rest other : List Val) (ends is_first : Bool) (start now : File) (text : List ℕ) (before between : Outputs) → rest ≡ other
+pub line_at : (all : Extent) (vals rest other : List Val) (ends is_first : Bool) (start now : File) (text : List ℕ) (before between : PutState)
+    → rest ≡ other
     → LineSo all vals rest ends is_first start now text before between → LineSo all vals other ends is_first start now text before between
 line_at all vals rest other ends is_first start now text before between same so =
     subst (λ r. LineSo all vals r ends is_first start now text before between) same so
 
-module _ (all : Extent) (vals : List Val) (first : Val) (others : List Val) (ends is_first : Bool) (start now : File) (text : List ℕ) (before between : Outputs)
-    (b : Bool) (test : b ≡ (ends && not is_first)) (so : LineSo all vals (first ∷ others) ends is_first start now text before between) where
+module _ (all : Extent) (vals : List Val) (first : Val) (others : List Val) (ends is_first : Bool) (start now : File) (text : List ℕ)
+    (before between : PutState) (b : Bool) (test : b ≡ (ends && not is_first))
+    (so : LineSo all vals (first ∷ others) ends is_first start now text before between) where
+  -- what the first piece puts
+  abbrev first_put : List ℕ
+  first_put = text_of_piece newline (not b) (piece_in (value_in all first))
+
   -- the line behind its first piece
   behind : (was : Outside)
       → line_put (end_of ends) false (pieces_in (map (value_in all) others)) (file_after now (piece_in (value_in all first)))
-      (put_on now (text_of_piece newline (not b) (piece_in (value_in all first))) (put_on now text (so.reached was)))
-      ≡ line_put (end_of ends) true (pieces_in (map (value_in all) vals)) start was
+      (put_on now first_put (put_on now text (put_setting (so.reached was) between)))
+      ≡ line_put (end_of ends) true (pieces_in (map (value_in all) vals)) start (put_setting was before)
   behind was =
       ap (λ t. line_put (end_of ends) false (pieces_in (map (value_in all) others)) (file_after now (piece_in (value_in all first)))
-      (put_on now t (put_on now text (so.reached was))))
+      (put_on now t (put_on now text (put_setting (so.reached was) between))))
       (ap (λ t. text_of_piece newline (not t) (piece_in (value_in all first))) test ∙ piece_text ends is_first (piece_in (value_in all first)))
-      ∙ (sym (line_step (end_of ends) is_first (piece_in (value_in all first)) (pieces_in (map (value_in all) others)) now (put_on now text (so.reached was)))
+      ∙ (sym (line_step (end_of ends) is_first (piece_in (value_in all first)) (pieces_in (map (value_in all) others)) now
+      (put_on now text (put_setting (so.reached was) between)))
       ∙ so.same was)
 
-  pub line_goes_on : (later : File) (waits : List ℕ) (after : Outputs)
-      → HasEffect (waiting_text now text between) (waiting_text later waits after) (put_on now (text_of_piece newline (not b) (piece_in (value_in all first))))
+  pub line_goes_on : (later : File) (waits : List ℕ) (after : PutState)
+      → HasEffect (waiting_text now text between) (waiting_text later waits after) (put_on now first_put)
       → later ≡ file_after now (piece_in (value_in all first)) → LineSo all vals others ends false start later waits before after
   line_goes_on later waits after adv is = record {
     reached = λ was. adv.reached (so.reached was);
@@ -509,47 +637,99 @@ module _ (all : Extent) (vals : List Val) (first : Val) (others : List Val) (end
     same = λ was.
         ap (λ o. line_put (end_of ends) false (pieces_in (map (value_in all) others)) later o) (adv.same (so.reached was))
         ∙ (ap (λ f. line_put (end_of ends) false (pieces_in (map (value_in all) others)) f
-        (put_on now (text_of_piece newline (not b) (piece_in (value_in all first))) (put_on now text (so.reached was)))) is
+        (put_on now first_put (put_on now text (put_setting (so.reached was) between)))) is
         ∙ behind was);
     counts = both_then so.counts adv.counts;
     live = All-tail (IsLive all) first others so.live;
   }
 
   pub line_stops : (after : Outputs) (fault : Fault)
-      → StopsEffect (waiting_text now text between) after (put_on now (text_of_piece newline (not b) (piece_in (value_in all first)))) fault
-      → (was : Outside) → GainedPart before after was (line_put (end_of ends) true (pieces_in (map (value_in all) vals)) start was)
+      → StopsEffect (waiting_text now text between) after (put_on now first_put) fault
+      → (was : Outside)
+      → GainedPart before.outputs after was
+      (line_put (end_of ends) true (pieces_in (map (value_in all) vals)) start (put_setting was before)).outside
   line_stops after fault stops was =
-      subst (GainedPart before after was) (behind was)
+      subst (λ (s : Setting). GainedPart before.outputs after was s.outside) (behind was)
       (part_grows (then_gained_part (so.gained was) (stops.gained (so.reached was)))
       (grows_line (end_of ends) false (pieces_in (map (value_in all) others)) (file_after now (piece_in (value_in all first)))
-      (put_on now (text_of_piece newline (not b) (piece_in (value_in all first))) (put_on now text (so.reached was)))))
+      (put_on now first_put (put_on now text (put_setting (so.reached was) between)))))
 
   pub line_stopped_by : (after : Outputs) (fault : Fault)
-      → StopsEffect (waiting_text now text between) after (put_on now (text_of_piece newline (not b) (piece_in (value_in all first)))) fault
-      → BrokenBy before after fault
+      → StopsEffect (waiting_text now text between) after (put_on now first_put) fault
+      → BrokenBy before.outputs after fault
   line_stopped_by after fault stops = broken_then fault so.counts stops.cause
 
-module _ (all : Extent) (vals : List Val) (ends is_first : Bool) (start now : File) (text : List ℕ) (before between : Outputs)
+module _ (all : Extent) (vals : List Val) (ends is_first : Bool) (start now : File) (text : List ℕ) (before between : PutState)
     (so : LineSo all vals [] ends is_first start now text before between) where
-  last : (was : Outside) (whole : List ℕ) → whole ≡ text ++ end_of ends
-      → put_on now whole (so.reached was) ≡ line_put (end_of ends) true (pieces_in (map (value_in all) vals)) start was
-  last was whole is = ap (λ t. put_on now t (so.reached was)) is ∙ (sym (put_more now text (end_of ends) (so.reached was)) ∙ so.same was)
+  -- the whole line
+  abbrev line_of : Outside → Setting
+  line_of was = line_put (end_of ends) true (pieces_in (map (value_in all) vals)) start (put_setting was before)
+
+  last : (was : Outside) (whole : List ℕ) → whole ≡ text ++ end_of ends → put_on now whole (put_setting (so.reached was) between) ≡ line_of was
+  last was whole is =
+      ap (λ t. put_on now t (put_setting (so.reached was) between)) is
+      ∙ (sym (put_more now text (end_of ends) (put_setting (so.reached was) between)) ∙ so.same was)
 
   -- no memory for the end of the line
-  pub line_wants : (was : Outside) → GainedPart before between was (line_put (end_of ends) true (pieces_in (map (value_in all) vals)) start was)
+  pub line_wants : (was : Outside) → GainedPart before.outputs between.outputs was (line_of was).outside
   line_wants was =
       then_gained_part (so.gained was)
-      (part_idle between (subst (Grows (so.reached was)) (last was (text ++ end_of ends) refl) (grows_on now (text ++ end_of ends) (so.reached was))))
+      (part_idle between.outputs (subst (λ (s : Setting). Grows (so.reached was) s.outside) (last was (text ++ end_of ends) refl)
+      (grows_on now (text ++ end_of ends) (put_setting (so.reached was) between))))
 
-  pub line_ends : (whole : List ℕ) (after : Outputs) → whole ≡ text ++ end_of ends → PutsOn now whole between after
-      → (was : Outside) → GainsOutputs before after was (line_put (end_of ends) true (pieces_in (map (value_in all) vals)) start was)
-  line_ends whole after is puts was = subst (GainsOutputs before after was) (last was whole is) (gained_then (so.gained was) (gained_on puts (so.reached was)))
+  pub line_ends : (whole : List ℕ) (after : PutState) → whole ≡ text ++ end_of ends → ((was : Outside) → HasPut between after was (put_on now whole))
+      → (was : Outside) → HasPut before after was (line_put (end_of ends) true (pieces_in (map (value_in all) vals)) start)
+  line_ends whole after is puts was =
+      let put : HasPut between after (so.reached was) (put_on now whole) = puts (so.reached was) in
+      record { reached = put.reached; gained = gained_then (so.gained was) put.gained; same = put.same ∙ last was whole is }
 
-  pub line_breaks : (whole : List ℕ) (after : Outputs) (fault : Fault) → whole ≡ text ++ end_of ends → PutsPartOn now whole between after fault
-      → (was : Outside) → GainedPart before after was (line_put (end_of ends) true (pieces_in (map (value_in all) vals)) start was)
+  pub line_breaks : (whole : List ℕ) (after : Outputs) (fault : Fault) → whole ≡ text ++ end_of ends → PutsPartOn now whole between.outputs after fault
+      → (was : Outside) → GainedPart before.outputs after was (line_of was).outside
   line_breaks whole after fault is puts was =
-      subst (GainedPart before after was) (last was whole is) (then_gained_part (so.gained was) (gained_part_on puts (so.reached was)))
+      subst (λ (s : Setting). GainedPart before.outputs after was s.outside) (last was whole is)
+      (then_gained_part (so.gained was) (gained_part_on puts (put_setting (so.reached was) between)))
 
-pub nothing_left : (vals : List Val) → length vals ≡ 0 → vals ≡ []
+-- The first of what is left stands for the same in a heap that keeps its values
+module _ (all now : Extent) (rest : List Val) (first : Val) (others : List Val) (is : rest ≡ first ∷ others) (live : All (IsLive all) rest)
+    (keeps : KeepsValues all now) where
+  first_of : IsLive all first
+  first_of = All-head (IsLive all) first others (subst (λ r. All (IsLive all) r) is live)
+
+  pub first_lives : IsLive now first
+  first_lives = keeps.live first first_of
+
+  same_piece : piece_in (value_in now first) ≡ piece_in (value_in all first)
+  same_piece = ap piece_in (keeps.value first first_of)
+
+  pub said_again : (file : File) (text : List ℕ) (between : PutState) (b : Bool) (later : File) (waits : List ℕ) (after : PutState)
+      → HasEffect (waiting_text file text between) (waiting_text later waits after)
+      (put_on file (text_of_piece newline (not b) (piece_in (value_in now first))))
+      → HasEffect (waiting_text file text between) (waiting_text later waits after)
+      (put_on file (text_of_piece newline (not b) (piece_in (value_in all first))))
+  said_again file text between b later waits after effect =
+      subst (λ (piece : WriteArgument). HasEffect (waiting_text file text between) (waiting_text later waits after)
+      (put_on file (text_of_piece newline (not b) piece))) same_piece effect
+
+  pub stopped_again : (file : File) (text : List ℕ) (between : PutState) (b : Bool) (after : Outputs) (fault : Fault)
+      → StopsEffect (waiting_text file text between) after (put_on file (text_of_piece newline (not b) (piece_in (value_in now first)))) fault
+      → StopsEffect (waiting_text file text between) after (put_on file (text_of_piece newline (not b) (piece_in (value_in all first)))) fault
+  stopped_again file text between b after fault stops =
+      subst (λ (piece : WriteArgument). StopsEffect (waiting_text file text between) after (put_on file (text_of_piece newline (not b) piece)) fault)
+      same_piece stops
+
+  pub first_same : (file later : File) → later ≡ file_after file (piece_in (value_in now first)) → later ≡ file_after file (piece_in (value_in all first))
+  first_same file later same = same ∙ ap (file_after file) same_piece
+
+-- the line so, with the file that is selected and the locals of the heap, and what is pending
+pub record PutsSo (vals rest : List Val) (ends is_first : Bool) (start now : HeldFile) (text : List ℕ) (w after : World) (held : List Val)
+    (before between : Outputs) (one_settled : Type 0) : Type 0 where
+  pub line : LineSo (extent_of w.heap) vals rest ends is_first (file_of start) (file_of now) text (put_state w held before)
+      (put_state after held between)
+  pub file : IsLive (extent_of after.heap) (Vals.Std now)
+  pub locals : All (IsLive (extent_of after.heap)) held
+  pub kept : KeepsItems (reach_of w held) (reach_of after held)
+  pub one : one_settled
+
+pub nothing_left : {A : Type 0} (items : List A) → length items ≡ 0 → items ≡ []
 nothing_left [] is = refl
-nothing_left (val ∷ vals) is = absurd (omega arith)
+nothing_left (item ∷ items) is = absurd (omega arith)

@@ -1,13 +1,16 @@
--- How the pieces of a line go to the outputs: what is to be put on one file waits until another one is selected.
+-- How the pieces of a line go to the outputs and to opened files: what is to be put on one file waits until another one is selected.
 use Rattle.std.specs.Prelude.{◌≡◌, ◌⊎◌, ℕ, Bool, List, [], ◌++◌, ⊤, map, unwrap_or, if◌then◌else◌}
 use Rattle.std.specs.Io.KnownBytes.{Keeps}
 use Rattle.icn_host.specs.Sinks.{SinkState, Gains, GainsPart}
 use Rattle.icn_host.specs.declared.fault.Fault.{Fault}
 use Rattle.icn_host.specs.declared.fault.Fault.TheVariants.{Failed, NoMemory}
-use Rattle.icn_value.specs.Values.{Value, File, Input, Output, Errout}
-use Rattle.icn_value.specs.Store.{Event, Outside, errors_in, output_in, readings_in}
-use Rattle.icn_defs.specs.InputOutput.{WriteArgument, Puts, Selects, piece_of, put_on, put_pieces}
+use Rattle.icn_value.specs.declared.val.Val.{Val}
+use Rattle.icn_value.specs.Values.{Value, File, Input, Output, Errout, Opened}
+use Rattle.icn_value.specs.Store.{Event, Outside, Setting, errors_in, output_in, readings_in, writings_in}
+use Rattle.icn_defs.specs.InputOutput.{WriteArgument, Puts, Selects, piece_of, put_on}
 use Rattle.icn_defs.specs.Interruptions.{ExtendsBy}
+use Rattle.icn_vars.specs.Worlds.{setting_of}
+use Rattle.icn_vars.specs.declared.world.World.{World}
 use Rattle.icn_streams.specs.Handed.{KeepsFaultCounts, FailsOnce, LeavesSink, WantsOnce}
 
 -- an argument as a piece, where it is one, and all of them
@@ -23,12 +26,14 @@ abbrev pub output_part : File → List ℕ → List ℕ
 output_part Input text = []
 output_part Output text = text
 output_part Errout text = []
+output_part (Opened number) text = []
 
 -- what it puts on the error output
 abbrev pub errors_part : File → List ℕ → List ℕ
 errors_part Input text = []
 errors_part Output text = []
 errors_part Errout text = text
+errors_part (Opened number) text = []
 
 -- both outputs
 pub record Outputs : Type 0 where
@@ -56,12 +61,6 @@ pub data BrokenBy (before after : Outputs) : Fault → Type 0 where
   errors_wanted : KeepsFaultCounts before.output after.output → WantsOnce before.errors after.errors
       → BrokenBy before after NoMemory
   uncounted : KeepsBoth before after → BrokenBy before after NoMemory
-
--- a text was put on a file
-pub record PutsOn (file : File) (text : List ℕ) (before after : Outputs) : Type 0 where
-  pub output : Gains before.output.held after.output.held (output_part file text)
-  pub errors : Gains before.errors.held after.errors.held (errors_part file text)
-  pub counts : KeepsBoth before after
 
 -- some first part of a text was put on a file
 pub record PutsPartOn (file : File) (text : List ℕ) (before after : Outputs) (fault : Fault) : Type 0 where
@@ -91,26 +90,45 @@ abbrev pub IsSettledBeside : File → ℕ → ℕ → Type 0
 IsSettledBeside Input output errors = ⊤
 IsSettledBeside Output output errors = errors ≡ 0
 IsSettledBeside Errout output errors = output ≡ 0
+IsSettledBeside (Opened number) output errors = ⊤
 
 -- nothing of one of two sinks is pending
 abbrev pub IsOneSettled : ℕ → ℕ → Type 0
 IsOneSettled sink other = (sink ≡ 0) ⊎ (other ≡ 0)
 
--- where the next text goes, what waits to be put there, and the outputs so far
+-- the world with its opened files, and the outputs so far
+pub record PutState : Type 0 where
+  pub world : World
+  pub locals : List Val
+  pub outputs : Outputs
+
+abbrev pub put_state : World → List Val → Outputs → PutState
+put_state world locals outputs = record { world = world; locals = locals; outputs = outputs }
+
+-- the setting of it, with this outside
+abbrev pub put_setting : Outside → PutState → Setting
+put_setting outside state = setting_of outside state.world state.locals
+
+-- where the next text goes, what waits to be put there, and how far it has come
 pub record WaitingText : Type 0 where
   pub file : File
   pub text : List ℕ
-  pub outputs : Outputs
+  pub state : PutState
 
--- a text that waits for a file, and these outputs
-abbrev pub waiting_text : File → List ℕ → Outputs → WaitingText
-waiting_text file text outputs = record { file = file; text = text; outputs = outputs }
+-- a text that waits for a file, with the world and the outputs so far
+abbrev pub waiting_text : File → List ℕ → PutState → WaitingText
+waiting_text file text state = record { file = file; text = text; state = state }
+
+-- the setting once what waits is put
+abbrev pub text_put : Outside → WaitingText → Setting
+text_put outside waiting = put_on waiting.file waiting.text (put_setting outside waiting.state)
 
 -- The outputs have gained what leads from one outside to another: bytes that are put, in this order.
 pub record GainsOutputs (before after : Outputs) (was now : Outside) : Type 0 where
   pub done : List Event
   pub extends : ExtendsBy was done now
   pub unread : readings_in done ≡ 0
+  pub unwritten : writings_in done ≡ []
   pub output : Gains before.output.held after.output.held (output_in done)
   pub errors : Gains before.errors.held after.errors.held (errors_in done)
 
@@ -120,24 +138,32 @@ pub record GainedPart (before after : Outputs) (was now : Outside) : Type 0 wher
   pub due : List Event
   pub are : now.history ≡ was.history ++ (done ++ due)
   pub unread : readings_in done ≡ 0
+  pub unwritten : writings_in done ≡ []
   pub output : Gains before.output.held after.output.held (output_in done)
   pub errors : Gains before.errors.held after.errors.held (errors_in done)
 
--- From an outside on, with what waits at the file put on it, something was done to the outside: it is as if what waits
--- now were put on what the outputs have gained.
-pub record HasEffect (before after : WaitingText) (done : Outside → Outside) : Type 0 where
+-- From this outside on it is as if this were done to the setting: the outputs have gained the bytes that lead to the
+-- outside that it leaves, and the world is the one that it leaves.
+pub record HasPut (before after : PutState) (was : Outside) (done : Setting → Setting) : Type 0 where
+  pub reached : Outside
+  pub gained : GainsOutputs before.outputs after.outputs was reached
+  pub same : put_setting reached after ≡ done (put_setting was before)
+
+-- From an outside on, with what waits at the file put, something was done: it is as if what waits now were put on what
+-- the outputs and the opened files have gained.
+pub record HasEffect (before after : WaitingText) (done : Setting → Setting) : Type 0 where
   pub reached : Outside → Outside
-  pub gained : (was : Outside) → GainsOutputs before.outputs after.outputs was (reached was)
-  pub same : (was : Outside)
-      → put_on after.file after.text (reached was) ≡ done (put_on before.file before.text was)
-  pub counts : KeepsBoth before.outputs after.outputs
+  pub gained : (was : Outside)
+      → GainsOutputs before.state.outputs after.state.outputs was (reached was)
+  pub same : (was : Outside) → text_put (reached was) after ≡ done (text_put was before)
+  pub counts : KeepsBoth before.state.outputs after.state.outputs
 
 -- As this was to be done it was broken off.
-pub record StopsEffect (before : WaitingText) (after : Outputs) (done : Outside → Outside)
+pub record StopsEffect (before : WaitingText) (after : Outputs) (done : Setting → Setting)
     (fault : Fault) : Type 0 where
   pub gained : (was : Outside)
-      → GainedPart before.outputs after was (done (put_on before.file before.text was))
-  pub cause : BrokenBy before.outputs after fault
+      → GainedPart before.state.outputs after was (done (text_put was before)).outside
+  pub cause : BrokenBy before.state.outputs after fault
 
 -- the file that is selected behind a piece
 abbrev pub file_after : File → WriteArgument → File
@@ -148,8 +174,3 @@ file_after file (Selects other) = other
 abbrev pub text_of_piece : List ℕ → Bool → WriteArgument → List ℕ
 text_of_piece newline is_first (Puts text) = text
 text_of_piece newline is_first (Selects other) = if is_first then [] else newline
-
--- all pieces are put, and then the end of the line
-abbrev pub line_put : List ℕ → Bool → List WriteArgument → File → Outside → Outside
-line_put newline is_first parts file outside =
-    let end = put_pieces newline is_first parts file outside in put_on end.0 newline end.1

@@ -1,8 +1,9 @@
 // The arguments of `exit`, `read` and `reads`.
-ghost use Rattle.std.specs.Prelude.{ℕ, ℤ, IfErr, map};
+ghost use Rattle.std.specs.Prelude.{ℕ, ℤ, IfErr, IfOk, map};
 ghost use Rattle.std.specs.List.{All};
 ghost use Rattle.icn_value.specs.Store.{Setting};
 ghost use Rattle.icn_value.specs.Values.{Input, Integer, Std};
+ghost use Rattle.icn_value.specs.declared.val.Val.TheVariants.{Std as HeldStd};
 ghost use Rattle.icn_defs.specs.Arguments.{arg_or, file, integer};
 ghost use Rattle.icn_heap.specs.Extents.{Extent, IsLive, value_in};
 ghost use Rattle.icn_heap.specs.Heaps.{extent_of};
@@ -20,6 +21,8 @@ use icn_vars::Stop;
 pub fn file_arg(vals: &[Val]) -> Result<File, Stop>
     ensures found { (all : Extent) (setting : Setting) → IsFound all
         (file (arg_or (Std Input) (map (value_in all) vals.now) 0)) setting setting keys.file_of result }
+    ensures live { (all : Extent) → All (IsLive all) vals.now → IfOk result
+        (λ file. IsLive all (HeldStd file)) }
     ensures stops { (all : Extent) → All (IsLive all) vals.now → IfErr result (IsLiveStop all) }
 {
     file_of(value_or(Val::Std(File::Input), arg(vals, 0)))

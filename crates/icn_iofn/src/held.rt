@@ -3,23 +3,26 @@ ghost use Rattle.icn_streams.specs.Handed.{call_streams};
 
 use crate::reads::{read, reads};
 use crate::writes::{stop, write, writes};
-use icn_host::{Sink, Source};
-use icn_streams::{Streams, lines_again, lines_row};
+use icn_filefn::{close_row, open_row};
+use icn_host::{Files, Sink, Source};
+use icn_streams::{Streams, lines_row};
 use icn_value::{File, Val};
 use icn_vars::{Halt, Locals, Outcome, World};
 
-/// An input, an output and an error output, with room for the bytes at hand; what stands in the room does not matter.
+/// A store of files, an input, an output and an error output, with room for the bytes at hand; what stands in the room does not
+/// matter.
 #[derive(Drop)]
-pub struct HeldStreams<I: Source, O: Sink, E: Sink> {
+pub struct HeldStreams<F: Files, I: Source, O: Sink, E: Sink> {
+    pub files: F,
     pub input: I,
     pub output: O,
     pub errors: E,
     pub buffer: Vec<u8>,
 }
 
-impl<I: Source, O: Sink, E: Sink> Streams for HeldStreams<I, O, E> {
-    ghost state = { λ s. call_streams (I.left s.input) (I.counts s.input) (O.state s.output)
-        (E.state s.errors) };
+impl<F: Files, I: Source, O: Sink, E: Sink> Streams for HeldStreams<F, I, O, E> {
+    ghost state = { λ s. call_streams (F.state s.files) (I.left s.input) (I.counts s.input)
+        (O.state s.output) (E.state s.errors) };
 
     ghost pending_output = { λ s. O.pending s.output };
 
@@ -49,7 +52,7 @@ impl<I: Source, O: Sink, E: Sink> Streams for HeldStreams<I, O, E> {
         )
     }
 
-    fn write<L: Locals>(&mut self, vals: &[Val], w: &World, l: &L) -> Result<Outcome, Halt> {
+    fn write<L: Locals>(&mut self, vals: &[Val], w: &mut World, l: &L) -> Result<Outcome, Halt> {
         write(
             vals,
             w,
@@ -60,7 +63,7 @@ impl<I: Source, O: Sink, E: Sink> Streams for HeldStreams<I, O, E> {
         )
     }
 
-    fn writes<L: Locals>(&mut self, vals: &[Val], w: &World, l: &L) -> Result<Outcome, Halt> {
+    fn writes<L: Locals>(&mut self, vals: &[Val], w: &mut World, l: &L) -> Result<Outcome, Halt> {
         writes(
             vals,
             w,
@@ -71,7 +74,7 @@ impl<I: Source, O: Sink, E: Sink> Streams for HeldStreams<I, O, E> {
         )
     }
 
-    fn stop<L: Locals>(&mut self, vals: &[Val], w: &World, l: &L) -> Result<Outcome, Halt> {
+    fn stop<L: Locals>(&mut self, vals: &[Val], w: &mut World, l: &L) -> Result<Outcome, Halt> {
         stop(
             vals,
             w,
@@ -94,12 +97,33 @@ impl<I: Source, O: Sink, E: Sink> Streams for HeldStreams<I, O, E> {
         )
     }
 
-    fn lines_again<L: Locals>(&mut self, w: &mut World, l: &L) -> Result<Outcome, Halt> {
-        lines_again(
+    fn open_file<L: Locals>(
+        &mut self,
+        vals: &[Val],
+        w: &mut World,
+        l: &L,
+    ) -> Result<Outcome, Halt> {
+        open_row(
+            vals,
             w,
             l,
-            &mut self.buffer,
-            &mut self.input,
+            &mut self.files,
+            &mut self.output,
+            &mut self.errors,
+        )
+    }
+
+    fn close_file<L: Locals>(
+        &mut self,
+        vals: &[Val],
+        w: &mut World,
+        l: &L,
+    ) -> Result<Outcome, Halt> {
+        close_row(
+            vals,
+            w,
+            l,
+            &mut self.files,
             &mut self.output,
             &mut self.errors,
         )

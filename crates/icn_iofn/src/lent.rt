@@ -1,7 +1,7 @@
 // Objects of the outside that are lent.
 ghost use Rattle.std.specs.Prelude.{◌≡◌};
 
-use icn_host::{Fault, LineEnd, Sink, Source};
+use icn_host::{Fault, Files, LineEnd, ReadFailure, Sink, Source};
 use std::marker::{Brand, PhantomData};
 
 /// The loan of an object: a thing that a type can name.
@@ -13,6 +13,26 @@ pub trait Loan {
 
 impl Loan for Brand {
     ghost loan = { 0 };
+}
+
+/// A store of files that is lent, by a loan that is named.
+#[derive(Drop)]
+pub struct LentFiles<'a, F: Files, B: Loan> {
+    pub files: &'a mut F,
+    pub of: PhantomData<B>,
+    ghost lent: { files.ghost_name ≡ B.loan },
+}
+
+impl<F: Files, B: Loan> Files for LentFiles<'_, F, B> {
+    ghost state = { λ s. F.state s.files.now };
+
+    fn read(&mut self, name: &str, most: u64, into: &mut Vec<u8>) -> Result<(), ReadFailure> {
+        self.files.read(name, most, into)
+    }
+
+    fn write(&mut self, name: &str, bytes: &[u8]) -> Result<(), Fault> {
+        self.files.write(name, bytes)
+    }
 }
 
 /// An input that is lent. The loan is named, so that a call which may put another one in its place is known to have left this one.

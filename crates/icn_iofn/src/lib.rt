@@ -13,4 +13,4 @@ mod writes;
 
 pub use ending::exit;
 pub use held::HeldStreams;
-pub use lent::{LentSink, LentSource, Loan};
+pub use lent::{LentFiles, LentSink, LentSource, Loan};

@@ -1,27 +1,30 @@
 // Reading.
-ghost use Rattle.std.specs.Prelude.{map};
+ghost use Rattle.std.specs.Prelude.{◌≡◌, map};
 ghost use Rattle.std.specs.List.{All};
+ghost use Rattle.icn_host.specs.FileMaps.{StoreState};
 ghost use Rattle.icn_host.specs.Sinks.{SinkState};
+ghost use Rattle.icn_value.specs.declared.val.File.TheVariants.{Input, Opened};
+ghost use Rattle.icn_value.specs.declared.val.Val.TheVariants.{Std};
 ghost use Rattle.icn_defs.specs.InputOutput as rows;
 ghost use Rattle.icn_heap.specs.Extents.{IsLive, value_in};
 ghost use Rattle.icn_heap.specs.Heaps.{extent_of};
 ghost use Rattle.icn_heap.specs.Keys as keys;
 ghost use Rattle.icn_streams.specs.Answers.{call_state};
 ghost use Rattle.icn_streams.specs.Applies.{Applies};
-ghost use Rattle.icn_streams.specs.Handed.{call_streams};
+ghost use Rattle.icn_streams.specs.Handed.{CallStreams, call_streams};
 ghost use Rattle.icn_streams.specs.Readings.{asked_in};
-ghost use Rattle.icn_streams.specs.Settling.{IsSettled, IsSettledWhereRead};
-ghost use Rattle.icn_iofn.specs.ReadParts.{read_from, reads_from};
+ghost use Rattle.icn_streams.specs.Settling.{IsSettled, IsSettledWhereRead, ReadsInput};
+ghost use Rattle.icn_iofn.specs.ReadParts.{read_from, reads_input, reads_opened};
 
 use crate::arguments::{count_arg, file_arg};
 use icn_args::arg;
 use icn_host::{Sink, Source};
-use icn_streams::{Ask, read_text, settle};
+use icn_streams::{Ask, ReadFrom, read_opened, read_text, readable, settle};
 use icn_value::{File, Item, Val};
 use icn_vars::{Halt, Locals, Outcome, World};
 
-/// `read(f)`: the next line. It fails at the end of the input. The errors are 105 about a value that is no file, 212 about a file
-/// that is not the input, and 306.
+/// `read(f)`: the next line. It fails at the end of the file. The errors are 105 about a value that is no file, 212 about a file
+/// that is not open for reading, and 306. Both outputs are settled before the input is read.
 pub fn read<L: Locals, I: Source, O: Sink, E: Sink>(
     vals: &[Val],
     w: &mut World,
@@ -33,18 +36,21 @@ pub fn read<L: Locals, I: Source, O: Sink, E: Sink>(
 ) -> Result<Outcome, Halt>
     requires locals { All (IsLive (extent_of w.old.heap)) (L.items l.now) }
     requires live { All (IsLive (extent_of w.old.heap)) vals.now }
-    ensures row { Applies (rows.read_row (map (value_in (extent_of w.old.heap)) vals.now)) (call_state w.old
+    ensures row { (files : StoreState) → Applies
+        (rows.read_row (map (value_in (extent_of w.old.heap)) vals.now)) (call_state w.old
         (L.items l.now)
-        (call_streams (I.left input.old) (I.counts input.old) (O.state out.old) (E.state err.old)))
+        (call_streams files (I.left input.old) (I.counts input.old) (O.state out.old) (E.state err.old)))
         (call_state w.new (L.items l.now)
-        (call_streams (I.left input.new) (I.counts input.new) (O.state out.new) (E.state err.new))) result }
-    ensures settled { IsSettledWhereRead result (O.pending out.new) (E.pending err.new) }
+        (call_streams files (I.left input.new) (I.counts input.new) (O.state out.new) (E.state err.new)))
+        result }
+    ensures settled { ReadsInput (map (value_in (extent_of w.old.heap)) vals.now)
+        → IsSettledWhereRead result (O.pending out.new) (E.pending err.new) }
 {
     let file = file_arg(vals)?;
     read_from(Ask::Line, file, arg(vals, 0), w, l, buffer, input, out, err)
 }
 
-/// `reads(f, i)`: the next bytes, one or so many, or all where fewer are left. It fails at the end of the input. The errors are
+/// `reads(f, i)`: the next bytes, one or so many, or all where fewer are left. It fails at the end of the file. The errors are
 /// 105, 101 about a value that is no integer, 205 about a number that is not above 0, 212 and 306, whichever comes first.
 pub fn reads<L: Locals, I: Source, O: Sink, E: Sink>(
     vals: &[Val],
@@ -57,12 +63,15 @@ pub fn reads<L: Locals, I: Source, O: Sink, E: Sink>(
 ) -> Result<Outcome, Halt>
     requires locals { All (IsLive (extent_of w.old.heap)) (L.items l.now) }
     requires live { All (IsLive (extent_of w.old.heap)) vals.now }
-    ensures row { Applies (rows.reads_row (map (value_in (extent_of w.old.heap)) vals.now)) (call_state w.old
+    ensures row { (files : StoreState) → Applies
+        (rows.reads_row (map (value_in (extent_of w.old.heap)) vals.now)) (call_state w.old
         (L.items l.now)
-        (call_streams (I.left input.old) (I.counts input.old) (O.state out.old) (E.state err.old)))
+        (call_streams files (I.left input.old) (I.counts input.old) (O.state out.old) (E.state err.old)))
         (call_state w.new (L.items l.now)
-        (call_streams (I.left input.new) (I.counts input.new) (O.state out.new) (E.state err.new))) result }
-    ensures settled { IsSettledWhereRead result (O.pending out.new) (E.pending err.new) }
+        (call_streams files (I.left input.new) (I.counts input.new) (O.state out.new) (E.state err.new)))
+        result }
+    ensures settled { ReadsInput (map (value_in (extent_of w.old.heap)) vals.now)
+        → IsSettledWhereRead result (O.pending out.new) (E.pending err.new) }
 {
     let file = file_arg(vals)?;
     let count = count_arg(&w.heap, vals)?;
@@ -79,7 +88,7 @@ pub fn reads<L: Locals, I: Source, O: Sink, E: Sink>(
     )
 }
 
-// Reads a text from a file, which is an error where that is not the input.
+// Reads a text from a file: 212 where that is not open for reading.
 fn read_from<L: Locals, I: Source, O: Sink, E: Sink>(
     ask: Ask,
     file: File,
@@ -92,19 +101,22 @@ fn read_from<L: Locals, I: Source, O: Sink, E: Sink>(
     err: &mut E,
 ) -> Result<Outcome, Halt>
     requires locals { All (IsLive (extent_of w.old.heap)) (L.items l.now) }
+    requires file { IsLive (extent_of w.old.heap) (Std file) }
     requires live { IsLive (extent_of w.old.heap) named }
-    ensures row { Applies
+    ensures row { (files : StoreState) → Applies
         (read_from (asked_in ask) (keys.file_of file) (value_in (extent_of w.old.heap) named))
         (call_state w.old (L.items l.now)
-        (call_streams (I.left input.old) (I.counts input.old) (O.state out.old) (E.state err.old)))
+        (call_streams files (I.left input.old) (I.counts input.old) (O.state out.old) (E.state err.old)))
         (call_state w.new (L.items l.now)
-        (call_streams (I.left input.new) (I.counts input.new) (O.state out.new) (E.state err.new))) result }
-    ensures settled { IsSettledWhereRead result (O.pending out.new) (E.pending err.new) }
+        (call_streams files (I.left input.new) (I.counts input.new) (O.state out.new) (E.state err.new)))
+        result }
+    ensures settled { file ≡ Input → IsSettled result (O.pending out.new) (E.pending err.new) }
 {
-    if file != File::Input {
-        return Err(Halt::Error(212, Some(named)));
+    match readable(&w.heap, file) {
+        Some(ReadFrom::Input) => read_input(ask, w, l, buffer, input, out, err),
+        Some(ReadFrom::Opened(number)) => give_opened(ask, number, w, l, buffer),
+        None => Err(Halt::Error(212, Some(named))),
     }
-    read_input(ask, w, l, buffer, input, out, err)
 }
 
 // Settles both outputs, reads a text from the input, and gives it.
@@ -118,10 +130,12 @@ fn read_input<L: Locals, I: Source, O: Sink, E: Sink>(
     err: &mut E,
 ) -> Result<Outcome, Halt>
     requires { All (IsLive (extent_of w.old.heap)) (L.items l.now) }
-    ensures row { Applies (reads_from (asked_in ask)) (call_state w.old (L.items l.now)
-        (call_streams (I.left input.old) (I.counts input.old) (O.state out.old) (E.state err.old)))
+    ensures row { (files : StoreState) → Applies (reads_input (asked_in ask))
+        (call_state w.old (L.items l.now)
+        (call_streams files (I.left input.old) (I.counts input.old) (O.state out.old) (E.state err.old)))
         (call_state w.new (L.items l.now)
-        (call_streams (I.left input.new) (I.counts input.new) (O.state out.new) (E.state err.new))) result }
+        (call_streams files (I.left input.new) (I.counts input.new) (O.state out.new) (E.state err.new)))
+        result }
     ensures settled { IsSettled result (O.pending out.new) (E.pending err.new) }
 {
     settle(out, err)?;
@@ -137,12 +151,32 @@ fn give_text<L: Locals, I: Source>(
     input: &mut I,
 ) -> Result<Outcome, Halt>
     requires { All (IsLive (extent_of w.old.heap)) (L.items l.now) }
-    ensures { (output errors : SinkState) → Applies (reads_from (asked_in ask)) (call_state w.old
-        (L.items l.now) (call_streams (I.left input.old) (I.counts input.old) output errors))
+    ensures { (files : StoreState) (output errors : SinkState)
+        → Applies (reads_input (asked_in ask)) (call_state w.old
+        (L.items l.now) (call_streams files (I.left input.old) (I.counts input.old) output errors))
         (call_state w.new (L.items l.now)
-        (call_streams (I.left input.new) (I.counts input.new) output errors)) result }
+        (call_streams files (I.left input.new) (I.counts input.new) output errors)) result }
 {
     match read_text(ask, w, l, buffer, input)? {
+        Some(text) => Ok(Outcome::Gives(Item::Val(Val::Text(text)))),
+        None => Ok(Outcome::Fails),
+    }
+}
+
+// Reads a text from an opened file that may be read, and gives it.
+fn give_opened<L: Locals>(
+    ask: Ask,
+    number: u32,
+    w: &mut World,
+    l: &L,
+    buffer: &mut Vec<u8>,
+) -> Result<Outcome, Halt>
+    requires locals { All (IsLive (extent_of w.old.heap)) (L.items l.now) }
+    requires file { IsLive (extent_of w.old.heap) (Std (Opened number)) }
+    ensures { (handed : CallStreams) → Applies (reads_opened (asked_in ask) number)
+        (call_state w.old (L.items l.now) handed) (call_state w.new (L.items l.now) handed) result }
+{
+    match read_opened(ask, number, w, l, buffer)? {
         Some(text) => Ok(Outcome::Gives(Item::Val(Val::Text(text)))),
         None => Ok(Outcome::Fails),
     }

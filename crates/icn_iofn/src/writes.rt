@@ -1,6 +1,7 @@
 // Writing.
 ghost use Rattle.std.specs.Prelude.{◌≡◌, ℕ, List, Option, map};
 ghost use Rattle.std.specs.List.{All};
+ghost use Rattle.icn_host.specs.FileMaps.{StoreState};
 ghost use Rattle.icn_host.specs.Sources.{SourceCounts};
 ghost use Rattle.icn_defs.specs.InputOutput as rows;
 ghost use Rattle.icn_heap.specs.Extents.{Extent, IsLive, value_in};
@@ -18,21 +19,24 @@ use icn_value::{File, Item, Val};
 use icn_vars::{Halt, Locals, Outcome, World};
 
 /// `write(x, ..)`: puts its arguments as a line. It gives its last argument, or null. The errors are 109 about a value that is
-/// neither a text nor a file nor null, and 213 about the input. All arguments are checked before anything is put.
+/// neither a text nor a file nor null, and 213 about a file that is not open for writing. All arguments are checked before anything
+/// is put.
 pub fn write<L: Locals, O: Sink, E: Sink>(
     vals: &[Val],
-    w: &World,
+    w: &mut World,
     l: &L,
     buffer: &mut Vec<u8>,
     out: &mut O,
     err: &mut E,
 ) -> Result<Outcome, Halt>
-    requires locals { All (IsLive (extent_of w.now.heap)) (L.items l.now) }
-    requires live { All (IsLive (extent_of w.now.heap)) vals.now }
-    ensures { (left : Option (List ℕ)) (counts : SourceCounts)
-        → Applies (rows.write_row (map (value_in (extent_of w.now.heap)) vals.now))
-        (call_state w.now (L.items l.now) (call_streams left counts (O.state out.old) (E.state err.old)))
-        (call_state w.now (L.items l.now) (call_streams left counts (O.state out.new) (E.state err.new)))
+    requires locals { All (IsLive (extent_of w.old.heap)) (L.items l.now) }
+    requires live { All (IsLive (extent_of w.old.heap)) vals.now }
+    ensures { (files : StoreState) (left : Option (List ℕ)) (counts : SourceCounts)
+        → Applies (rows.write_row (map (value_in (extent_of w.old.heap)) vals.now))
+        (call_state w.old (L.items l.now)
+        (call_streams files left counts (O.state out.old) (E.state err.old)))
+        (call_state w.new (L.items l.now)
+        (call_streams files left counts (O.state out.new) (E.state err.new)))
         result }
 {
     put_all(true, vals, w, l, buffer, out, err)
@@ -41,18 +45,20 @@ pub fn write<L: Locals, O: Sink, E: Sink>(
 /// `writes(x, ..)`: puts its arguments, and ends no line. It gives its last argument, or null. The errors are those of `write`.
 pub fn writes<L: Locals, O: Sink, E: Sink>(
     vals: &[Val],
-    w: &World,
+    w: &mut World,
     l: &L,
     buffer: &mut Vec<u8>,
     out: &mut O,
     err: &mut E,
 ) -> Result<Outcome, Halt>
-    requires locals { All (IsLive (extent_of w.now.heap)) (L.items l.now) }
-    requires live { All (IsLive (extent_of w.now.heap)) vals.now }
-    ensures { (left : Option (List ℕ)) (counts : SourceCounts)
-        → Applies (rows.writes_row (map (value_in (extent_of w.now.heap)) vals.now))
-        (call_state w.now (L.items l.now) (call_streams left counts (O.state out.old) (E.state err.old)))
-        (call_state w.now (L.items l.now) (call_streams left counts (O.state out.new) (E.state err.new)))
+    requires locals { All (IsLive (extent_of w.old.heap)) (L.items l.now) }
+    requires live { All (IsLive (extent_of w.old.heap)) vals.now }
+    ensures { (files : StoreState) (left : Option (List ℕ)) (counts : SourceCounts)
+        → Applies (rows.writes_row (map (value_in (extent_of w.old.heap)) vals.now))
+        (call_state w.old (L.items l.now)
+        (call_streams files left counts (O.state out.old) (E.state err.old)))
+        (call_state w.new (L.items l.now)
+        (call_streams files left counts (O.state out.new) (E.state err.new)))
         result }
 {
     put_all(false, vals, w, l, buffer, out, err)
@@ -62,22 +68,24 @@ pub fn writes<L: Locals, O: Sink, E: Sink>(
 fn put_all<L: Locals, O: Sink, E: Sink>(
     ends: bool,
     vals: &[Val],
-    w: &World,
+    w: &mut World,
     l: &L,
     buffer: &mut Vec<u8>,
     out: &mut O,
     err: &mut E,
 ) -> Result<Outcome, Halt>
-    requires locals { All (IsLive (extent_of w.now.heap)) (L.items l.now) }
-    requires live { All (IsLive (extent_of w.now.heap)) vals.now }
-    ensures { (left : Option (List ℕ)) (counts : SourceCounts)
-        → Applies (write_by ends (map (value_in (extent_of w.now.heap)) vals.now))
-        (call_state w.now (L.items l.now) (call_streams left counts (O.state out.old) (E.state err.old)))
-        (call_state w.now (L.items l.now) (call_streams left counts (O.state out.new) (E.state err.new)))
+    requires locals { All (IsLive (extent_of w.old.heap)) (L.items l.now) }
+    requires live { All (IsLive (extent_of w.old.heap)) vals.now }
+    ensures { (files : StoreState) (left : Option (List ℕ)) (counts : SourceCounts)
+        → Applies (write_by ends (map (value_in (extent_of w.old.heap)) vals.now))
+        (call_state w.old (L.items l.now)
+        (call_streams files left counts (O.state out.old) (E.state err.old)))
+        (call_state w.new (L.items l.now)
+        (call_streams files left counts (O.state out.new) (E.state err.new)))
         result }
 {
-    check_pieces(vals)?;
-    match put_line(&w.heap, vals, ends, File::Output, buffer, out, err) {
+    check_pieces(&w.heap, vals)?;
+    match put_line(w, l, vals, ends, File::Output, buffer, out, err) {
         Ok(()) => Ok(Outcome::Gives(Item::Val(last_of(vals)))),
         Err(Fault::Failed) => Err(Halt::WriteFault),
         Err(Fault::NoMemory) => Err(Halt::NoMemory),
@@ -88,22 +96,24 @@ fn put_all<L: Locals, O: Sink, E: Sink>(
 /// `write`.
 pub fn stop<L: Locals, O: Sink, E: Sink>(
     vals: &[Val],
-    w: &World,
+    w: &mut World,
     l: &L,
     buffer: &mut Vec<u8>,
     out: &mut O,
     err: &mut E,
 ) -> Result<Outcome, Halt>
-    requires locals { All (IsLive (extent_of w.now.heap)) (L.items l.now) }
-    requires live { All (IsLive (extent_of w.now.heap)) vals.now }
-    ensures { (left : Option (List ℕ)) (counts : SourceCounts)
-        → Applies (rows.stop_row (map (value_in (extent_of w.now.heap)) vals.now))
-        (call_state w.now (L.items l.now) (call_streams left counts (O.state out.old) (E.state err.old)))
-        (call_state w.now (L.items l.now) (call_streams left counts (O.state out.new) (E.state err.new)))
+    requires locals { All (IsLive (extent_of w.old.heap)) (L.items l.now) }
+    requires live { All (IsLive (extent_of w.old.heap)) vals.now }
+    ensures { (files : StoreState) (left : Option (List ℕ)) (counts : SourceCounts)
+        → Applies (rows.stop_row (map (value_in (extent_of w.old.heap)) vals.now))
+        (call_state w.old (L.items l.now)
+        (call_streams files left counts (O.state out.old) (E.state err.old)))
+        (call_state w.new (L.items l.now)
+        (call_streams files left counts (O.state out.new) (E.state err.new)))
         result }
 {
-    check_pieces(vals)?;
-    match put_line(&w.heap, vals, true, File::Errout, buffer, out, err) {
+    check_pieces(&w.heap, vals)?;
+    match put_line(w, l, vals, true, File::Errout, buffer, out, err) {
         Ok(()) => Err(Halt::Ends(1)),
         Err(Fault::Failed) => Err(Halt::WriteFault),
         Err(Fault::NoMemory) => Err(Halt::NoMemory),

@@ -1,10 +1,12 @@
 -- What some steps come to, put together.
-use Rattle.std.proofs.Common.{◌≡◌, ℕ, zero, suc, ◌+◌, List, [], ◌∷◌, ◌++◌, append_assoc, append-nil, true, Some, Result, Ok, Err, refl, sym, ap, ◌∙◌, subst, arith}
-use Rattle.icn_host.specs.Counts.{one_more, raised_count}
+use Rattle.std.proofs.Common.{◌≡◌, ℕ, zero, suc, ◌+◌, List, [], ◌∷◌, ◌++◌, append_assoc, append-nil, true, Option, None, Some, Result, Ok, Err, refl, sym, ap, ◌∙◌, subst, arith}
+use Rattle.std.specs.Prelude.{IfSome}
+use Rattle.icn_host.specs.Counts.{raised_count}
 use Rattle.icn_host.specs.Sinks.{Gains}
 use Rattle.icn_host.proofs.KeptSteps.{gains_keeps}
 use Rattle.icn_host.proofs.SinkSteps.{gains_nothing, gains_then}
 use Rattle.icn_value.specs.Store.{Event, Outside, errors_in, readings_in}
+use Rattle.icn_defs.specs.Interruptions.{LosesSome}
 use Rattle.icn_defs.proofs.Interruptions.{calls_then, errors_then as errors_behind, output_then as output_behind}
 use Rattle.icn_vars.specs.declared.outcome.Halt.{Halt}
 use Rattle.icn_vars.specs.declared.outcome.Halt.TheVariants as Halts
@@ -12,15 +14,17 @@ use Rattle.icn_code.specs.Codes.{Tables}
 use Rattle.icn_run.specs.Stacks.{Frames, flat}
 use Rattle.icn_run.specs.Step.{State, step, steps}
 use Rattle.icn_run.specs.AnyOutside.{over_outside, run_over}
-use Rattle.icn_streams.specs.Handed.{CallStreams, Follows, KeepsAllCounts, WantsMemory, WritingFails, failed_once, wanted_once, uncounted, input_wants, output_wants, errors_want, output_fails as writing_output, errors_fail as writing_errors}
+use Rattle.icn_streams.specs.Answers.{Told, streams_telling}
+use Rattle.icn_streams.specs.Handed.{CallStreams, Follows, TellsOutside}
 use Rattle.icn_streams.proofs.IdleCalls.{keeps_all_counts_refl}
-use Rattle.icn_streams.proofs.CallSequences.{follows_all, follows_left, follows_then}
+use Rattle.icn_streams.proofs.CallSequences.{follows_all, follows_tells, follows_then, outside_told, told_so}
 use Rattle.icn_control.specs.Machines.{SettlesAt, StandsAt}
 use Rattle.icn_control.specs.declared.machine.Machine.{Machine}
 use Rattle.icn_control.specs.declared.machine.RunState.{RunState}
 use Rattle.icn_control.specs.declared.machine.RunState.TheVariants as RunStates
-use Rattle.icn_machine.specs.InstructionAnswers.{AnswersStep, BreaksOff, IsCause, Performs, behind as done_behind, idle, putting, reading, with_left}
-use Rattle.icn_machine.specs.Stepping.{Advances, AreAll, AreAllOver, AreReadings, GainsBy, GainsEvents, GainsSome, IsAny, IsAt, IsFailing, IsFirstFault, Leads, OutputFails, StandsBy, errors_fail, goes_on, is_failing, output_fails, outside_at}
+use Rattle.icn_machine.specs.InstructionAnswers.{AnswersStep, BreaksOff, Performs, behind as done_behind, files, idle, putting, reading}
+use Rattle.icn_machine.specs.Stepping.{Advances, AreAll, AreAllOver, AreReadings, GainsBy, GainsEvents, GainsSome, IsAny, IsAt, IsFailing, Leads, StandsBy, goes_on, is_failing, outside_at}
+use Rattle.icn_machine.proofs.CountedFaults.{fault_then, first_fault, step_taken, taken_then, told_taken}
 
 -- Where a machine stands
 
@@ -103,65 +107,6 @@ at_failing tables m RunStates.Running e was state at = absurd (cc e)
 at_failing tables m RunStates.Over e was state at = absurd (cc e)
 at_failing tables m RunStates.AtBound e was state at = absurd (cc e)
 
--- Causes
-
-counts_then : (a b c : CallStreams) → KeepsAllCounts a b → KeepsAllCounts b c → KeepsAllCounts a c
-counts_then a b c h k = record {
-  faults = k.faults ∙ h.faults;
-  output = record { faults = k.output.faults ∙ h.output.faults; wants = k.output.wants ∙ h.output.wants };
-  errors = record { faults = k.errors.faults ∙ h.errors.faults; wants = k.errors.wants ∙ h.errors.wants };
-}
-
-output_then : (a b c : CallStreams) → KeepsAllCounts a b → OutputFails b c → OutputFails a c
-output_then a b c h (output_fails f o e) = output_fails (f ∙ h.faults)
-    (record { faults = o.faults ∙ ap one_more h.output.faults; wants = o.wants ∙ h.output.wants })
-    (record { faults = e.faults ∙ h.errors.faults; wants = e.wants ∙ h.errors.wants })
-output_then a b c h (errors_fail f o e) = errors_fail (f ∙ h.faults)
-    (record { faults = o.faults ∙ h.output.faults; wants = o.wants ∙ h.output.wants })
-    (record { faults = e.faults ∙ ap one_more h.errors.faults; wants = e.wants ∙ h.errors.wants })
-
-memory_then : (a b c : CallStreams) → KeepsAllCounts a b → WantsMemory b c → WantsMemory a c
-memory_then a b c h (uncounted k) = uncounted (counts_then a b c h k)
-memory_then a b c h (input_wants f o e) = input_wants (f ∙ ap wanted_once h.faults)
-    (record { faults = o.faults ∙ h.output.faults; wants = o.wants ∙ h.output.wants })
-    (record { faults = e.faults ∙ h.errors.faults; wants = e.wants ∙ h.errors.wants })
-memory_then a b c h (output_wants f o e) = output_wants (f ∙ h.faults)
-    (record { faults = o.faults ∙ h.output.faults; wants = o.wants ∙ ap one_more h.output.wants })
-    (record { faults = e.faults ∙ h.errors.faults; wants = e.wants ∙ h.errors.wants })
-memory_then a b c h (errors_want f o e) = errors_want (f ∙ h.faults)
-    (record { faults = o.faults ∙ h.output.faults; wants = o.wants ∙ h.output.wants })
-    (record { faults = e.faults ∙ h.errors.faults; wants = e.wants ∙ ap one_more h.errors.wants })
-
--- what is answered first has failed nothing
-fault_then : {A : Type 0} (a b c : CallStreams) (result : Result A Halt) → KeepsAllCounts a b → IsFirstFault result b c → IsFirstFault result a c
-fault_then a b c (Ok x) h k = counts_then a b c h k
-fault_then a b c (Err (Halts.Error number offending)) h k = counts_then a b c h k
-fault_then a b c (Err (Halts.Ends status)) h k = counts_then a b c h k
-fault_then a b c (Err Halts.ReadFault) h k = record {
-  faults = k.faults ∙ ap failed_once h.faults;
-  output = record { faults = k.output.faults ∙ h.output.faults; wants = k.output.wants ∙ h.output.wants };
-  errors = record { faults = k.errors.faults ∙ h.errors.faults; wants = k.errors.wants ∙ h.errors.wants };
-}
-fault_then a b c (Err Halts.WriteFault) h k = output_then a b c h k
-fault_then a b c (Err Halts.NoMemory) h k = memory_then a b c h k
-
-output_failed : (a b : CallStreams) → WritingFails a b → OutputFails a b
-output_failed a b (writing_output left f o e) = output_fails f o e
-output_failed a b (writing_errors left f o e) = errors_fail f o e
-
--- the cause of a call is that of the first step
-first_fault : {A : Type 0} (a b : CallStreams) (result : Result A Halt) → IsCause result a b → IsFirstFault result a b
-first_fault a b (Ok x) k = k
-first_fault a b (Err (Halts.Error number offending)) k = k
-first_fault a b (Err (Halts.Ends status)) k = k
-first_fault a b (Err Halts.ReadFault) k = record {
-  faults = k.faults;
-  output = k.output.counts;
-  errors = k.errors.counts;
-}
-first_fault a b (Err Halts.WriteFault) k = output_failed a b k
-first_fault a b (Err Halts.NoMemory) k = k
-
 -- What was handed gains
 
 -- where nothing was done
@@ -175,7 +120,7 @@ gains_none {was} a same = record {
 }
 
 -- by what follows an outside over some input
-gains_followed : (was now : Outside) (a b : CallStreams) (had has : List ℕ) → Follows (with_left had a) (with_left has b) was now
+gains_followed : (was now : Outside) (a b : CallStreams) (had has : Told) → Follows (streams_telling had a) (streams_telling has b) was now
     → GainsEvents was.history now.history a b
 gains_followed was now a b had has follows = record {
   done = follows.done;
@@ -198,10 +143,11 @@ some_more : {was between : List Event} {a b : CallStreams} (c : CallStreams) →
 some_more c first second = (errors_in first.done ++ second.0, gains_then first.errors second.1)
 
 -- what was put before a step was broken off for want of memory
-some_off : (state : State Frames Frames) (was : Outside) (a b : CallStreams) (had has : List ℕ) → BreaksOff state was (with_left had a) (with_left has b)
-    → GainsSome a b
+some_off : (state : State Frames Frames) (was : Outside) (a b : CallStreams) (had has : Told)
+    → BreaksOff state was (streams_telling had a) (streams_telling has b) → GainsSome a b
 some_off state was a b had has (idle e) = ([], gains_keeps (gains_nothing a.errors.held) e.errors.held)
 some_off state was a b had has (reading broken) = (errors_in broken.done, broken.stands.errors)
+some_off state was a b had has (files broken) = (errors_in broken.done, broken.stands.errors)
 some_off state was a b had has (putting broken) = (errors_in broken.done, broken.stands.errors)
 some_off state was a b had has (done_behind follows) = (errors_in follows.done, follows.stands.errors)
 
@@ -212,6 +158,7 @@ gains_by_then now c (Err (Halts.Error number offending)) first second = gains_mo
 gains_by_then now c (Err (Halts.Ends status)) first second = gains_more first second
 gains_by_then now c (Err Halts.ReadFault) first second = some_more c first second
 gains_by_then now c (Err Halts.WriteFault) first second = some_more c first second
+gains_by_then now c (Err Halts.FileFault) first second = some_more c first second
 gains_by_then now c (Err Halts.NoMemory) first second = some_more c first second
 
 -- One step
@@ -224,7 +171,7 @@ SettlesOn tables leads m before after result =
 -- a step is answered from the state's own outside on
 own_step : {K : Type 0} (tables : Tables) (m : Machine K) (stage : RunState) (n : Machine K) (was : Outside) (state : State Frames Frames)
     (before after : CallStreams) (result : Result RunState Halt)
-    → IsAt tables was state m stage → before.left ≡ Some was.left
+    → IsAt tables was state m stage → TellsOutside before was
     → AnswersStep (λ now answer. SettlesAt tables now (step flat tables state) n answer) (step flat tables state) was before after result
     → Leads IsFailing tables state was before n after result
 own_step tables m stage n was state before after result at told last =
@@ -238,6 +185,11 @@ own_step tables m stage n was state before after result at told last =
           after result)
           (sym own) last;
     }
+
+-- nothing is taken
+none_lost : (left : Option (List ℕ)) → IfSome left (λ l. LosesSome l left)
+none_lost None = tt
+none_lost (Some l) = (0, refl)
 
 -- a step that neither reads nor puts, and never errs
 pub quiet_step : {K : Type 0} (tables : Tables) (m : Machine K) (stage : RunState) (h : CallStreams) (n : Machine K) (next : RunState)
@@ -257,13 +209,14 @@ quiet_step tables m stage h n next goes stands = record {
     is = subst (λ (s : State Frames Frames). StandsAt tables was (step flat tables s) n next) (sym (at_same tables was state m stage at)) (stands was state at);
     gains = gains_none h (ap (λ (o : Outside). o.history) (sym own));
   };
+  taken = none_lost h.left;
   caused = keeps_all_counts_refl h;
 }
 
 -- where the machine stands over the input that the answer is meant for, and what was handed has gained
-meant_at : {K : Type 0} (tables : Tables) (state : State Frames Frames) (n : Machine K) (was : Outside) (before after : CallStreams) (had has : List ℕ)
+meant_at : {K : Type 0} (tables : Tables) (state : State Frames Frames) (n : Machine K) (was : Outside) (before after : CallStreams) (had has : Told)
     (result : Result RunState Halt)
-    → AnswersStep (λ now answer. SettlesAt tables now state n answer) state was (with_left had before) (with_left has after) result
+    → AnswersStep (λ now answer. SettlesAt tables now state n answer) state was (streams_telling had before) (streams_telling has after) result
     → (now : Outside) × (StandsBy tables now state n result × GainsBy result was.history now.history before after)
 meant_at tables state n was before after had has (Ok stage) h = (h.now, (h.is, gains_followed was h.now before after had has h.follows))
 meant_at tables state n was before after had has (Err (Halts.Error number offending)) h =
@@ -272,6 +225,7 @@ meant_at tables state n was before after had has (Err (Halts.Ends status)) h =
     (h.now, (h.is, gains_followed was h.now before after had has h.follows))
 meant_at tables state n was before after had has (Err Halts.ReadFault) h = (was, (tt, (errors_in h.done, h.stands.errors)))
 meant_at tables state n was before after had has (Err Halts.WriteFault) h = (was, (tt, (errors_in h.done, h.stands.errors)))
+meant_at tables state n was before after had has (Err Halts.FileFault) h = (was, (tt, (errors_in h.done, h.stands.errors)))
 meant_at tables state n was before after had has (Err Halts.NoMemory) h = (was, (tt, some_off state was before after had has h))
 
 -- a step that performs a row
@@ -284,10 +238,10 @@ performed_step tables leads m stage before n after result is p = record {
       (subst (λ (s : State Frames Frames). AnswersStep (λ now answer. SettlesAt tables now s n answer) s was before after result) (sym (is was state at))
       (p.answers was told));
   meant = λ was state at.
-      let first : Outside = record (outside_at state) { left = p.had } in
+      let first : Outside = record (outside_at state) { left = p.had.left; files = p.had.files } in
       let same : step flat tables (over_outside first state) ≡ leads first
       = is first (over_outside first state) (at_elsewhere tables was first state m stage at) in
-      let there = meant_at tables (leads first) n first before after p.had p.has result (p.meant first refl) in
+      let there = meant_at tables (leads first) n first before after p.had p.has result (p.meant first (record { left = refl; files = λ name. refl })) in
       record {
         first = first;
         later = [];
@@ -297,6 +251,10 @@ performed_step tables leads m stage before n after result is p = record {
         is = subst (λ (s : State Frames Frames). StandsBy tables there.0 s n result) (sym same) there.1.0;
         gains = there.1.1;
       };
+  taken = told_taken before after p.had p.has p.allowed p.allows
+      (step_taken (λ now answer. SettlesAt tables now (leads (outside_told p.had)) n answer) (leads (outside_told p.had))
+      (outside_told p.had) (streams_telling p.had before) (streams_telling p.has after) result refl
+      (p.meant (outside_told p.had) (told_so p.had)));
   caused = first_fault before after result p.caused;
 }
 
@@ -309,8 +267,9 @@ advances_then Is tables m stage a n next b k c result goes passes first second =
   answers = λ was state at told.
       let one = first.answers was state at told in
       let now = one.last.now in
+      let one_told = follows_tells told one.follows in
       let there = steps flat tables (suc one.count) state in
-      let two = second.answers now there (is_at tables now there n next goes one.last.is) (follows_left one.last.follows) in
+      let two = second.answers now there (is_at tables now there n next goes one.last.is) (follows_tells one_told one.last.follows) in
       let same : steps flat tables (suc one.count + two.count) state ≡ steps flat tables two.count there = steps_then tables (suc one.count) two.count state in
       let more : suc (suc one.count + two.count) ≡ suc one.count + suc two.count = omega arith in
       let all : steps flat tables (suc (suc one.count + two.count)) state ≡ steps flat tables (suc two.count) there
@@ -351,6 +310,7 @@ advances_then Is tables m stage a n next b k c result goes passes first second =
             (subst (λ (o : Outside). GainsBy result o.history two.now.history b c) (at_own tables one.now there n next
             (is_at tables one.now there n next goes one.is)) two.gains);
       };
+  taken = taken_then a.left b.left c.left first.taken second.taken;
   caused = fault_then a b c result first.caused second.caused;
 }
 
@@ -384,5 +344,6 @@ advances_any {K} {Is} {tables} p = record {
     is = one.is;
     gains = one.gains;
   };
+  taken = p.taken;
   caused = p.caused;
 }

@@ -8,7 +8,7 @@ use Rattle.icn_text.specs.declared.func.Func.{Func}
 use Rattle.icn_value.specs.declared.val.Val.{Val}
 use Rattle.icn_value.specs.declared.val.Val.TheVariants as Vals
 use Rattle.icn_value.specs.declared.item.Item.{Item as HeldItem}
-use Rattle.icn_value.specs.Store.{Names, list_at, outside_of, record_at}
+use Rattle.icn_value.specs.Store.{Names, list_at, bare_outside, record_at}
 use Rattle.icn_value.specs.Values.{Value, Null, Integer, Text, Chars, Std, Procedure, ARecord, AList, ASet, ATable, ACoexp}
 use Rattle.law_rows.proofs.EachOfList.{each_of}
 use Rattle.icn_heap.specs.Extents.{Extent, value_in}
@@ -47,7 +47,7 @@ use Rattle.icn_machine.proofs.SettleSteps.{errs_fit, errs_named, named_errs}
 
 -- a store of a world in which no co-expression was made
 abbrev pub bare_store : Names → World → Store Frames
-bare_store names w = record { world = world_of w; outside = outside_of []; turns = 0; begun = []; coexps = []; active = 0; names = names }
+bare_store names w = record { world = world_of w; outside = bare_outside; turns = 0; begun = []; coexps = []; active = 0; names = names }
 
 bare_named : (names : Names) (w : World) → WorldNamed names (world_of w) → StoreNamed names (bare_store names w)
 bare_named names w h = record { world = h; coexps = All-nil (CoexpNamed names) }
@@ -87,6 +87,7 @@ halted_named names ns w v n state (Halts.Error number offending) h e = λ goes. 
 halted_named names ns w v n state (Halts.Ends status) h e = tt
 halted_named names ns w v n state Halts.ReadFault h e = tt
 halted_named names ns w v n state Halts.WriteFault h e = tt
+halted_named names ns w v n state Halts.FileFault h e = tt
 halted_named names ns w v n state Halts.NoMemory h e = tt
 
 pub call_named : (law : StepsKeepNames) (tables : Tables) (names : Names) (w v : World) (m n : FlatStack) (callee : Val) (items : List rows.Item)
@@ -296,6 +297,7 @@ call_sized law tables w v m n callee items result none h g fits = by_result resu
     by_result (Err (Halts.Ends status)) h g = tt
     by_result (Err Halts.ReadFault) h g = tt
     by_result (Err Halts.WriteFault) h g = tt
+    by_result (Err Halts.FileFault) h g = tt
     by_result (Err Halts.NoMemory) h g = tt
 
 -- what holds whatever is answered
@@ -305,6 +307,7 @@ unless_over w (Err (Halts.Error number offending)) P p = λ goes. p
 unless_over w (Err (Halts.Ends status)) P p = tt
 unless_over w (Err Halts.ReadFault) P p = tt
 unless_over w (Err Halts.WriteFault) P p = tt
+unless_over w (Err Halts.FileFault) P p = tt
 unless_over w (Err Halts.NoMemory) P p = tt
 
 pub sizes_stay_on : (result : Result RunState Halt) (w v : World) (sizes : ℕ → ℕ) → UnlessEnded result (WorldsKeepSizes w v)
@@ -315,4 +318,5 @@ sizes_stay_on (Err (Halts.Error number offending)) w v sizes h fits = λ goes. (
 sizes_stay_on (Err (Halts.Ends status)) w v sizes h fits = tt
 sizes_stay_on (Err Halts.ReadFault) w v sizes h fits = tt
 sizes_stay_on (Err Halts.WriteFault) w v sizes h fits = tt
+sizes_stay_on (Err Halts.FileFault) w v sizes h fits = tt
 sizes_stay_on (Err Halts.NoMemory) w v sizes h fits = tt

@@ -2,7 +2,7 @@
 use Rattle.std.proofs.Common.{◌≡◌, ◌≢◌, ℕ, suc, Bool, true, false, List, [], length, Option, Some, None, Result, Ok, Err, refl, sym, ap, ◌∙◌, subst}
 use Rattle.std.specs.Option.{option_map}
 use Rattle.std.specs.Prelude.{IsErrAnd, IsSome, slice_get, slice_index_or, nat_lt, ⊤}
-use Rattle.icn_value.specs.Store.{Outside, outside_of}
+use Rattle.icn_value.specs.Store.{Outside, bare_outside}
 use Rattle.icn_value.specs.Values.{Value}
 use Rattle.icn_value.specs.Limited.{limits_of}
 use Rattle.icn_heap.specs.Extents.{value_in}
@@ -119,10 +119,10 @@ module _ {K : Type 0} (m n : Machine K) (f : FlatStack) (moves : Moves m n f) wh
       in_range =
           subst (λ (s : FlatStack). IsInRange tables (held.proc s) instr) (sym now_stack) (instr_in_range tables (held.proc f) f.address instr rules stands);
       mark =
-          subst (λ (s : Frames). HasCaseMark instr s) (sym moved_stack) (((kept_running tables m ready.kept (outside_of [])).always []).mark instr instr_here);
+          subst (λ (s : Frames). HasCaseMark instr s) (sym moved_stack) (((kept_running tables m ready.kept bare_outside).always []).mark instr instr_here);
       stack_named =
           subst (λ (s : Frames). StackNamed (all_names tables) s) (sym moved_stack)
-          (record { cells = (kept_running tables m ready.kept (outside_of [])).named.0.cells });
+          (record { cells = (kept_running tables m ready.kept bare_outside).named.0.cells });
       store_named =
           λ outside. subst (λ (st : Store Frames). StoreNamed (all_names tables) st) (sym (moved_store tables outside))
           (kept_running tables m ready.kept outside).named.1;
@@ -191,14 +191,15 @@ pub whole_done : {K : Type 0} (tables : Tables) (m n : Machine K) (instr : Instr
     → (takes_no_memory instr ≡ true → HasMemory result) → EndsWhole result
 whole_done tables m n instr (Ok stage) w comes memory =
     let o : Outside
-    = outside_of [] in whole_stands tables o (does tables o instr m) n stage (whole_state tables instr (stack_seen m) (store_seen tables o m) w) (comes o)
+    = bare_outside in whole_stands tables o (does tables o instr m) n stage (whole_state tables instr (stack_seen m) (store_seen tables o m) w) (comes o)
 whole_done tables m n instr (Err (Halts.Error number offending)) w comes memory =
-    let o : Outside = outside_of [] in
+    let o : Outside = bare_outside in
     errs_fails number (option_map (value_in (extent n)) offending) (stack_seen n) (store_seen tables o n)
     (subst NeverFails (comes o) (whole_state tables instr (stack_seen m) (store_seen tables o m) w))
 whole_done tables m n instr (Err (Halts.Ends status)) w comes memory = tt
 whole_done tables m n instr (Err Halts.ReadFault) w comes memory = tt
 whole_done tables m n instr (Err Halts.WriteFault) w comes memory = tt
+whole_done tables m n instr (Err Halts.FileFault) w comes memory = tt
 whole_done tables m n instr (Err Halts.NoMemory) w comes memory = absurd (memory (whole_memory instr w) refl)
 
 -- Answers
@@ -234,6 +235,7 @@ err_memory halt (Err h) e w = by h (subst (λ (x : Halt). EndsWhole (Err x)) (sy
     by (Halts.Ends status) q = λ r. absurd (cc)
     by Halts.ReadFault q = λ r. absurd (cc)
     by Halts.WriteFault q = λ r. absurd (cc)
+    by Halts.FileFault q = λ r. absurd (cc)
     by Halts.NoMemory q = absurd q
 
 -- failing behind an instruction

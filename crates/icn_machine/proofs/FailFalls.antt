@@ -9,7 +9,7 @@ use Rattle.icn_code.specs.Codes.{Tables}
 use Rattle.icn_run.specs.Rows.{Outcome, Fails, Gives, Suspends, Error, Ends, Done, again}
 use Rattle.icn_run.specs.Calls.{Pair, Why, Alt, Op, Scan, Escan, Proc}
 use Rattle.icn_run.specs.Stacks.{Cell, base, call, local, mark, limit, suspension, operand, Frames, cut, cell_at, drop_from, flat, leave_from, resume_from as resumed_from, swap_at, with_pair as with_pair_at}
-use Rattle.icn_run.specs.Step.{State, Store, Status, Fresh, Active, Waiting, Exhausted as IsExhausted, running, failing, hopping, over, stuck, activator_of, all_left, with_exchange, exhaust_active, fail_by, fails, here, hop, is_create_body, is_main, mark_dropped, maybe_exchanged, outcome, pair_now, passed_failure, proc_fails, resume_by, resumed_or_dropped, return_to, status_of, swapped_back, turn, turn_if, with_at, with_status}
+use Rattle.icn_run.specs.Step.{State, Store, Status, Fresh, Active, Waiting, Exhausted as IsExhausted, running, failing, hopping, over, stuck, activator_of, all_left, with_exchange, exhaust_active, fail_by, fails, here, hop, is_create_body, is_main, mark_dropped, maybe_exchanged, outcome, over_with, pair_now, passed_failure, proc_fails, resume_by, resumed_or_dropped, return_to, status_of, swapped_back, turn, turn_if, with_at, with_status}
 use Rattle.icn_run.proofs.Errors.{at_error}
 
 -- a state after a turn more than so many
@@ -144,7 +144,7 @@ module _ (tables : Tables) (m : Frames) (st : Store Frames) where
   back_bounds None = refl
   back_bounds (Some swap) = refl
 
-  finishes : (b : Bool) (s : Store Frames) → Goal (if b then over Done s.outside else stuck)
+  finishes : (b : Bool) (s : Store Frames) → Goal (if b then over_with Done s.world s.outside else stuck)
   finishes true s = tt
   finishes false s = tt
 

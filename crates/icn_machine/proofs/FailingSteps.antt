@@ -1,8 +1,8 @@
 -- A step of failing, on a machine.
-use Rattle.std.proofs.Common.{◌≡◌, ◌≢◌, ◌⊎◌, inl, inr, ◌<◌, ℕ, suc, [], length, Result, Ok, Err, IfOk, refl, sym, ap, subst, arith}
+use Rattle.std.proofs.Common.{◌≡◌, ◌≢◌, ◌⊎◌, inl, inr, ◌<◌, ℕ, suc, length, Result, Ok, Err, IfOk, refl, sym, ap, subst, arith}
 use Rattle.icn_value.specs.declared.limits.Limits.{Limits}
 use Rattle.icn_value.specs.Limited.{Bounds, limits_of}
-use Rattle.icn_value.specs.Store.{Names, Outside, outside_of}
+use Rattle.icn_value.specs.Store.{Names, Outside, bare_outside}
 use Rattle.icn_heap.specs.Heaps.{heap_of}
 use Rattle.icn_vars.specs.declared.outcome.Halt.{Halt}
 use Rattle.icn_code.specs.Codes.{Tables}
@@ -10,6 +10,7 @@ use Rattle.icn_run.specs.Stacks.{Frames, flat}
 use Rattle.icn_run.specs.Step.{State, failing, hopping, stuck, step, fails, hop}
 use Rattle.law_steps.specs.KeepingNames.{StepsKeepNames}
 use Rattle.law_steps.specs.KeepingSizes.{StepsKeepSizes}
+use Rattle.icn_streams.proofs.CallSequences.{outside_told, told_so}
 use Rattle.icn_streams.specs.Handed.{CallStreams}
 use Rattle.icn_control.specs.FailingMachines.{DueAt}
 use Rattle.icn_control.specs.FailingStacks.{DueNamed}
@@ -99,7 +100,7 @@ failed_quietly tables m n h stage f =
 
 pub lands_quietly : {K : Type 0} (tables : Tables) (m n : Machine K) (stage : RunState)
     → ((outside : Outside) → StandsAt tables outside (failed tables m outside) n stage) → Lands tables m n stage
-lands_quietly tables m n stage f = (outside_of [], (outside_of [], f (outside_of [])))
+lands_quietly tables m n stage f = (bare_outside, (bare_outside, f bare_outside))
 
 -- a turn and what comes behind it
 pub by_due : {K : Type 0} (tables : Tables) (outside : Outside) (state due : State Frames Frames) (n : Machine K) (stage : RunState) → state ≡ due
@@ -149,7 +150,7 @@ pub lands_performing : {K : Type 0} (tables : Tables) (m : Machine K) (before : 
     (result : Result RunState Halt)
     → SettlesOn tables (failed tables m) n before after result → IfOk result (Lands tables m n)
 lands_performing tables m before n after (Ok stage) p =
-    let first : Outside = outside_of p.had in let told = p.meant first refl in (first, (told.now, told.is))
+    let first : Outside = outside_told p.had in let told = p.meant first (told_so p.had) in (first, (told.now, told.is))
 lands_performing tables m before n after (Err halt) p = tt
 
 -- what follows where something is answered
@@ -184,14 +185,14 @@ hopped_turn tables m n RunStates.Running b f = tt
 hopped_turn tables m n RunStates.Over b f = tt
 hopped_turn tables m n RunStates.AtBound b f = tt
 hopped_turn tables m n RunStates.Hopping b f =
-    let o : Outside = outside_of [] in
+    let o : Outside = bare_outside in
     let l = f o (stack_seen m) in
     let there : Further m.turns (heap_of m.world.heap).bounds.turns 0 (hopping l.0 (store_seen tables o n)) =
     subst (λ (s : State Frames Frames). Further m.turns (heap_of m.world.heap).bounds.turns 0 s) l.1
     (hops_further tables (stack_seen m) (store_seen tables o m) 0) in
     record { more = there.0; within = subst (λ (t : ℕ). m.turns < t) (turns_bound (heap_of m.world.heap).bounds m.limits b) there.1 }
 hopped_turn tables m n RunStates.Failing b f =
-    let o : Outside = outside_of [] in
+    let o : Outside = bare_outside in
     let there : Further m.turns (heap_of m.world.heap).bounds.turns 0 (failing (stack_seen n) (store_seen tables o n)) =
     subst (λ (s : State Frames Frames). Further m.turns (heap_of m.world.heap).bounds.turns 0 s) (f o (stack_seen m))
     (hops_further tables (stack_seen m) (store_seen tables o m) 0) in

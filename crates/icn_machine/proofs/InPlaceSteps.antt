@@ -2,7 +2,7 @@
 use Rattle.std.proofs.Common.{◌≡◌, ℕ, ◌+◌, true, false, nat_lt, List, [], map, Option, Some, None, IsSome, Result, refl, sym, ap, ◌∙◌, subst, add-one}
 use Rattle.icn_text.specs.declared.op.Op.{Op}
 use Rattle.icn_value.specs.declared.item.Item.{Item}
-use Rattle.icn_value.specs.Store.{Outside, outside_of}
+use Rattle.icn_value.specs.Store.{Outside, bare_outside}
 use Rattle.icn_defs.specs.Arities.{arity}
 use Rattle.icn_heap.specs.Extents.{Extent}
 use Rattle.icn_heap.specs.Heaps.{heap_of}
@@ -85,7 +85,7 @@ pub alone_runs : {K : Type 0} (m : Machine K) (s : SeenStack) (tables : Tables) 
     → nat_lt m.turns (heap_of m.world.heap).bounds.turns ≡ true → OperatesAlone op f s.flat stage → HasStack (a_turn_on m s) stage
 alone_runs m s tables op f RunStates.Running more done = refl
 alone_runs m s tables op f RunStates.Failing more done = refl
-alone_runs m s tables op f RunStates.Hopping more done = absurd (done (extent m) tables (store_seen tables (outside_of []) m) more)
+alone_runs m s tables op f RunStates.Hopping more done = absurd (done (extent m) tables (store_seen tables bare_outside m) more)
 alone_runs m s tables op f RunStates.Over more done = tt
 alone_runs m s tables op f RunStates.AtBound more done = tt
 

@@ -2,6 +2,7 @@ pub mod AdvanceSteps
 pub mod CallFacts
 pub mod CodeRules
 pub mod CountSteps
+pub mod CountedFaults
 pub mod DoingSteps
 pub mod ElementSteps
 pub mod FailFalls

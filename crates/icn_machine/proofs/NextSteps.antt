@@ -7,7 +7,7 @@ use Rattle.std.proofs.lemmas.Option.{slice_get_within}
 use Rattle.icn_text.specs.declared.op.Op.{Op}
 use Rattle.icn_text.specs.declared.op.Op.TheVariants as Ops
 use Rattle.icn_defs.specs.Arities.{arity}
-use Rattle.icn_value.specs.Store.{Names, Outside, outside_of}
+use Rattle.icn_value.specs.Store.{Names, Outside, bare_outside}
 use Rattle.icn_value.specs.Values.{Value}
 use Rattle.icn_heap.specs.Extents.{Extent, value_in}
 use Rattle.icn_heap.specs.Heaps.{heap_of}
@@ -27,6 +27,7 @@ use Rattle.icn_run.specs.Step.{State, Store, running, stuck, step, all_names, in
 use Rattle.law_steps.specs.StateNames.{CoexpNamed, StackNamed, StateNamed, StoreNamed}
 use Rattle.law_steps.specs.KeepingNames.{MayCall, StepsKeepNames}
 use Rattle.law_steps.specs.KeepingSizes.{StateFits, StepsKeepSizes, StoreFits, field_count}
+use Rattle.icn_streams.proofs.CallSequences.{outside_told, told_so}
 use Rattle.icn_streams.specs.Handed.{CallStreams}
 use Rattle.icn_control.specs.Machines.{ComesTo, IsSoundMachine, StandsAt, does, extent, stack_of, stack_seen, store_seen}
 use Rattle.icn_control.specs.Soundness.{HasItsStack, UnlessEnded}
@@ -141,20 +142,20 @@ doing_not_stuck tables m instr j e d outside = subst (λ (x : Instr). does table
 
 pub op_operands : {K : Type 0} (tables : Tables) (m : Machine K) (instr : Instr) (op : Op) → instr ≡ Instrs.Op op → IsDoing tables m instr
     → IsSome (take_operands (arity op) (stack_of m))
-op_operands tables m instr op e d = take_there (extent m) (arity op) (stack_of m) _ (doing_not_stuck tables m instr (Instrs.Op op) e d (outside_of []))
+op_operands tables m instr op e d = take_there (extent m) (arity op) (stack_of m) _ (doing_not_stuck tables m instr (Instrs.Op op) e d bare_outside)
 
 pub invoke_operands : {K : Type 0} (tables : Tables) (m : Machine K) (instr : Instr) (n : ℕ) → instr ≡ Instrs.Invoke n → IsDoing tables m instr
     → IsSome (take_operands (suc n) (stack_of m))
-invoke_operands tables m instr n e d = take_there (extent m) (suc n) (stack_of m) _ (doing_not_stuck tables m instr (Instrs.Invoke n) e d (outside_of []))
+invoke_operands tables m instr n e d = take_there (extent m) (suc n) (stack_of m) _ (doing_not_stuck tables m instr (Instrs.Invoke n) e d bare_outside)
 
 pub appl_operands : {K : Type 0} (tables : Tables) (m : Machine K) (instr : Instr) → instr ≡ Instrs.Appl → IsDoing tables m instr
     → IsSome (take_operands 2 (stack_of m))
-appl_operands tables m instr e d = take_there (extent m) 2 (stack_of m) _ (doing_not_stuck tables m instr Instrs.Appl e d (outside_of []))
+appl_operands tables m instr e d = take_there (extent m) 2 (stack_of m) _ (doing_not_stuck tables m instr Instrs.Appl e d bare_outside)
 
 pub field_operand : {K : Type 0} (tables : Tables) (m : Machine K) (instr : Instr) (n : ℕ) → instr ≡ Instrs.Field n → IsDoing tables m instr
     → IsSome (held.pop (stack_of m))
 field_operand tables m instr n e d =
-    one_there (stack_of m) (take_there (extent m) 1 (stack_of m) _ (doing_not_stuck tables m instr (Instrs.Field n) e d (outside_of [])))
+    one_there (stack_of m) (take_there (extent m) 1 (stack_of m) _ (doing_not_stuck tables m instr (Instrs.Field n) e d bare_outside))
 
 pub names_as : {K : Type 0} (names : Names) (tables : Tables) (m : Machine K) (instr : Instr) → names ≡ all_names tables → IsDoing tables m instr
     → StackNamed names (stack_seen m)
@@ -162,7 +163,7 @@ names_as names tables m instr e d = subst (λ (n : Names). StackNamed n (stack_s
 
 pub world_names_as : {K : Type 0} (names : Names) (tables : Tables) (m : Machine K) (instr : Instr) → names ≡ all_names tables
     → IsDoing tables m instr → WorldNamed names (world_of m.world)
-world_names_as names tables m instr e d = subst (λ (n : Names). WorldNamed n (world_of m.world)) (sym e) (d.store_named (outside_of [])).world
+world_names_as names tables m instr e d = subst (λ (n : Names). WorldNamed n (world_of m.world)) (sym e) (d.store_named bare_outside).world
 
 -- where a machine stands over some outside, or the error to which it came
 abbrev pub ComesBy : {K : Type 0} → Tables → (Outside → State Frames Frames) → Machine K → Result RunState Halt → Type 0
@@ -171,18 +172,20 @@ ComesBy tables leads n result = UnlessEnded result ((was : Outside) × ((now : O
 pub comes_by : {K : Type 0} (tables : Tables) (leads : Outside → State Frames Frames) (before : CallStreams) (n : Machine K) (after : CallStreams)
     (result : Result RunState Halt)
     → PerformsOn tables leads n before after result → ComesBy tables leads n result
-comes_by tables leads before n after (Ok stage) p = let first : Outside = outside_of p.had in let told = p.meant first refl in (first, (told.now, told.is))
+comes_by tables leads before n after (Ok stage) p =
+    let first : Outside = outside_told p.had in let told = p.meant first (told_so p.had) in (first, (told.now, told.is))
 comes_by tables leads before n after (Err (Halts.Error number offending)) p =
-    let first : Outside = outside_of p.had in let told = p.meant first refl in (first, (told.now, told.is))
+    let first : Outside = outside_told p.had in let told = p.meant first (told_so p.had) in (first, (told.now, told.is))
 comes_by tables leads before n after (Err (Halts.Ends status)) p = tt
 comes_by tables leads before n after (Err Halts.ReadFault) p = tt
 comes_by tables leads before n after (Err Halts.WriteFault) p = tt
+comes_by tables leads before n after (Err Halts.FileFault) p = tt
 comes_by tables leads before n after (Err Halts.NoMemory) p = tt
 
 pub comes_quietly : {K : Type 0} (tables : Tables) (leads : Outside → State Frames Frames) (n : Machine K) (result : Result RunState Halt)
     → ((outside : Outside) → ComesTo tables outside (leads outside) n result) → ComesBy tables leads n result
 comes_quietly tables leads n result f =
-    let o : Outside = outside_of [] in unless_ended result ((was : Outside) × ((now : Outside) × ComesTo tables now (leads was) n result)) (o, (o, f o))
+    let o : Outside = bare_outside in unless_ended result ((was : Outside) × ((now : Outside) × ComesTo tables now (leads was) n result)) (o, (o, f o))
 
 -- where all that is kept of each state to which an instruction leads
 pub ready_after : {K : Type 0} (tables : Tables) (leads : Outside → State Frames Frames) (n : Machine K) (result : Result RunState Halt)
@@ -204,6 +207,7 @@ erring_after tables leads n (Err (Halts.Error number offending)) kept l sound st
 erring_after tables leads n (Err (Halts.Ends status)) kept l sound stack = tt
 erring_after tables leads n (Err Halts.ReadFault) kept l sound stack = tt
 erring_after tables leads n (Err Halts.WriteFault) kept l sound stack = tt
+erring_after tables leads n (Err Halts.FileFault) kept l sound stack = tt
 erring_after tables leads n (Err Halts.NoMemory) kept l sound stack = tt
 
 -- by the laws of names and sizes
@@ -274,6 +278,7 @@ called_keeps names tables m n instr j result e i d left more sized was now comes
     by_result (Err (Halts.Ends status)) left fits comes = tt
     by_result (Err Halts.ReadFault) left fits comes = tt
     by_result (Err Halts.WriteFault) left fits comes = tt
+    by_result (Err Halts.FileFault) left fits comes = tt
     by_result (Err Halts.NoMemory) left fits comes = tt
 
 -- the step of the run

@@ -6,7 +6,7 @@ use Rattle.std.specs.Option.{option_map, option_and_then}
 use Rattle.std.proofs.lemmas.List.Elements.{All-cons, All-nil}
 use Rattle.std.proofs.lemmas.Option.{same_Some}
 use Rattle.icn_value.specs.declared.item.Item.{Item}
-use Rattle.icn_value.specs.Store.{Names, Outside, outside_of}
+use Rattle.icn_value.specs.Store.{Names, Outside, bare_outside}
 use Rattle.icn_heap.specs.Extents.{Extent}
 use Rattle.icn_heap.specs.Heaps.{extent_of, heap_of}
 use Rattle.law_names.specs.NamedSettings.{ItemNamed}
@@ -205,6 +205,7 @@ going_has_stack m (Err (Halts.Error number offending)) g r = r
 going_has_stack m (Err (Halts.Ends status)) g r = tt
 going_has_stack m (Err Halts.ReadFault) g r = tt
 going_has_stack m (Err Halts.WriteFault) g r = tt
+going_has_stack m (Err Halts.FileFault) g r = tt
 going_has_stack m (Err Halts.NoMemory) g r = tt
 
 -- co-expressions name only what has a name, where they did in a world that has grown
@@ -213,7 +214,7 @@ pub coexps_left : (t : Tables) (names : Names) (w v : World) (table : CoexpTable
     → All (CoexpNamed names) (map (coexp_in (extent_of w.heap)) table.coexps)
     → All (CoexpNamed names) (map (coexp_in (extent_of v.heap)) (record table { running = Some n }).coexps)
 coexps_left t names w v table n kept live h =
-    subst (λ (st : Store Frames). All (CoexpNamed names) st.coexps) (grown_store t names (outside_of []) w v 0 [] table (Some n) kept live) h
+    subst (λ (st : Store Frames). All (CoexpNamed names) st.coexps) (grown_store t names bare_outside w v 0 [] table (Some n) kept live) h
 
 -- a machine on which a turn was counted, and whose world has grown, is sound
 pub sound_after : {K : Type 0} (m after : Machine K) (t : Tables) (n : FlatStack) → after.turns ≡ m.turns + 1 → after.limits ≡ m.limits
@@ -263,6 +264,7 @@ erred_sound m after t n (Err other) halt e turns limits table kept live counts k
     by_halt (Halts.Ends status) l = tt
     by_halt Halts.ReadFault l = tt
     by_halt Halts.WriteFault l = tt
+    by_halt Halts.FileFault l = tt
     by_halt Halts.NoMemory l = tt
 
 -- the top operand is one operand that is taken

@@ -8,7 +8,7 @@ use Rattle.icn_text.specs.declared.op.Op.TheVariants as Ops
 use Rattle.icn_value.specs.declared.item.Item.{Item}
 use Rattle.icn_value.specs.declared.residual.Residual.{Residual}
 use Rattle.icn_value.specs.Limited.{limits_of}
-use Rattle.icn_value.specs.Store.{Names, Outside, outside_of}
+use Rattle.icn_value.specs.Store.{Names, Outside, bare_outside}
 use Rattle.icn_defs.specs.Applying as rows
 use Rattle.icn_defs.specs.Arities.{arity}
 use Rattle.icn_defs.specs.Rows.{Row, Outcome, Fails, Gives, Suspends, Error, Ends}
@@ -29,13 +29,14 @@ use Rattle.icn_coexp.specs.Transfers.{CoexpTable}
 use Rattle.law_frames.proofs.CallsRead.{pop_read}
 use Rattle.icn_code.specs.declared.instr.Instr.TheVariants as Instrs
 use Rattle.icn_code.specs.Codes.{Tables}
-use Rattle.icn_streams.proofs.CallSequences.{follows_all}
-use Rattle.icn_streams.proofs.IdleCalls.{leaves_streams_refl}
-use Rattle.icn_streams.specs.Handed.{CallStreams, KeepsAllCounts, uncounted}
+use Rattle.icn_streams.proofs.CallSequences.{follows_all, outside_told, tells_told, told_so}
+use Rattle.icn_streams.proofs.IdleCalls.{allows_own, allows_still, keeps_all_counts_refl, leaves_streams_refl, told_of}
+use Rattle.icn_streams.specs.Answers.{streams_telling}
+use Rattle.icn_streams.specs.Handed.{CallStreams, uncounted}
 use Rattle.icn_run.specs.Calls as calls
 use Rattle.icn_run.specs.Rows as run_rows
 use Rattle.icn_run.specs.Stacks.{Frames, flat}
-use Rattle.icn_run.specs.Step.{State, Store, running, failing, over, stuck, all_names, errs, finish_run, here, instruction, is_main, operate, outcome, resume_by, turn, turn_if, with_at, with_world}
+use Rattle.icn_run.specs.Step.{State, Store, running, failing, over, stuck, all_names, errs, finish_run, here, instruction, is_main, operate, outcome, over_with, resume_by, turn, turn_if, with_at, with_world}
 use Rattle.icn_run.proofs.Errors.{at_error}
 use Rattle.law_steps.specs.StateNames.{StackNamed}
 use Rattle.law_steps.proofs.CallsNamed as named
@@ -54,24 +55,27 @@ use Rattle.icn_control.proofs.GrowthSteps.{grown_store, stacks_grow}
 use Rattle.icn_control.proofs.ListSteps.{on_running}
 use Rattle.icn_control.proofs.TakenOperandSteps.{taken_runs}
 use Rattle.icn_machine.specs.InstructionAnswers as answering
-use Rattle.icn_machine.specs.InstructionAnswers.{Performs, with_left}
+use Rattle.icn_machine.specs.InstructionAnswers.{Performs}
 use Rattle.icn_machine.specs.Performing.{PerformsRow, StandsOver, row_on}
 use Rattle.icn_machine.proofs.PerformEvents.{performs_as}
 
 -- Where nothing was read or put
-
-counts_same : (b : CallStreams) → KeepsAllCounts b b
-counts_same b = record { faults = refl; output = record { faults = refl; wants = refl }; errors = record { faults = refl; wants = refl } }
 
 -- the step itself neither reads nor puts
 pub performs_still : {A : Type 0} (leads : Outside → State Frames Frames) (C : Outside → Outside → Result A Halt → Type 0) (b : CallStreams) (x : A)
     → ((was : Outside) → C was was (Ok x)) → Performs leads C b b (Ok x)
 performs_still leads C b x h = record {
   answers = λ was told. record { now = was; follows = follows_all b was told; is = h was };
-  had = [];
-  has = [];
-  meant = λ was left. record { now = was; follows = follows_all (with_left [] b) was (ap (λ (xs : List ℕ). Some xs) (sym left)); is = h was };
-  caused = counts_same b;
+  had = told_of b;
+  has = told_of b;
+  allowed = allows_own b;
+  allows = allows_still b;
+  meant = λ was first. record {
+    now = was;
+    follows = follows_all (streams_telling (told_of b) b) was (tells_told (told_of b) b was first);
+    is = h was;
+  };
+  caused = keeps_all_counts_refl b;
 }
 
 -- memory ran out before anything was read or put
@@ -79,10 +83,12 @@ pub performs_idle : {A : Type 0} (leads : Outside → State Frames Frames) (C : 
     → Performs leads C b b (Err Halts.NoMemory)
 performs_idle leads C b = record {
   answers = λ was told. answering.idle (leaves_streams_refl _);
-  had = [];
-  has = [];
+  had = told_of b;
+  has = told_of b;
+  allowed = allows_own b;
+  allows = allows_still b;
   meant = λ was left. answering.idle (leaves_streams_refl _);
-  caused = uncounted (counts_same b);
+  caused = uncounted (keeps_all_counts_refl b);
 }
 
 -- What a row comes to, on the machine
@@ -96,7 +102,7 @@ is_finished state = false
 finished_is : (st : Store Frames) → is_finished (finish_run st) ≡ true
 finished_is st = by_main (is_main st.active)
   where
-    by_main : (b : Bool) → is_finished (if b then over run_rows.Done st.outside else stuck) ≡ true
+    by_main : (b : Bool) → is_finished (if b then over_with run_rows.Done st.world st.outside else stuck) ≡ true
     by_main true = refl
     by_main false = refl
 
@@ -149,6 +155,7 @@ comes_to m t tables w turns table n oc a st was now (Err (Halts.Error number off
 comes_to m t tables w turns table n oc a st was now (Err (Halts.Ends status)) k l e f h = h
 comes_to m t tables w turns table n oc a st was now (Err Halts.ReadFault) k l e f h = absurd h
 comes_to m t tables w turns table n oc a st was now (Err Halts.WriteFault) k l e f h = absurd h
+comes_to m t tables w turns table n oc a st was now (Err Halts.FileFault) k l e f h = absurd h
 comes_to m t tables w turns table n oc a st was now (Err Halts.NoMemory) k l e f h = tt
 
 -- the store of a machine in a turn
@@ -163,32 +170,33 @@ pub performs_on : {K : Type 0} (m : Machine K) (t tables : Tables) (w : World) (
     → ((was : Outside) → leads was ≡ row_on row w k (store_in_turn tables w turns table m was) was) → PerformsRow row w k b m.world n a result
     → Performs leads (λ was now answer. ComesTo tables now (leads was) m answer) b a result
 performs_on m t tables w turns table k n row leads b a result kept live e f same p =
-    let st : Store Frames = store_in_turn tables w turns table m (outside_of []) in
+    let st : Store Frames = store_in_turn tables w turns table m bare_outside in
     let on : Frames = stack_in (extent_of w.heap) k in
     let at : Outside → Store Frames = store_in_turn tables w turns table m in
     performs_as leads (row_on row w k st) (λ was now answer. StandsOver (row_on row w k st was) st m.world n now answer)
     (λ was now answer. ComesTo tables now (leads was) m answer) b a result same
     (λ was now h. subst (λ (x : State Frames Frames). ComesTo tables now x m result) (sym (same was))
-    (comes_to m t tables w turns table n (row (here flat on (at was))) on (at was) (outside_of []) now result kept live e f h))
+    (comes_to m t tables w turns table n (row (here flat on (at was))) on (at was) bare_outside now result kept live e f h))
     (p st refl)
 
 -- a store of this world
 abbrev store_of : World → Store Frames
 store_of w =
-    record { world = world_of w; outside = outside_of []; turns = 0; begun = []; coexps = []; active = 0; names = record { procedures = []; records = [] } }
+    record { world = world_of w; outside = bare_outside; turns = 0; begun = []; coexps = []; active = 0; names = record { procedures = []; records = [] } }
 
 -- a stack runs where a row was answered, which never comes to a hop
 pub has_stack : {K : Type 0} (m : Machine K) (w : World) (k n : FlatStack) (row : Row) (b a : CallStreams) (result : Result RunState Halt)
     → m.stacks.table.running ≡ Some n → PerformsRow row w k b m.world n a result → HasItsStack m result
 has_stack m w k n row b a (Ok RunStates.Running) e p = subst (λ (o : Option FlatStack). IsSome o) (sym e) refl
 has_stack m w k n row b a (Ok RunStates.Failing) e p = subst (λ (o : Option FlatStack). IsSome o) (sym e) refl
-has_stack m w k n row b a (Ok RunStates.Hopping) e p = let said = p (store_of w) refl in absurd (said.meant (outside_of said.had) refl).is
+has_stack m w k n row b a (Ok RunStates.Hopping) e p = let said = p (store_of w) refl in absurd (said.meant (outside_told said.had) (told_so said.had)).is
 has_stack m w k n row b a (Ok RunStates.Over) e p = tt
 has_stack m w k n row b a (Ok RunStates.AtBound) e p = tt
 has_stack m w k n row b a (Err (Halts.Error number offending)) e p = subst (λ (o : Option FlatStack). IsSome o) (sym e) refl
 has_stack m w k n row b a (Err (Halts.Ends status)) e p = tt
 has_stack m w k n row b a (Err Halts.ReadFault) e p = tt
 has_stack m w k n row b a (Err Halts.WriteFault) e p = tt
+has_stack m w k n row b a (Err Halts.FileFault) e p = tt
 has_stack m w k n row b a (Err Halts.NoMemory) e p = tt
 
 -- Operations

@@ -1,15 +1,16 @@
 -- Rows on a stack in a world, as steps.
-use Rattle.std.proofs.Common.{◌≡◌, ℕ, suc, List, [], ◌∷◌, length, map, Option, Some, None, Result, Ok, Err, refl, sym, ap, ◌∙◌, subst}
+use Rattle.std.proofs.Common.{◌≡◌, ℕ, suc, List, [], ◌∷◌, ◌++◌, length, map, Option, Some, None, Result, Ok, Err, refl, sym, ap, ◌∙◌, subst}
 use Rattle.std.specs.Prelude.{IfErr, IsErrAnd}
 use Rattle.std.specs.Option.{option_map}
 use Rattle.std.specs.List.{All}
 use Rattle.std.proofs.lemmas.List.Elements.{All-head, All-tail}
 use Rattle.icn_value.specs.declared.val.Val.{Val}
 use Rattle.icn_value.specs.Values.{Value, Item}
-use Rattle.icn_value.specs.Store.{ErrorByte, Event, Heap, Names, Outside, Setting, World as StoreWorld, outside_of}
+use Rattle.icn_value.specs.Store.{ErrorByte, Event, Heap, Names, Outside, Setting, World as StoreWorld, bare_outside}
 use Rattle.icn_defs.specs.Errors.{error_report, with_kept}
 use Rattle.icn_defs.specs.Interruptions.{ExtendsBy}
-use Rattle.icn_defs.proofs.Interruptions.{between_longer, extends_by_errors, extends_itself, reading_longer}
+use Rattle.icn_defs.proofs.Interruptions.{between_longer, extends_by_ending, extends_by_errors, extends_itself, extends_then, files_longer, reading_longer}
+use Rattle.icn_defs.specs.Running.{with_errors}
 use Rattle.icn_defs.specs.Rows.{Row, Outcome, Fails, Gives, Suspends, Error, Ends}
 use Rattle.icn_defs.specs.Applying.{function_of}
 use Rattle.icn_defs.specs.StepRows as step_rows
@@ -33,7 +34,8 @@ use Rattle.icn_frames.specs.Stacks.{FlatStack, set_from, set_local}
 use Rattle.icn_frames.specs.Heights.{cell_at}
 use Rattle.law_frames.proofs.CallsRead.{locals_read, set_locals_read}
 use Rattle.icn_code.specs.Codes.{Tables}
-use Rattle.icn_streams.specs.Answers.{Answers, CausedBy, Comes, Stops, StopsReading, StopsPutting, call_state, outside_after, idle, reading, putting}
+use Rattle.icn_streams.specs.Answers.{Answers, CausedBy, Comes, Stops, StopsFiles, StopsReading, StopsPutting, call_state, files, outside_after, idle, reading, putting, streams_telling}
+use Rattle.icn_streams.proofs.CallSequences.{outside_told, told_so}
 use Rattle.icn_streams.specs.Applies.{Applies}
 use Rattle.icn_streams.specs.Handed.{CallStreams, Follows, uncounted}
 use Rattle.icn_apply.specs.AppliedRows.{applied_of}
@@ -57,7 +59,7 @@ use Rattle.icn_control.specs.declared.machine.RunState.TheVariants as RunStates
 use Rattle.icn_control.proofs.KeptItems.{stack_same, stack_stays}
 use Rattle.icn_control.proofs.LiveSets.{live_replace}
 use Rattle.icn_machine.specs.InstructionAnswers as answering
-use Rattle.icn_machine.specs.InstructionAnswers.{AnswersStep, BreaksOff, BreaksPutting, BreaksReading, IsCause, Tells, behind, with_left, outside_in}
+use Rattle.icn_machine.specs.InstructionAnswers.{AnswersStep, BreaksFiles, BreaksOff, BreaksPutting, BreaksReading, IsCause, Tells, behind, outside_in}
 use Rattle.icn_machine.specs.Giving.{GivesOutcome, StandsAs}
 use Rattle.icn_machine.specs.Performing.{LeavesNamed, PerformsRow, StandsOver, over_outside, row_on}
 
@@ -113,7 +115,7 @@ locals_named names all m h =
 
 -- What a state's outside is
 
--- behind what a row does the report of an error may stand
+-- behind what a row does the report of an error may stand, and the writings of files that are open
 behind_row : (oc : Outcome) (M : Frames) (st : Store Frames) (was : Outside)
     → (more : List Event) × ExtendsBy (outside_after oc) more (outside_in was (outcome flat oc M st))
 behind_row (Fails seen) M st was = ([], extends_itself seen.outside)
@@ -121,9 +123,11 @@ behind_row (Gives item seen) M st was = ([], extends_itself seen.outside)
 behind_row (Suspends item rest seen) M st was = ([], extends_itself seen.outside)
 behind_row (Error n value seen) M st was =
     let report : List ℕ = error_report st.names seen.world.heap n value in
+    let written = extends_by_ending seen.world.heap.files (with_errors report seen.outside) in
     at_error (λ (s : State Frames Frames). (more : List Event) × ExtendsBy seen.outside more (outside_in was s)) n value
-    (flat.set_locals seen.locals M) (with_at seen st) (map ErrorByte report, extends_by_errors report seen.outside) ([], extends_itself seen.outside)
-behind_row (Ends n seen) M st was = ([], extends_itself seen.outside)
+    (flat.set_locals seen.locals M) (with_at seen st)
+    (map ErrorByte report ++ written.0, extends_then (extends_by_errors report seen.outside) written.1) ([], extends_itself seen.outside)
+behind_row (Ends n seen) M st was = extends_by_ending seen.world.heap.files seen.outside
 
 -- Answers
 
@@ -182,10 +186,17 @@ puts_part w v m row st was b a same p =
     let more = behind_row (row (setting_of was w (held.locals m))) (stack_in (extent_of w.heap) m) (over_outside was st) was in
     subst (λ (x : State Frames Frames). BreaksPutting x was b a) (sym (state_is row w m st was same)) (between_longer more.1 p)
 
+files_part : (w v : World) (m : FlatStack) (row : Row) (st : Store Frames) (was : Outside) (b a : CallStreams) → st.world ≡ world_of w
+    → StopsFiles row (setting_of was w (held.locals m)) b a → BreaksFiles (row_on row w m st was) was b a
+files_part w v m row st was b a same p =
+    let more = behind_row (row (setting_of was w (held.locals m))) (stack_in (extent_of w.heap) m) (over_outside was st) was in
+    subst (λ (x : State Frames Frames). BreaksFiles x was b a) (sym (state_is row w m st was same)) (files_longer more.1 p)
+
 breaks : (w v : World) (m : FlatStack) (row : Row) (st : Store Frames) (was : Outside) (b a : CallStreams) → st.world ≡ world_of w
     → Stops row (setting_of was w (held.locals m)) b a → BreaksOff (row_on row w m st was) was b a
 breaks w v m row st was b a same (idle e) = answering.idle e
 breaks w v m row st was b a same (reading r) = answering.reading (reads_part w v m row st was b a same r)
+breaks w v m row st was b a same (files p) = answering.files (files_part w v m row st was b a same p)
 breaks w v m row st was b a same (putting p) = answering.putting (puts_part w v m row st was b a same p)
 
 outside_given : (all : Extent) (oc : HeldOutcome) (seen : Setting) (M : Frames) (st : Store Frames) (was : Outside)
@@ -223,6 +234,7 @@ halts w v m k n row st was b a (Halts.Ends status) same s p c =
     record { now = c.now; follows = c.follows; is = state_is row w m st was same ∙ ap (outcome_on w m st was) c.comes }
 halts w v m k n row st was b a Halts.ReadFault same s p c = reads_part w v m row st was b a same c
 halts w v m k n row st was b a Halts.WriteFault same s p c = puts_part w v m row st was b a same c
+halts w v m k n row st was b a Halts.FileFault same s p c = files_part w v m row st was b a same c
 halts w v m k n row st was b a Halts.NoMemory same s p c = breaks w v m row st was b a same c
 
 cause : (b a : CallStreams) (halt : Halt) → CausedBy (Err halt) b a → IsCause {A = RunState} (Err halt) b a
@@ -230,6 +242,7 @@ cause b a (Halts.Error number offending) c = c
 cause b a (Halts.Ends status) c = c
 cause b a Halts.ReadFault c = c
 cause b a Halts.WriteFault c = c
+cause b a Halts.FileFault c = c
 cause b a Halts.NoMemory c = c
 
 -- What is performed
@@ -241,7 +254,11 @@ performs_ok w v m k n row b a oc stage s g r st same = record {
   answers = λ was told. tells_ok w v m k n row st was b a oc stage same s g (r.answers was told);
   had = r.meant.had;
   has = r.meant.has;
-  meant = λ was left. tells_ok w v m k n row st was (with_left r.meant.had b) (with_left r.meant.has a) oc stage same s g (r.meant.answers was left);
+  allowed = r.meant.allowed;
+  allows = r.meant.allows;
+  meant = λ was left.
+      tells_ok w v m k n row st was (streams_telling r.meant.had b) (streams_telling r.meant.has a) oc stage same s g
+      (r.meant.answers was left);
   caused = r.caused;
 }
 
@@ -251,7 +268,9 @@ performs_lack w v m k n row b a oc r st same = record {
   answers = λ was told. breaks_behind w v m k row st was b a oc same (r.answers was told);
   had = r.meant.had;
   has = r.meant.has;
-  meant = λ was left. breaks_behind w v m k row st was (with_left r.meant.had b) (with_left r.meant.has a) oc same (r.meant.answers was left);
+  allowed = r.meant.allowed;
+  allows = r.meant.allows;
+  meant = λ was left. breaks_behind w v m k row st was (streams_telling r.meant.had b) (streams_telling r.meant.has a) oc same (r.meant.answers was left);
   caused = uncounted r.caused;
 }
 
@@ -261,7 +280,9 @@ performs_halt w v m k n row b a halt s p r st same = record {
   answers = λ was told. halts w v m k n row st was b a halt same s p (r.answers was told);
   had = r.meant.had;
   has = r.meant.has;
-  meant = λ was left. halts w v m k n row st was (with_left r.meant.had b) (with_left r.meant.has a) halt same s p (r.meant.answers was left);
+  allowed = r.meant.allowed;
+  allows = r.meant.allows;
+  meant = λ was left. halts w v m k n row st was (streams_telling r.meant.had b) (streams_telling r.meant.has a) halt same s p (r.meant.answers was left);
   caused = cause b a halt r.caused;
 }
 
@@ -295,8 +316,8 @@ pub counts_after : (w v : World) (m k : FlatStack) (row : Row) (b a : CallStream
     → ((at : Setting) → KeepCounts at.world.heap (heap_after (row at)))
     → Applies row (call_state w (held.locals m) b) (call_state v (held.locals k) a) (Ok oc) → KeepsCounts w v
 counts_after w v m k row b a oc h r =
-    let was : Outside = outside_of r.meant.had in
-    let c = r.meant.answers was refl in
+    let was : Outside = outside_told r.meant.had in
+    let c = r.meant.answers was (told_so r.meant.had) in
     counts_kept w v m k row was c.now (heap_after (outcome_in (extent_of v.heap) oc (setting_of c.now v (held.locals k)))) h (ap heap_after c.comes)
     (heap_given (extent_of v.heap) oc (setting_of c.now v (held.locals k)))
 
@@ -310,12 +331,13 @@ counts_halted (Err other) w v m k row b a halt e h r = subst (λ (x : Halt). Unl
     by_halt : (x : Halt) → Applies row (call_state w (held.locals m) b) (call_state v (held.locals k) a) (Err x)
         → UnlessEnded {A = RunState} (Err x) (KeepsCounts w v)
     by_halt (Halts.Error number offending) q =
-        let was : Outside = outside_of q.meant.had in
-        let c = q.meant.answers was refl in
+        let was : Outside = outside_told q.meant.had in
+        let c = q.meant.answers was (told_so q.meant.had) in
         counts_kept w v m k row was c.now (setting_of c.now v (held.locals k)).world.heap h (ap heap_after c.comes) refl
     by_halt (Halts.Ends status) q = tt
     by_halt Halts.ReadFault q = tt
     by_halt Halts.WriteFault q = tt
+    by_halt Halts.FileFault q = tt
     by_halt Halts.NoMemory q = tt
 
 -- Sizes
@@ -330,6 +352,7 @@ sizes_halted (Err other) w v halt e h = subst (λ (x : Halt). UnlessEnded {A = R
     by_halt (Halts.Ends status) q = tt
     by_halt Halts.ReadFault q = tt
     by_halt Halts.WriteFault q = tt
+    by_halt Halts.FileFault q = tt
     by_halt Halts.NoMemory q = tt
 
 -- Names
@@ -350,11 +373,11 @@ stack_set names w v m k outside s h seen =
     (named.set_locals names values M (each_of (ValueNamed names) values seen.locals) (named.stack_in names M h)))
 
 set_named : (names : Names) (w v : World) (m k : FlatStack) (oc : HeldOutcome) → Sets w v m k → StackNamed names (stack_in (extent_of w.heap) m)
-    → OutcomeNamed names (outcome_in (extent_of v.heap) oc (setting_of (outside_of []) v (held.locals k)))
+    → OutcomeNamed names (outcome_in (extent_of v.heap) oc (setting_of bare_outside v (held.locals k)))
     → StackNamed names (stack_in (extent_of v.heap) k) × WorldNamed names (world_of v)
 set_named names w v m k oc s h o =
-    let seen = seen_named names (extent_of v.heap) oc (setting_of (outside_of []) v (held.locals k)) o in
-    (stack_set names w v m k (outside_of []) s h seen, seen.world)
+    let seen = seen_named names (extent_of v.heap) oc (setting_of bare_outside v (held.locals k)) o in
+    (stack_set names w v m k bare_outside s h seen, seen.world)
 
 -- a world that names only what has a name, with an error kept that does
 world_keeps : (names : Names) (world : StoreWorld) (number : ℕ) (offending : Option Value) → WorldNamed names world → ErrorNamed names number offending
@@ -391,6 +414,7 @@ without_locals v locals (Halts.Error number offending) l = l
 without_locals v locals (Halts.Ends status) l = l
 without_locals v locals Halts.ReadFault l = l
 without_locals v locals Halts.WriteFault l = l
+without_locals v locals Halts.FileFault l = l
 without_locals v locals Halts.NoMemory l = l
 
 pub halt_live : (result : Result RunState Halt) (w v : World) (m k : FlatStack) (row : Row) (b a : CallStreams) (halt : Halt) → IsErrAnd result (λ h. h ≡ halt)
@@ -413,7 +437,7 @@ outcome_live w v m k row b a oc count r f g = subst (λ (x : Reach). IsLiveOutco
 pub record NamedWith (names : Names) (v : World) (k : FlatStack) (oc : HeldOutcome) : Type 0 where
   pub stack : StackNamed names (stack_in (extent_of v.heap) k)
   pub world : WorldNamed names (world_of v)
-  pub outcome : OutcomeNamed names (outcome_in (extent_of v.heap) oc (setting_of (outside_of []) v (held.locals k)))
+  pub outcome : OutcomeNamed names (outcome_in (extent_of v.heap) oc (setting_of bare_outside v (held.locals k)))
 
 pub named_with : (t : Tables) (names : Names) (w v : World) (m k : FlatStack) (row : Row) (b a : CallStreams) (oc : HeldOutcome)
     → AppliesOn row w m b v k a (Ok oc) → held.set_locals (held.locals k) m ≡ k
@@ -433,10 +457,11 @@ names_halted t (Err other) names w v m k row b a halt e r s l h n =
   where
     by_halt : (x : Halt) → Sets w v m k → AnswerNamed names v (held.locals k) (Err x) → LeavesNamed names v k (Err x)
     by_halt (Halts.Error number offending) q f = λ goes. (
-      stack_set names w v m k (outside_of []) q h f.1,
+      stack_set names w v m k bare_outside q h f.1,
       world_keeps names (world_of v) number (option_map (value_in (extent_of v.heap)) offending) f.1.world f.0,
     )
     by_halt (Halts.Ends status) q f = tt
     by_halt Halts.ReadFault q f = tt
     by_halt Halts.WriteFault q f = tt
+    by_halt Halts.FileFault q f = tt
     by_halt Halts.NoMemory q f = tt

@@ -22,7 +22,8 @@ use Rattle.icn_control.specs.Soundness.{HasItsStack, UnlessEnded}
 use Rattle.icn_control.specs.declared.machine.Machine.{Machine}
 use Rattle.icn_control.specs.declared.machine.RunState.{RunState}
 use Rattle.icn_control.specs.declared.machine.RunState.TheVariants as RunStates
-use Rattle.icn_machine.specs.InstructionAnswers.{AnswersStep, IsCause, Tells, with_left}
+use Rattle.icn_streams.specs.Answers.{streams_telling}
+use Rattle.icn_machine.specs.InstructionAnswers.{AnswersStep, IsCause, Tells}
 use Rattle.icn_machine.specs.Performing.{LeavesNamed, PerformsOn}
 use Rattle.icn_machine.specs.Settling.{IsKnown, SettlesTo}
 use Rattle.icn_machine.specs.Stepping.{EndsWhole, IsReady, IsReadyToFail}
@@ -96,6 +97,8 @@ settled_answers tables state m n was before after (Err Halts.ReadFault) result f
     subst (λ (r : Result RunState Halt). AnswersStep (λ now a. SettlesAt tables now state n a) state was before after r) (sym s.1) t
 settled_answers tables state m n was before after (Err Halts.WriteFault) result f s t =
     subst (λ (r : Result RunState Halt). AnswersStep (λ now a. SettlesAt tables now state n a) state was before after r) (sym s.1) t
+settled_answers tables state m n was before after (Err Halts.FileFault) result f s t =
+    subst (λ (r : Result RunState Halt). AnswersStep (λ now a. SettlesAt tables now state n a) state was before after r) (sym s.1) t
 settled_answers tables state m n was before after (Err Halts.NoMemory) result f s t =
     subst (λ (r : Result RunState Halt). AnswersStep (λ now a. SettlesAt tables now state n a) state was before after r) (sym s.1) t
 
@@ -108,6 +111,7 @@ settled_cause m n before after (Err (Halts.Error number offending)) (Err halt) s
 settled_cause m n before after (Err (Halts.Ends status)) result s c = subst (λ (r : Result RunState Halt). IsCause r before after) (sym s.1) c
 settled_cause m n before after (Err Halts.ReadFault) result s c = subst (λ (r : Result RunState Halt). IsCause r before after) (sym s.1) c
 settled_cause m n before after (Err Halts.WriteFault) result s c = subst (λ (r : Result RunState Halt). IsCause r before after) (sym s.1) c
+settled_cause m n before after (Err Halts.FileFault) result s c = subst (λ (r : Result RunState Halt). IsCause r before after) (sym s.1) c
 settled_cause m n before after (Err Halts.NoMemory) result s c = subst (λ (r : Result RunState Halt). IsCause r before after) (sym s.1) c
 
 -- what was performed, with the machine that is left
@@ -119,8 +123,11 @@ settles_on tables leads m n before after answer result f s p = record {
   answers = λ was told. settled_answers tables (leads was) m n was before after answer result (λ now. f now (leads was)) s (p.answers was told);
   had = p.had;
   has = p.has;
+  allowed = p.allowed;
+  allows = p.allows;
   meant =
-      λ was left. settled_answers tables (leads was) m n was (with_left p.had before) (with_left p.has after) answer result (λ now. f now (leads was)) s
+      λ was left. settled_answers tables (leads was) m n was (streams_telling p.had before) (streams_telling p.has after) answer result
+      (λ now. f now (leads was)) s
       (p.meant was left);
   caused = settled_cause m n before after answer result s p.caused;
 }
@@ -151,6 +158,8 @@ settled_ready tables m n (Err Halts.ReadFault) result ready erring f sound stack
     subst (λ (r : Result RunState Halt). IfOk r (IsReady tables n)) (sym s.1) tt
 settled_ready tables m n (Err Halts.WriteFault) result ready erring f sound stack s =
     subst (λ (r : Result RunState Halt). IfOk r (IsReady tables n)) (sym s.1) tt
+settled_ready tables m n (Err Halts.FileFault) result ready erring f sound stack s =
+    subst (λ (r : Result RunState Halt). IfOk r (IsReady tables n)) (sym s.1) tt
 settled_ready tables m n (Err Halts.NoMemory) result ready erring f sound stack s =
     subst (λ (r : Result RunState Halt). IfOk r (IsReady tables n)) (sym s.1) tt
 
@@ -161,6 +170,7 @@ settled_whole m n (Err (Halts.Error number offending)) result s w = absurd w
 settled_whole m n (Err (Halts.Ends status)) result s w = subst EndsWhole (sym s.1) tt
 settled_whole m n (Err Halts.ReadFault) result s w = subst EndsWhole (sym s.1) tt
 settled_whole m n (Err Halts.WriteFault) result s w = subst EndsWhole (sym s.1) tt
+settled_whole m n (Err Halts.FileFault) result s w = subst EndsWhole (sym s.1) tt
 settled_whole m n (Err Halts.NoMemory) result s w = absurd w
 
 -- The number of an error is known
@@ -172,6 +182,7 @@ ready_known tables m (Err (Halts.Error number offending)) h =
 ready_known tables m (Err (Halts.Ends status)) h = tt
 ready_known tables m (Err Halts.ReadFault) h = tt
 ready_known tables m (Err Halts.WriteFault) h = tt
+ready_known tables m (Err Halts.FileFault) h = tt
 ready_known tables m (Err Halts.NoMemory) h = tt
 
 pub left_known : {K : Type 0} (names : Names) (m : Machine K) (answer : Result RunState Halt) → LeavesNamed names m.world (stack_of m) answer
@@ -181,4 +192,5 @@ left_known names m (Err (Halts.Error number offending)) h = λ goes. (h goes).1.
 left_known names m (Err (Halts.Ends status)) h = tt
 left_known names m (Err Halts.ReadFault) h = tt
 left_known names m (Err Halts.WriteFault) h = tt
+left_known names m (Err Halts.FileFault) h = tt
 left_known names m (Err Halts.NoMemory) h = tt

@@ -11,7 +11,7 @@ use Rattle.std.proofs.lemmas.Option.{same_Some}
 use Rattle.icn_value.specs.declared.val.Val.{Val}
 use Rattle.icn_value.specs.declared.val.Val.TheVariants as Vals
 use Rattle.icn_value.specs.Limited.{Bounds, limits_of}
-use Rattle.icn_value.specs.Store.{Setting, World as StoreWorld, new_list}
+use Rattle.icn_value.specs.Store.{OpenedFile, Setting, World as StoreWorld, new_list}
 use Rattle.icn_value.specs.Values.{Value, Null}
 use Rattle.icn_defs.specs.Errors.{is_fatal}
 use Rattle.icn_defs.specs.Running.{Launch, text_values, words_row}
@@ -38,7 +38,7 @@ use Rattle.icn_run.specs.FlatStep.{start}
 use Rattle.icn_run.proofs.Errors.{at_error}
 use Rattle.icn_run.specs.Rows as rows
 use Rattle.icn_run.specs.Stacks.{Frames, empty, flat}
-use Rattle.icn_run.specs.Step.{State, Store, all_names, begun_if, collect_rest, ended_by, errs, failing, first_store, here, with_made, main_of, procedure_at, running, start_of, stuck, with_at, with_found, with_world}
+use Rattle.icn_run.specs.Step.{State, Store, all_names, begun_if, collect_rest, ended_by, errs, failing, first_store, here, hopping, with_made, main_of, over, procedure_at, running, start_of, stuck, with_at, with_found, with_world}
 use Rattle.icn_control.specs.ResultCounts.{EnterOthers, FitTurns}
 use Rattle.icn_control.specs.LiveStacks.{IsLiveStack, variable_count}
 use Rattle.icn_control.specs.Machines.{AreLiveStacks, IsLiveCoexp, IsSoundMachine, running_of, store_in}
@@ -167,6 +167,50 @@ check_so false next at h = is_full (λ a st N. fatal_over 307 None (flat.set_loc
 
 pub list_so : (values : List Value) (at : Setting) → OutcomeSo (list_row values at) at
 list_so values at = check_so (nat_le (at.world.heap.cells + (1 + length values)) at.world.heap.bounds.cells) _ at (λ a st. refl)
+
+-- Opened files, which the end of a run writes
+
+-- the files that are open where the run goes on
+abbrev files_in : State Frames Frames → List OpenedFile
+files_in (running m st) = st.world.heap.files
+files_in (failing m st) = []
+files_in (hopping m st) = []
+files_in (over ending outside) = []
+files_in stuck = []
+
+abbrev runs_on : Value → Frames → Store Frames → State Frames Frames
+runs_on value a st = running a st
+
+-- where a value is made, the same files are open
+pub record LeavesFiles (o : Outcome) (at : Setting) : Type 0 where
+  pub leaves : (a m : Frames) (st su : Store Frames) → with_made flat o a st runs_on ≡ running m su → su.world.heap.files ≡ at.world.heap.files
+
+never_over : (number : ℕ) (st su : Store Frames) (m : Frames) → ended_by {K = Frames} {M = Frames} number None st ≡ running m su → ⊥
+never_over number st su m e = cc
+
+check_leaves : (t : Bool) (next : Row) (at : Setting)
+    → ((a m : Frames) (st su : Store Frames) → with_made flat (next at) a st runs_on ≡ running m su → su.world.heap.files ≡ at.world.heap.files)
+    → LeavesFiles (check t 307 None next at) at
+check_leaves true next at h = record { leaves = h }
+check_leaves false next at h = record {
+  leaves = λ a m st su e.
+      absurd (never_over 307 (with_at at st) su m (sym (fatal_over 307 None (flat.set_locals at.locals a) (with_at at st) refl) ∙ e));
+}
+
+list_leaves : (values : List Value) (at : Setting) → LeavesFiles (list_row values at) at
+list_leaves values at =
+    check_leaves (nat_le (at.world.heap.cells + (1 + length values)) at.world.heap.bounds.cells) _ at (λ a m st su e. sym (ap files_in e))
+
+-- in the world behind a list that was made
+made_leaves : (w v : World) (values : List Value) (list : Val) (st : Store Frames) → st.world ≡ world_of w
+    → MakesValue (list_row values) w bare v (Ok list) → (world_of v).heap.files ≡ st.world.heap.files
+made_leaves w v values list st same made =
+    let M : Frames = stack_in (extent_of w.heap) bare in
+    (list_leaves values (here flat M st)).leaves M (stack_in (extent_of v.heap) bare) st (with_world (world_of v) st) (made st runs_on same)
+
+-- the run is over by an error without a value, where these files are open
+abbrev ended_among : ℕ → Store Frames → List OpenedFile → State Frames Frames
+ended_among number st files = ended_by number None (with_world (record st.world { heap = record st.world.heap { files = files } }) st)
 
 -- Words
 
@@ -367,6 +411,7 @@ parameters_stop entry w v u f k vals one params locals list (Stops.Error n offen
     (option_map (value_in (extent_of u.heap)) offending) main
     (collected_so entry.collects entry.parameters (map (value_in all) one) M (with_world (world_of v) st))
     (here_found (with_world (world_of v) st) all_stuck refl)
+    ∙ ap (ended_among n st) (made_leaves w v (map (value_in (extent_of w.heap)) vals) list st same here_made)
 
 pub begins_err : (result : Result Unit Stop) (entry : Proc) (w v : World) (vals locals : List Val) (stop : Stop) → IsErrAnd result (λ s. s ≡ stop)
     → BeginsWith {A = Unit} entry w vals v locals (Err stop)
@@ -409,7 +454,8 @@ pub locals_stop : (K : Type 0) (tables : Tables) (launch : Launch) (main : ℕ) 
     → BeginsWith {A = Unit} entry w vals v locals (Err stop) → StartsAs {K = K} tables launch (Err (about_nothing stop))
 locals_stop K tables launch main entry w v vals locals Stops.NoMemory e f paid world values h = tt
 locals_stop K tables launch main entry w v vals locals (Stops.Error n offending) e f paid world values h =
-    start_in tables launch main entry w vals e f paid world values ∙ h main (with_world (world_of w) (first tables launch)) refl
+    let F : StoreWorld → State Frames Frames = λ x. ended_by n None (with_world x (first tables launch)) in
+    start_in tables launch main entry w vals e f paid world values ∙ h main (with_world (world_of w) (first tables launch)) refl ∙ ap F world
 
 first_status : (t : Tables) (reach : Reach) (n : ℕ) (coexp : Coexp) → slice_get (main_coexp ∷ []) n ≡ Some coexp → IsLiveCoexp t reach n coexp
 first_status t reach zero coexp e =

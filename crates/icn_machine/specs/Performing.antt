@@ -14,7 +14,7 @@ use Rattle.icn_frames.specs.Stacks.{FlatStack}
 use Rattle.icn_code.specs.Codes.{Tables}
 use Rattle.icn_run.specs.Rows.{Exit}
 use Rattle.icn_run.specs.Stacks.{Frames, flat}
-use Rattle.icn_run.specs.Step.{State, Store, errs, here, outcome, over, with_world}
+use Rattle.icn_run.specs.Step.{State, Store, errs, here, outcome, over_with, with_world}
 use Rattle.icn_streams.specs.Handed.{CallStreams}
 use Rattle.icn_control.specs.Machines.{ComesTo}
 use Rattle.icn_control.specs.StackAndWorld.{StandsWith}
@@ -42,9 +42,10 @@ StandsOver state st w m now (Ok stage) = StandsWith state (over_outside now st) 
 StandsOver state st w m now (Err (Halts.Error number offending)) =
     state ≡ errs number (option_map (value_in (extent_of w.heap)) offending) (stack_in (extent_of w.heap) m)
     (with_world (world_of w) (over_outside now st))
-StandsOver state st w m now (Err (Halts.Ends status)) = state ≡ over (Exit status) now
+StandsOver state st w m now (Err (Halts.Ends status)) = state ≡ over_with (Exit status) (world_of w) now
 StandsOver state st w m now (Err Halts.ReadFault) = ⊥
 StandsOver state st w m now (Err Halts.WriteFault) = ⊥
+StandsOver state st w m now (Err Halts.FileFault) = ⊥
 StandsOver state st w m now (Err Halts.NoMemory) = ⊤
 
 -- A row is performed on a stack in a world: what it gives is pushed, and what it keeps is suspended.
@@ -67,6 +68,7 @@ UnlessOver w (Err (Halts.Error number offending)) P = ends_run number w.words.er
 UnlessOver w (Err (Halts.Ends status)) P = ⊤
 UnlessOver w (Err Halts.ReadFault) P = ⊤
 UnlessOver w (Err Halts.WriteFault) P = ⊤
+UnlessOver w (Err Halts.FileFault) P = ⊤
 UnlessOver w (Err Halts.NoMemory) P = ⊤
 
 -- What stands on a stack and in a world names only what has a name, unless the run ended; where an error becomes failure, it does so with the error kept.
@@ -79,4 +81,5 @@ LeavesNamed names w m (Err (Halts.Error number offending)) =
 LeavesNamed names w m (Err (Halts.Ends status)) = ⊤
 LeavesNamed names w m (Err Halts.ReadFault) = ⊤
 LeavesNamed names w m (Err Halts.WriteFault) = ⊤
+LeavesNamed names w m (Err Halts.FileFault) = ⊤
 LeavesNamed names w m (Err Halts.NoMemory) = ⊤

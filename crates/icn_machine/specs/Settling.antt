@@ -15,6 +15,7 @@ IsKnown m (Halts.Error number offending) =
 IsKnown m (Halts.Ends status) = ⊤
 IsKnown m Halts.ReadFault = ⊤
 IsKnown m Halts.WriteFault = ⊤
+IsKnown m Halts.FileFault = ⊤
 IsKnown m Halts.NoMemory = ⊤
 
 -- The run is over by it and nothing changed; or the code fails, with the same stacks and turns.
@@ -33,5 +34,6 @@ SettlesTo m n (Err (Halts.Error number offending)) result = OrFails m n (Halts.E
 SettlesTo m n (Err (Halts.Ends status)) result = (n ≡ m) × (result ≡ Err (Halts.Ends status))
 SettlesTo m n (Err Halts.ReadFault) result = (n ≡ m) × (result ≡ Err Halts.ReadFault)
 SettlesTo m n (Err Halts.WriteFault) result = (n ≡ m) × (result ≡ Err Halts.WriteFault)
+SettlesTo m n (Err Halts.FileFault) result = (n ≡ m) × (result ≡ Err Halts.FileFault)
 SettlesTo m n (Err Halts.NoMemory) result = (n ≡ m) × (result ≡ Err Halts.NoMemory)
 SettlesTo m n (Ok stage) result = (n ≡ m) × (result ≡ Ok stage)

@@ -43,6 +43,7 @@ StartsAs tables launch (Err (Halts.Error number (Some offending))) = ⊥
 StartsAs tables launch (Err (Halts.Ends status)) = ⊥
 StartsAs tables launch (Err Halts.ReadFault) = ⊥
 StartsAs tables launch (Err Halts.WriteFault) = ⊥
+StartsAs tables launch (Err Halts.FileFault) = ⊥
 StartsAs tables launch (Err Halts.NoMemory) = ⊤
 
 -- The bytes of words are charged to a heap; or they are more than its limit.

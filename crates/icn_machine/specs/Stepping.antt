@@ -1,8 +1,8 @@
 -- What some steps of the run of a code come to, on a machine.
-use Rattle.std.specs.Prelude.{◌≡◌, ◌≢◌, ◌⊎◌, ◌<◌, ◌==◌, ℕ, zero, suc, length, Bool, true, false, List, [], ◌∷◌, ◌++◌, Some, IsSome, Result, Ok, Err, ⊤}
+use Rattle.std.specs.Prelude.{◌≡◌, ◌≢◌, ◌⊎◌, ◌<◌, ◌==◌, ℕ, zero, suc, length, Bool, true, false, List, [], ◌∷◌, ◌++◌, Some, IsSome, IfSome, Result, Ok, Err, ⊤}
 use Rattle.icn_host.specs.Counts.{raised_count}
 use Rattle.icn_host.specs.Sinks.{Gains}
-use Rattle.icn_value.specs.Store.{Event, Outside, errors_in, outside_of, output_in, readings_in}
+use Rattle.icn_value.specs.Store.{Event, Outside, bare_outside, errors_in, output_in, readings_in}
 use Rattle.icn_vars.specs.declared.outcome.Halt.{Halt}
 use Rattle.icn_vars.specs.declared.outcome.Halt.TheVariants as Halts
 use Rattle.icn_code.specs.Codes.{Tables}
@@ -16,7 +16,8 @@ use Rattle.icn_run.specs.Step.{State, running, failing, hopping, over, stuck, st
 use Rattle.law_steps.specs.StateNames.{StackNamed, StateNamed, StoreNamed}
 use Rattle.law_steps.specs.KeepingSizes.{StateFits, StoreFits}
 use Rattle.icn_run.specs.AnyOutside.{over_outside, run_over}
-use Rattle.icn_streams.specs.Handed.{CallStreams, Follows, FailsOnce, KeepsAllCounts, KeepsFaultCounts, WantsMemory, failed_once, faults_of}
+use Rattle.icn_defs.specs.Interruptions.{LosesSome}
+use Rattle.icn_streams.specs.Handed.{CallStreams, Follows, FailsOnce, KeepsAllCounts, KeepsFaultCounts, KeepsStoreCounts, StoreFailsOnce, TellsOutside, WantsMemory, failed_once, faults_of}
 use Rattle.icn_run.specs.InstructionNeeds.{HasCaseMark, HasVariables}
 use Rattle.icn_instructions.specs.Ranges.{IsInRange}
 use Rattle.icn_control.specs.Machines.{EndsAt, HaltsAt, HasStack, IsSoundMachine, SettlesAt, StandsAt, does, stack_of, stack_seen, store_seen}
@@ -82,7 +83,7 @@ outside_at (running m st) = st.outside
 outside_at (failing m st) = st.outside
 outside_at (hopping m st) = st.outside
 outside_at (over ending outside) = outside
-outside_at stuck = outside_of []
+outside_at stuck = bare_outside
 
 -- The state for which a machine stands, where its run goes on.
 abbrev pub IsAt : {K : Type 0} → Tables → Outside → State Frames Frames → Machine K → RunState → Type 0
@@ -165,6 +166,7 @@ GainsBy (Err (Halts.Error number offending)) was now before after = GainsEvents 
 GainsBy (Err (Halts.Ends status)) was now before after = GainsEvents was now before after
 GainsBy (Err Halts.ReadFault) was now before after = GainsSome before after
 GainsBy (Err Halts.WriteFault) was now before after = GainsSome before after
+GainsBy (Err Halts.FileFault) was now before after = GainsSome before after
 GainsBy (Err Halts.NoMemory) was now before after = GainsSome before after
 
 -- So many steps are done whole, each to a state that is one of these, and what was handed follows them; then what was
@@ -188,6 +190,7 @@ StandsBy tables outside state n (Err (Halts.Error number offending)) =
 StandsBy tables outside state n (Err (Halts.Ends status)) = EndsAt tables outside state n (Halts.Ends status)
 StandsBy tables outside state n (Err Halts.ReadFault) = ⊤
 StandsBy tables outside state n (Err Halts.WriteFault) = ⊤
+StandsBy tables outside state n (Err Halts.FileFault) = ⊤
 StandsBy tables outside state n (Err Halts.NoMemory) = ⊤
 
 -- Steps lead there, one at least, each over some input, and each but the last to a state that is one of these; what was handed
@@ -203,18 +206,28 @@ pub record LeadsOver {K : Type 0} (Is : State Frames Frames → Type 0) (tables 
   pub is : StandsBy tables now (run_over tables (first ∷ later) state) n result
   pub gains : GainsBy result (outside_at state).history now.history before after
 
+-- the store of files has failed, once, and nothing else
+pub record StoreFails (before after : CallStreams) : Type 0 where
+  pub files : StoreFailsOnce before.files after.files
+  pub faults : faults_of after.counts ≡ faults_of before.counts
+  pub output : KeepsFaultCounts before.output after.output
+  pub errors : KeepsFaultCounts before.errors after.errors
+
 -- the input has failed, once, and nothing else
 pub record InputFails (before after : CallStreams) : Type 0 where
+  pub files : KeepsStoreCounts before.files after.files
   pub faults : faults_of after.counts ≡ failed_once (faults_of before.counts)
   pub output : KeepsFaultCounts before.output after.output
   pub errors : KeepsFaultCounts before.errors after.errors
 
 -- one of the outputs has failed, once, and nothing else
 pub data OutputFails (before after : CallStreams) : Type 0 where
-  output_fails : faults_of after.counts ≡ faults_of before.counts → FailsOnce before.output after.output
-      → KeepsFaultCounts before.errors after.errors → OutputFails before after
-  errors_fail : faults_of after.counts ≡ faults_of before.counts → KeepsFaultCounts before.output after.output
-      → FailsOnce before.errors after.errors → OutputFails before after
+  output_fails : KeepsStoreCounts before.files after.files → faults_of after.counts ≡ faults_of before.counts
+      → FailsOnce before.output after.output → KeepsFaultCounts before.errors after.errors
+      → OutputFails before after
+  errors_fail : KeepsStoreCounts before.files after.files → faults_of after.counts ≡ faults_of before.counts
+      → KeepsFaultCounts before.output after.output → FailsOnce before.errors after.errors
+      → OutputFails before after
 
 -- A fault is answered where that object has failed for the first time; where it is not, nothing has failed.
 abbrev pub IsFirstFault : {A : Type 0} → Result A Halt → CallStreams → CallStreams → Type 0
@@ -223,18 +236,20 @@ IsFirstFault (Err (Halts.Error number offending)) before after = KeepsAllCounts 
 IsFirstFault (Err (Halts.Ends status)) before after = KeepsAllCounts before after
 IsFirstFault (Err Halts.ReadFault) before after = InputFails before after
 IsFirstFault (Err Halts.WriteFault) before after = OutputFails before after
+IsFirstFault (Err Halts.FileFault) before after = StoreFails before after
 IsFirstFault (Err Halts.NoMemory) before after = WantsMemory before after
 
--- From where a machine stands, steps lead to what was answered, each but the last to a state that is one of these: over the outside that the input
--- tells, if it does, and over some input in any case.
+-- From where a machine stands, steps lead to what was answered, each but the last to a state that is one of these: over the outside that is told, if it
+-- is, and over some outside in any case. Where the input tells what it has left, some first bytes of it were taken.
 pub record Advances {K : Type 0} (Is : State Frames Frames → Type 0) (tables : Tables) (m : Machine K)
     (stage : RunState) (before : CallStreams) (n : Machine K) (after : CallStreams)
     (result : Result RunState Halt) : Type 0 where
   pub answers : (was : Outside) (state : State Frames Frames) → IsAt tables was state m stage
-      → before.left ≡ Some was.left
+      → TellsOutside before was
       → Leads Is tables state was before n after result
   pub meant : (was : Outside) (state : State Frames Frames) → IsAt tables was state m stage
       → LeadsOver Is tables state before n after result
+  pub taken : IfSome before.left (λ left. LosesSome left after.left)
   pub caused : IsFirstFault result before after
 
 -- An instruction is being done: the place is that of the next one, nothing lacks, and all that holds of the state of the run is so still.
@@ -262,6 +277,7 @@ IsReadyToFail tables m (Err (Halts.Error number offending)) = IsSoundMachine tab
 IsReadyToFail tables m (Err (Halts.Ends status)) = ⊤
 IsReadyToFail tables m (Err Halts.ReadFault) = ⊤
 IsReadyToFail tables m (Err Halts.WriteFault) = ⊤
+IsReadyToFail tables m (Err Halts.FileFault) = ⊤
 IsReadyToFail tables m (Err Halts.NoMemory) = ⊤
 
 -- each operation but the one that refreshes a co-expression
@@ -294,6 +310,7 @@ EndsWhole (Err (Halts.Error number offending)) = ⊥
 EndsWhole (Err (Halts.Ends status)) = ⊤
 EndsWhole (Err Halts.ReadFault) = ⊤
 EndsWhole (Err Halts.WriteFault) = ⊤
+EndsWhole (Err Halts.FileFault) = ⊤
 EndsWhole (Err Halts.NoMemory) = ⊥
 
 -- No step was done, or some steps lead to what was answered.

@@ -41,8 +41,8 @@ use std::marker::{Brand, PhantomData};
 ///
 /// # Errors
 ///
-/// Those of the row: `Error` and `Ends`. `ReadFault` where the input failed and `WriteFault` where an output did, `NoMemory` where
-/// memory ran out: the run is over then.
+/// Those of the row: `Error` and `Ends`. `ReadFault` where the input failed, `WriteFault` where an output did, and `FileFault` where
+/// the store of files did, `NoMemory` where memory ran out: the run is over then.
 pub fn perform<K: Stack<Cell> + Drop, N: Names, S: Streams>(
     frames: &mut Frames<K>,
     world: &mut World,

@@ -305,8 +305,8 @@ fn step_named<K: Stack<Cell> + Drop, N: Names, S: Streams>(
 /// # Errors
 ///
 /// `Error` where the run is over by a run-time error, and `Ends` where it ends with a status. `ReadFault` where the input failed,
-/// `WriteFault` where an output did, and `NoMemory` where memory ran out: the run is over then. An instruction that pops, unmarks,
-/// sets or goes to a label or asks for `initial` takes no memory.
+/// `WriteFault` where an output did, `FileFault` where the store of files did, and `NoMemory` where memory ran out: the run is over
+/// then. An instruction that pops, unmarks, sets or goes to a label or asks for `initial` takes no memory.
 pub fn step<K: Stack<Cell> + Drop, S: Streams>(
     m: &mut Machine<K>,
     code: &Verified,

@@ -3,15 +3,17 @@ use Rattle.icn_text.specs.declared.op.Op.TheVariants.{Equivalent}
 use Rattle.icn_tree.specs.Trees.{Tree, Trees, MaybeTree, Clauses, Empty, Absent, Present, NoTrees, More, Default, Guarded, NoClauses, MoreClauses}
 use Rattle.std.specs.Prelude.{[], ◌∷◌}
 use Rattle.icn_value.specs.Values.{Value, Val}
-use Rattle.icn_meaning.specs.Contexts.{Operating, Works, Nothing, ◌and_then◌, Choices, ◌or_else◌, Args, Cut, Do, Action, Go, Give, Fails, Pass, Body, Try, Rest, Off, Surroundings, InCall, InScan, InLoop, Store, Evaluation, eval, succeed, fail, lost}
+use Rattle.icn_meaning.specs.Contexts.{Operating, Works, Nothing, ◌and_then◌, Choices, ◌or_else◌, Args, Cut, Do, Action, Go, Give, Fails, Pass, Body, Try, Rest, Off, Surroundings, InCall, InCreate, InScan, InLoop, InControl, Store, Evaluation, eval, succeed, fail, lost}
 use Rattle.icn_meaning.specs.Turns.{turn}
 use Rattle.icn_meaning.specs.Scanning.{restore_pair}
 
 -- the call fails: all its scans are left
 abbrev pub off : Surroundings → Store → Evaluation
 off (InCall frame k r) st = fail r st
+off (InCreate frame) st = lost
 off (InScan p s) st = off s (restore_pair p st)
 off (InLoop s k r a rn) st = off s st
+off (InControl s k r) st = off s st
 
 -- the expressions of a body that are left; an empty one is passed over
 abbrev pub rest : Trees → Surroundings → Choices → Store → Evaluation
@@ -47,11 +49,15 @@ act (Off s) r st = off s st
 -- `break`: the scans since the loop are left, and the expression stands in the loop's place
 abbrev pub break : Tree → Surroundings → Store → Evaluation
 break e (InCall frame k r) st = lost
+break e (InCreate frame) st = lost
 break e (InScan p s) st = break e s (restore_pair p st)
 break e (InLoop s k r a rn) st = eval e s k r st
+break e (InControl s k r) st = eval e s k r st
 
 -- `next`: the scans since the loop are left
 abbrev pub next : Surroundings → Store → Evaluation
 next (InCall frame k r) st = lost
+next (InCreate frame) st = lost
 next (InScan p s) st = next s (restore_pair p st)
 next (InLoop s k r a rn) st = act a rn st
+next (InControl s k r) st = lost

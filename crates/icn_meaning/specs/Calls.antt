@@ -10,7 +10,7 @@ use Rattle.icn_defs.specs.Conversions.{position_of}
 use Rattle.icn_defs.specs.Running.{number_of}
 use Rattle.icn_defs.specs.StepRows.{Operation, Function, apply, list_row, record_row}
 use Rattle.icn_meaning.specs.Program.{Program, Routine, Constructor, Callee, IsRoutine, IsKind, IsFunction, IsNothing, callee_of, index_of}
-use Rattle.icn_meaning.specs.Contexts.{Application, Operating, Calling, Spreading, Collecting, Taking, Activating, frame_of, activation_of, Works, ◌and_then◌, Choices, ◌or_else◌, Args, Back, Surroundings, InCall, InScan, InLoop, Store, Evaluation, eval, succeed, fail, lost}
+use Rattle.icn_meaning.specs.Contexts.{Application, Operating, Calling, Spreading, Collecting, Taking, Activating, frame_of, activation_of, Works, ◌and_then◌, Choices, ◌or_else◌, Args, Back, Surroundings, InCall, InCreate, InScan, InLoop, InControl, Store, Evaluation, eval, succeed, fail, lost}
 use Rattle.icn_meaning.specs.Turns.{turn, errs, setting_in, answer, with_made, value, values, with_outgoing}
 use Rattle.icn_meaning.specs.Scanning.{restore_pair, exchanged_oldest}
 use Rattle.icn_meaning.specs.Actions.{rest}
@@ -166,8 +166,10 @@ operands program form xs NoTrees s k r st = turn st (λ st. apply_form program f
 -- the call gives this result and is over: all its scans are left
 abbrev pub return_item : Item → Surroundings → Store → Evaluation
 return_item x (InCall frame k r) st = succeed x k r st
+return_item x (InCreate frame) st = lost
 return_item x (InScan p s) st = return_item x s (restore_pair p st)
 return_item x (InLoop s k r a rn) st = return_item x s st
+return_item x (InControl s k r) st = return_item x s st
 
 -- the procedure gives a result and ends
 abbrev pub return : Item → Surroundings → Choices → Store → Evaluation
@@ -176,8 +178,10 @@ return x s r st = with_outgoing x (activation_of s) r st (λ x. return_item x s 
 -- the call gives this result, and goes on where that is resumed
 abbrev pub suspend_call : Item → MaybeTree → Surroundings → Surroundings → Choices → Store → Evaluation
 suspend_call x b s (InCall frame k r0) r st = succeed x k (Back b s or_else r) st
+suspend_call x b s (InCreate frame) r st = lost
 suspend_call x b s (InScan p around) r st = suspend_call x b s around r st
 suspend_call x b s (InLoop around k r0 a rn) r st = suspend_call x b s around r st
+suspend_call x b s (InControl around k r0) r st = suspend_call x b s around r st
 
 -- the procedure gives a result and may be resumed
 abbrev pub suspend : Item → MaybeTree → Surroundings → Choices → Store → Evaluation

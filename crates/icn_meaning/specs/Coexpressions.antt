@@ -3,7 +3,7 @@ use Rattle.std.specs.Prelude.{ℕ, zero, suc, ◌==◌, Bool, true, false, List,
 use Rattle.icn_tree.specs.Trees.{Tree, Empty}
 use Rattle.icn_value.specs.Values.{Value, ACoexp, Item, Val}
 use Rattle.icn_defs.specs.StepRows.{coexpression_row}
-use Rattle.icn_meaning.specs.Contexts.{frame_of, activation_of, Works, Nothing, ◌and_then◌, Choices, NoChoice, ◌or_else◌, Result, Exhaust, Surroundings, InCall, Status, Fresh, Active, Waiting, AfterResult, Exhausted, Coexpression, Store, Evaluation, eval, succeed, fail, hop, lost}
+use Rattle.icn_meaning.specs.Contexts.{frame_of, activation_of, Works, Nothing, ◌and_then◌, Choices, NoChoice, ◌or_else◌, Result, Exhaust, Surroundings, InCreate, Status, Fresh, Active, Waiting, AfterResult, Exhausted, Coexpression, Store, Evaluation, eval, succeed, fail, hop, lost}
 use Rattle.icn_meaning.specs.Turns.{turn, errs, locals_of, setting_in, with_made, value}
 
 -- the co-expression of this number; where there is none, an exhausted one
@@ -75,9 +75,7 @@ refresh v a k r st = errs 118 (Some v) r st
 
 -- a fresh one begins in an activation of its own, where so many activations were made
 abbrev pub begins : Coexpression → ℕ → Store → Evaluation
-begins co a st = eval co.body
-    (InCall (record { activation = a; procedure = co.procedure; level = 1 }) (Result a and_then Nothing)
-    (Exhaust or_else NoChoice))
+begins co a st = eval co.body (InCreate (record { activation = a; procedure = co.procedure; level = 1 }))
     (Result a and_then Nothing) (Exhaust or_else NoChoice)
     (record st { activations = st.activations ++ co.values ∷ [] })
 

@@ -90,11 +90,14 @@ mutual
     Off : Surroundings → Action
 
   -- What is open around, the innermost first: scans with the cell of the pair that they saved; loops with the surroundings, works and choices around
-  -- them and the action and choices of `next`; and the call with the works and choices of its caller.
+  -- them and the action and choices of `next`; the control expression of `every`, where `next` never stands, with those around the loop; and the call
+  -- with the works and choices of its caller, or the expression of a `create`, where `return`, `suspend` and `fail` never stand.
   pub data Surroundings : Type 0 where
     InCall : Invocation → Works → Choices → Surroundings
+    InCreate : Invocation → Surroundings
     InScan : ℕ → Surroundings → Surroundings
     InLoop : Surroundings → Works → Choices → Action → Choices → Surroundings
+    InControl : Surroundings → Works → Choices → Surroundings
 
 -- a co-expression has not begun, is active, waits for the result of an activation, waits behind a result of its own, or is
 -- exhausted
@@ -138,12 +141,14 @@ pub data Evaluation : Type 0 where
   over : Ending → Store → Evaluation
   lost : Evaluation
 
--- the call around
+-- the invocation around, of a call or of the expression of a `create`
 abbrev pub frame_of : Surroundings → Invocation
 frame_of (InCall frame k r) = frame
+frame_of (InCreate frame) = frame
 frame_of (InScan p s) = frame_of s
 frame_of (InLoop s k r a rn) = frame_of s
+frame_of (InControl s k r) = frame_of s
 
--- the activation of the call around
+-- the number of its activation
 abbrev pub activation_of : Surroundings → ℕ
 activation_of s = (frame_of s).activation

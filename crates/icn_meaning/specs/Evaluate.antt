@@ -18,7 +18,7 @@ use Rattle.icn_value.specs.Values.{Value, Null, Integer, Text, Chars, Item, Val,
 use Rattle.icn_defs.specs.Keywords.{Standing, keyword_item}
 use Rattle.icn_meaning.specs.Operators.{prefix_op, infix_op, section_op}
 use Rattle.icn_meaning.specs.Program.{Program, meaning_of}
-use Rattle.icn_meaning.specs.Contexts.{Operating, Calling, Spreading, Collecting, Taking, Activating, frame_of, Works, Nothing, ◌and_then◌, Choices, ◌or_else◌, Then, Cut, Raise, Limit, Scan, Update, Each, Select, Returning, Suspending, Do, Again, Go, Give, Fails, Pass, Body, Off, Surroundings, InLoop, Store, Evaluation, eval, succeed, fail, lost}
+use Rattle.icn_meaning.specs.Contexts.{Operating, Calling, Spreading, Collecting, Taking, Activating, frame_of, Works, Nothing, ◌and_then◌, Choices, ◌or_else◌, Then, Cut, Raise, Limit, Scan, Update, Each, Select, Returning, Suspending, Do, Again, Go, Give, Fails, Pass, Body, Off, Surroundings, InLoop, InControl, Store, Evaluation, eval, succeed, fail, lost}
 use Rattle.icn_meaning.specs.Actions.{off, act, break, next}
 use Rattle.icn_meaning.specs.Coexpressions.{activator_of, create}
 use Rattle.icn_meaning.specs.Calls.{operands}
@@ -114,7 +114,7 @@ loops Loops.While loop c b s k r st =
     eval c (inside loop s k r) (Cut r (Body b (inside loop s k r) (Pass loop s k)) and_then Nothing) r st
 loops Loops.Until loop c b s k r st = eval c (inside loop s k r) (Cut r Fails and_then Nothing)
     (Do (Body b (inside loop s k r) (Pass loop s k)) or_else r) st
-loops Loops.Every loop e b s k r st = eval e (InLoop s k r Fails r) (Each b s k r and_then Nothing) r st
+loops Loops.Every loop e b s k r st = eval e (InControl s k r) (Each b s k r and_then Nothing) r st
 
 -- an operation is applied to these operands; where an operator is none in its place, no program has it
 abbrev pub operate : Program → Option Op → Trees → Surroundings → Works → Choices → Store → Evaluation

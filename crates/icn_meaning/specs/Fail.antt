@@ -2,8 +2,8 @@
 use Rattle.std.specs.Prelude.{ℕ, Bool, true, false, slice_index_or, slice_set}
 use Rattle.icn_tree.specs.Trees.{Tree, MaybeTree, Absent, Present}
 use Rattle.icn_defs.specs.Applying.{again}
-use Rattle.icn_meaning.specs.Contexts.{Works, Nothing, ◌and_then◌, Choices, NoChoice, ◌or_else◌, Cut, Raise, Do, Again, Resume, Restore, Reenter, Back, Exhaust, Fails, Surroundings, Store, Evaluation, eval, fail, over, Done}
-use Rattle.icn_meaning.specs.Turns.{turn, setting_in, answer}
+use Rattle.icn_meaning.specs.Contexts.{Works, Nothing, ◌and_then◌, Choices, NoChoice, ◌or_else◌, Cut, Raise, Do, Again, Resume, Restore, Reenter, Back, Exhaust, Fails, Surroundings, Store, Evaluation, eval, fail, Done}
+use Rattle.icn_meaning.specs.Turns.{end_run, turn, setting_in, answer}
 use Rattle.icn_meaning.specs.Scanning.{restore_pair, exchange_pairs, exchanged_oldest}
 use Rattle.icn_meaning.specs.Actions.{act}
 use Rattle.icn_meaning.specs.Coexpressions.{exhaust}
@@ -21,7 +21,7 @@ back (Present b) s r st = eval b s (Cut r Fails and_then Nothing) r st
 
 -- what the newest choice does where something fails
 abbrev pub on_fail : Choices → Store → Evaluation
-on_fail NoChoice st = over Done st
+on_fail NoChoice st = end_run Done st
 on_fail (Do a or_else r) st = act a r st
 on_fail (Again e s flag k or_else r) st = again_if (slice_index_or st.flags flag false) e s flag k r st
 on_fail (Resume a m k or_else r) st = turn st (λ st. answer (again m (setting_in a st)) a k r st)

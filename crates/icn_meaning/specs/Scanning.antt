@@ -1,6 +1,6 @@
 -- Scanning: a cell of the store keeps the pair that an open scan saved.
 use Rattle.std.specs.Prelude.{ℕ, List, [], ◌∷◌, ◌++◌, length, slice_index_or, slice_set}
-use Rattle.icn_meaning.specs.Contexts.{Surroundings, InCall, InScan, InLoop, Pair, Store}
+use Rattle.icn_meaning.specs.Contexts.{Surroundings, InCall, InCreate, InScan, InLoop, InControl, Pair, Store}
 
 -- the subject and the position at present
 abbrev pub pair_now : Store → Pair
@@ -40,8 +40,10 @@ exchanged_if (p ∷ q ∷ cells) st = exchanged_if (q ∷ cells) st
 -- the open scans, the newest first
 abbrev pub scans_of : Surroundings → List ℕ
 scans_of (InCall frame k r) = []
+scans_of (InCreate frame) = []
 scans_of (InScan p s) = p ∷ scans_of s
 scans_of (InLoop s k r a rn) = scans_of s
+scans_of (InControl s k r) = scans_of s
 
 -- the present pair changes places with that of the oldest open scan, if there is one
 abbrev pub exchanged_oldest : Surroundings → Store → Store

@@ -10,8 +10,8 @@ use Rattle.icn_defs.specs.Conversions.{integer_of}
 use Rattle.icn_defs.specs.StepRows.{text_row}
 use Rattle.icn_meaning.specs.Operators.{update_op}
 use Rattle.icn_meaning.specs.Program.{Program}
-use Rattle.icn_meaning.specs.Contexts.{Operating, Activating, activation_of, Works, Nothing, ◌and_then◌, Choices, ◌or_else◌, Args, Then, Cut, Raise, Limit, Count, Scan, Leave, Update, Each, Select, Returning, Suspending, Result, Restore, Reenter, Fails, Try, Surroundings, InScan, InLoop, Store, Evaluation, eval, succeed, fail, over, lost, Done}
-use Rattle.icn_meaning.specs.Turns.{errs, setting_in, with_made, value}
+use Rattle.icn_meaning.specs.Contexts.{Operating, Activating, activation_of, Works, Nothing, ◌and_then◌, Choices, ◌or_else◌, Args, Then, Cut, Raise, Limit, Count, Scan, Leave, Update, Each, Select, Returning, Suspending, Result, Restore, Reenter, Fails, Try, Surroundings, InScan, InLoop, Store, Evaluation, eval, succeed, fail, lost, Done}
+use Rattle.icn_meaning.specs.Turns.{end_run, errs, setting_in, with_made, value}
 use Rattle.icn_meaning.specs.Scanning.{new_cell, enter_scan, exchange_pairs}
 use Rattle.icn_meaning.specs.Actions.{act}
 use Rattle.icn_meaning.specs.Coexpressions.{result}
@@ -83,7 +83,7 @@ default_of (MoreClauses (Guarded place c b) cases) = default_of cases
 
 -- what the next work does with a result
 abbrev pub on_succeed : Program → Item → Works → Choices → Store → Evaluation
-on_succeed program x Nothing r st = over Done st
+on_succeed program x Nothing r st = end_run Done st
 on_succeed program x (Args form xs es s and_then k) r st = operands program form (x ∷ xs) es s k r st
 on_succeed program x (Then e s and_then k) r st = eval e s k r st
 on_succeed program x (Cut r0 a and_then k) r st = act a r0 st

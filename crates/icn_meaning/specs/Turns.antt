@@ -5,23 +5,27 @@ use Rattle.icn_value.specs.Store.{Setting}
 use Rattle.icn_defs.specs.Rows.{Outcome, Fails, Gives, Suspends, Error, Ends}
 use Rattle.icn_defs.specs.StepRows.{value_row}
 use Rattle.icn_defs.specs.Errors.{error_report, on_error}
-use Rattle.icn_defs.specs.Running.{bound_report, with_errors}
+use Rattle.icn_defs.specs.Running.{bound_report, files_written, with_errors}
 use Rattle.icn_meaning.specs.Contexts.{Works, Choices, ◌or_else◌, Resume, Store, Evaluation, succeed, fail, over, Ending, Exit, Errored, AtBound}
 
--- the run ends, and this is put on the error output
-abbrev pub end_run : Ending → List ℕ → Store → Evaluation
-end_run ending text st = over ending (record st { outside = with_errors text st.outside })
+-- the store with a text put on the error output
+abbrev pub with_report : List ℕ → Store → Store
+with_report text st = record st { outside = with_errors text st.outside }
+
+-- the run ends, and the files that are still open to be written are written
+abbrev pub end_run : Ending → Store → Evaluation
+end_run ending st = over ending (record st { outside = files_written st.world.heap st.outside })
 
 -- An error ends the run, or it is kept and something fails, over the choices that stand there. This is the one place where errors come to.
 abbrev pub errs : ℕ → Option Value → Choices → Store → Evaluation
 errs n offending r st = on_error n offending st.world
-    (end_run (Errored n) (error_report st.names st.world.heap n offending) st)
+    (end_run (Errored n) (with_report (error_report st.names st.world.heap n offending) st))
     (λ world. fail r (record st { world = world }))
 
--- a turn is counted before its event, or the run ends at the bound
+-- a turn is counted before its event, or the run stands at the bound, where no file is written
 abbrev pub turn_if : Bool → Store → (Store → Evaluation) → Evaluation
 turn_if true st go = go (record st { turns = suc st.turns })
-turn_if false st go = end_run AtBound bound_report st
+turn_if false st go = over AtBound (with_report bound_report st)
 
 -- A turn is counted before anything of it is done; where as many as the bound were made, the run stands there.
 abbrev pub turn : Store → (Store → Evaluation) → Evaluation
@@ -49,7 +53,7 @@ answer (Fails setting) a k r st = fail r (after a setting st)
 answer (Gives x setting) a k r st = succeed x k r (after a setting st)
 answer (Suspends x m setting) a k r st = succeed x k (Resume a m k or_else r) (after a setting st)
 answer (Error n v setting) a k r st = errs n v r (after a setting st)
-answer (Ends n setting) a k r st = over (Exit n) (after a setting st)
+answer (Ends n setting) a k r st = end_run (Exit n) (after a setting st)
 
 -- A row gives a value, and it goes on with that; or it is an error. What such a row never answers counts as failure.
 abbrev pub with_given : Outcome → Choices → Store → (Value → Evaluation) → Evaluation

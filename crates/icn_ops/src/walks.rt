@@ -26,7 +26,7 @@ use icn_vars::{Halt, Locals, Outcome, World, deref};
 ///
 /// # Errors
 ///
-/// `Error` is 116 about a value that has none of these, 212 about a file that is not the input, and 306 where a text that is made or
+/// `Error` is 116 about a value that has none of these, 212 about a file that is not open for reading, and 306 where a text that is made or
 /// read passes its limit. `ReadFault` where the input failed in this call, `WriteFault` where an output did as it was settled before,
 /// `NoMemory` where memory ran out.
 pub fn elements_row<L: Locals, S: Streams>(

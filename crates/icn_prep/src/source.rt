@@ -30,7 +30,7 @@ const DEEPEST: usize = 32;
 /// where the store failed, and `NoMemory` where there was no memory.
 pub fn preprocess<F: Files>(alloc: Global, name: &str, files: &mut F) -> Result<Lines, PrepFault>
     // Where the store tells its files: exactly what the definition gives, or a fault of the store, or want of memory.
-    ensures exact { IfSome (F.held files.old)
+    ensures exact { IfSome (F.state files.old).held
         (λ held. IsOutside result ⊎ (outcome_of result ≡ source_lines held name.now)) }
     ensures begins { IfOk result (λ lines. slice_get lines.names.items 0 ≡ Some name.now) }
 
@@ -38,10 +38,13 @@ pub fn preprocess<F: Files>(alloc: Global, name: &str, files: &mut F) -> Result<
     ensures rule { IfErr result IsOfPrep }
 
     // The causes of what the store answers, also where it tells nothing.
-    ensures file_fault { CountsOnce (F.faults files.old) (F.faults files.new) (IsErrOf result FileFault) }
-    ensures file_want { CountsIf (F.wants files.old) (F.wants files.new) (IsErrOf result NoMemory) }
-    ensures absence { HasCause (F.absences files.old) (F.absences files.new) (IsAbsence result) }
-    ensures same { F.held files.new ≡ F.held files.old }
+    ensures file_fault { CountsOnce (F.state files.old).counts.faults (F.state files.new).counts.faults
+        (IsErrOf result FileFault) }
+    ensures file_want { CountsIf (F.state files.old).counts.wants (F.state files.new).counts.wants
+        (IsErrOf result NoMemory) }
+    ensures absence { HasCause (F.state files.old).counts.absences (F.state files.new).counts.absences
+        (IsAbsence result) }
+    ensures same { (F.state files.new).held ≡ (F.state files.old).held }
 {
     let content = named_content(alloc, name, files)?;
     let mut reading = start(alloc);
@@ -111,15 +114,18 @@ fn begin_file(
 
 // The content of the named file.
 fn named_content<F: Files>(alloc: Global, name: &str, files: &mut F) -> Result<Vec<u8>, PrepFault>
-    ensures exact { IfSome (F.held files.old) (λ held. MatchResult result
+    ensures exact { IfSome (F.state files.old).held (λ held. MatchResult result
         (λ content. held name.now ≡ Some content.items)
         (IsAnswer (named_file held name.now (held name.now)))) }
     ensures short { IfOk result (λ content. vec_len content ≤ most_bytes_of_source) }
     ensures rule { IfErr result IsOfPrep }
-    ensures file_fault { CountsOnce (F.faults files.old) (F.faults files.new) (IsErrOf result FileFault) }
-    ensures file_want { CountsIf (F.wants files.old) (F.wants files.new) (IsErrOf result NoMemory) }
-    ensures absence { HasCause (F.absences files.old) (F.absences files.new) (IsAbsence result) }
-    ensures same { F.held files.new ≡ F.held files.old }
+    ensures file_fault { CountsOnce (F.state files.old).counts.faults (F.state files.new).counts.faults
+        (IsErrOf result FileFault) }
+    ensures file_want { CountsIf (F.state files.old).counts.wants (F.state files.new).counts.wants
+        (IsErrOf result NoMemory) }
+    ensures absence { HasCause (F.state files.old).counts.absences (F.state files.new).counts.absences
+        (IsAbsence result) }
+    ensures same { (F.state files.new).held ≡ (F.state files.old).held }
 {
     let mut content = Vec::new(alloc);
     match files.read(name, LONGEST as u64, &mut content) {
@@ -138,16 +144,19 @@ fn included_content<F: Files>(
     name: &str,
     files: &mut F,
 ) -> Result<Vec<u8>, PrepFault>
-    ensures exact { IfSome (F.held files.old) (λ held. MatchResult result
+    ensures exact { IfSome (F.state files.old).held (λ held. MatchResult result
         (λ content. held name.now ≡ Some content.items)
         (IsAnswer (include_file held (32 - depth) name.now (state_of reading.now) (cursor_of cursor.now)))) }
     ensures deep { OnOk result (depth < 32) }
     ensures short { IfOk result (λ content. vec_len content ≤ most_bytes_of_source) }
     ensures rule { IfErr result IsOfPrep }
-    ensures file_fault { CountsOnce (F.faults files.old) (F.faults files.new) (IsErrOf result FileFault) }
-    ensures file_want { CountsIf (F.wants files.old) (F.wants files.new) (IsErrOf result NoMemory) }
-    ensures absence { HasCause (F.absences files.old) (F.absences files.new) (IsAbsence result) }
-    ensures same { F.held files.new ≡ F.held files.old }
+    ensures file_fault { CountsOnce (F.state files.old).counts.faults (F.state files.new).counts.faults
+        (IsErrOf result FileFault) }
+    ensures file_want { CountsIf (F.state files.old).counts.wants (F.state files.new).counts.wants
+        (IsErrOf result NoMemory) }
+    ensures absence { HasCause (F.state files.old).counts.absences (F.state files.new).counts.absences
+        (IsAbsence result) }
+    ensures same { (F.state files.new).held ≡ (F.state files.old).held }
 {
     let mut content = Vec::new(reading.alloc);
     match files.read(name, LONGEST as u64, &mut content) {

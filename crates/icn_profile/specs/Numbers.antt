@@ -107,6 +107,10 @@ most_cells = 4294967295
 abbrev pub default_cells : ℕ
 default_cells = 16777216
 
+-- how many bytes a file has at most that a program opens to read it or to add to it
+abbrev pub most_bytes_of_opened : ℕ
+most_bytes_of_opened = 268435456
+
 -- how deep calls may be allowed to be, and how deep they may be where nothing is said
 abbrev pub most_levels : ℕ
 most_levels = 4294967295

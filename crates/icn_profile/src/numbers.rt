@@ -63,6 +63,9 @@ pub const MOST_CELLS: u64 = 4294967295;
 /// How many cells of structures a run is allowed where nothing is said.
 pub const DEFAULT_CELLS: u64 = 16777216;
 
+/// How many bytes a file has at most that a program opens to read it or to add to it.
+pub const MOST_BYTES_OF_OPENED: u64 = 268435456;
+
 /// How deep calls may be allowed to be.
 pub const MOST_LEVELS: u64 = 4294967295;
 

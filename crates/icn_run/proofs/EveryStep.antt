@@ -286,7 +286,7 @@ module _ {H M : Type 0} (C : Calls H M) (P : Program) (law : StoreLaw P) where
   result (Var (Part (Local n) place size)) m st go k f = value (Var (Part (Local n) place size)) m st (λ v. go (Val v)) k (λ v. f (Val v))
   result x m st go k f = f x
 
-  finished : (t : Bool) (st : Store H) → K st → StateHolds (if t then over Done st.outside else stuck)
+  finished : (t : Bool) (st : Store H) → K st → StateHolds (if t then S.over_with Done st.world st.outside else stuck)
   finished true st k = law.done st.world st.outside st.begun k
   finished false st k = tt
 

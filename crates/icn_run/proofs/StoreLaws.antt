@@ -8,7 +8,7 @@ use Rattle.icn_code.specs.Codes.{RecordType}
 use Rattle.icn_defs.specs.Applying.{again, operation_row}
 use Rattle.icn_defs.specs.Errors.{error_report, with_kept}
 use Rattle.icn_defs.specs.Rows.{Outcome, Fails, Gives, Suspends, Error, Ends, Residual}
-use Rattle.icn_defs.specs.Running.{Pair, Ending, Done, Exit, Errored, AtBound, bound_report, with_errors, words_row}
+use Rattle.icn_defs.specs.Running.{Pair, Ending, Done, Exit, Errored, AtBound, bound_report, files_written, with_errors, words_row}
 use Rattle.icn_defs.specs.StepRows.{coexpression_row, list_row, record_row, text_row}
 use Rattle.icn_run.specs.Step.{Program}
 
@@ -18,7 +18,7 @@ LeavesBy Is Over begun (Fails seen) = Is seen.world seen.outside begun
 LeavesBy Is Over begun (Gives item seen) = Is seen.world seen.outside begun
 LeavesBy Is Over begun (Suspends item rest seen) = Is seen.world seen.outside begun
 LeavesBy Is Over begun (Error number value seen) = Is seen.world seen.outside begun
-LeavesBy Is Over begun (Ends status seen) = Over (Exit status) seen.outside
+LeavesBy Is Over begun (Ends status seen) = Over (Exit status) (files_written seen.world.heap seen.outside)
 
 -- A law of what stands in the world, the outside and the notes of `initial`, and of where a run ends. Stacks and co-expressions are none of it.
 pub record StoreLaw (P : Program) : Type 1 where
@@ -32,9 +32,9 @@ pub record StoreLaw (P : Program) : Type 1 where
       → Is (record w { heap = record w.heap { coexps = slice_set w.heap.coexps id (suc (slice_index_or w.heap.coexps id zero)) } }) outside begun
   pub noted : (proc : ℕ) (w : World) (outside : Outside) (begun : List Bool) → Is w outside begun → Is w outside (slice_set begun proc true)
   pub report : (names : Names) (number : ℕ) (v : Option Value) (w : World) (outside : Outside) (begun : List Bool) → Is w outside begun
-      → Over (Errored number) (with_errors (error_report names w.heap number v) outside)
+      → Over (Errored number) (files_written w.heap (with_errors (error_report names w.heap number v) outside))
   pub bound : (w : World) (outside : Outside) (begun : List Bool) → Is w outside begun → Over AtBound (with_errors bound_report outside)
-  pub done : (w : World) (outside : Outside) (begun : List Bool) → Is w outside begun → Over Done outside
+  pub done : (w : World) (outside : Outside) (begun : List Bool) → Is w outside begun → Over Done (files_written w.heap outside)
   pub operations : (op : Op) (items : List Item) (a : Setting) (begun : List Bool) → Is a.world a.outside begun
       → LeavesBy Is Over begun (operation_row op items a)
   pub resumed : (r : Residual) (a : Setting) (begun : List Bool) → Is a.world a.outside begun → LeavesBy Is Over begun (again r a)

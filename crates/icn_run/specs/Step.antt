@@ -20,7 +20,7 @@ use Rattle.icn_code.specs.Codes.{Tables, Proc as Procedure, RecordType}
 use Rattle.icn_code.specs.Rules.{name_of}
 use Rattle.icn_run.specs.Rows.{Value, Null, Integer, Text, Chars, Procedure as ProcedureValue, ARecord, AList, ACoexp, Global, Static, Local, Field, Whole, Part, Item, Val, Var, World, Outside, Setting, Names, list_at, record_at, Outcome, Fails, Gives, Suspends, Error, Ends, error_report, on_error, integer_of, position_of, again, Standing, keyword_item, Operation, Function, apply, value_row, list_row, text_row, record_row, coexpression_row, first_world, words_row, Ending, Done, Exit, Errored, AtBound, number_of}
 pub use Rattle.icn_defs.specs.Running.{Observation, Launch}
-use Rattle.icn_defs.specs.Running.{after_steps, bound_report, with_errors}
+use Rattle.icn_defs.specs.Running.{after_steps, bound_report, files_written, with_errors}
 use Rattle.icn_run.specs.Calls.{Pair, Why, Alt, Op as Operation, Scan, Escan, Proc, MarkDrop, NoMark, Goes, Repeats, Outside as WithoutLabel, Calls}
 
 -- The states
@@ -78,16 +78,21 @@ on_pair next pair = next pair.0 pair.1
 abbrev pub with_world : {K : Type 0} → World → Store K → Store K
 with_world world st = record st { world = world }
 
+-- the run is over, and the files that are still open to be written are written
+abbrev pub over_with : {K M : Type 0} → Ending → World → Outside → State K M
+over_with ending world outside = over ending (files_written world.heap outside)
+
 -- the run is over by an error, with its report on the error output
 abbrev pub ended_by : {K M : Type 0} → ℕ → Option Value → Store K → State K M
-ended_by n value st = over (Errored n) (with_errors (error_report st.names st.world.heap n value) st.outside)
+ended_by n value st =
+    over_with (Errored n) st.world (with_errors (error_report st.names st.world.heap n value) st.outside)
 
 -- An error ends the run, or it is kept and the code fails. This is the one place where errors come to.
 abbrev pub errs : {K M : Type 0} → ℕ → Option Value → M → Store K → State K M
 errs n value m st =
     on_error n value st.world (ended_by n value st) (λ world. failing m (with_world world st))
 
--- the run ends at the bound of turns, with its report on the error output
+-- the run ends at the bound of turns, with its report on the error output; no file is written
 abbrev pub at_bound : {K M : Type 0} → Store K → State K M
 at_bound st = over AtBound (with_errors bound_report st.outside)
 
@@ -145,7 +150,7 @@ outcome C (Gives item seen) m st = push_item C item (C.set_locals seen.locals m)
 outcome C (Suspends item residual seen) m st =
     push_item C item (C.suspend (Operation residual) (C.set_locals seen.locals m)) (with_at seen st)
 outcome C (Error n value seen) m st = errs n value (C.set_locals seen.locals m) (with_at seen st)
-outcome C (Ends n seen) m st = over (Exit n) seen.outside
+outcome C (Ends n seen) m st = over_with (Exit n) seen.world seen.outside
 
 -- a list of values is charged and made
 abbrev pub list_made : {K M : Type 0} → Calls K M → List Value → M → Store K
@@ -485,7 +490,7 @@ with_result C item m st next = next item
 
 -- the starting call ends, and with it the run; a create body has no end of its own here
 abbrev pub finish_run : {K M : Type 0} → Store K → State K M
-finish_run st = if is_main st.active then over Done st.outside else stuck
+finish_run st = if is_main st.active then over_with Done st.world st.outside else stuck
 
 -- the caller goes on; without one the run is over
 abbrev pub return_to : {K M : Type 0} → Option M → (M → Store K → State K M) → Store K → State K M

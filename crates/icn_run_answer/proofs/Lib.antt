@@ -3,4 +3,3 @@ pub mod CountCauses
 pub mod Endings
 pub mod CountsRise
 pub mod OutsideLeft
-pub mod InputLeft

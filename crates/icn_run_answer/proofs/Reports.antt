@@ -4,7 +4,7 @@ use Rattle.icn_host.specs.Sinks.{Gains, SinkState}
 use Rattle.icn_host.specs.declared.fault.Fault.TheVariants.{Failed, NoMemory as Wants}
 use Rattle.icn_host.proofs.ToldPuts.{leads_of, puts_nothing}
 use Rattle.icn_host.specs.Puts.{Puts, all}
-use Rattle.icn_streams.specs.Handed.{CallStreams, WantsMemory, uncounted, input_wants, output_wants, errors_want}
+use Rattle.icn_streams.specs.Handed.{CallStreams, WantsMemory, uncounted, files_want, input_wants, output_wants, errors_want}
 use Rattle.icn_machine.specs.Stepping.{OutputFails, output_fails, errors_fail}
 use Rattle.icn_defs.specs.declared.ending.Ending.{Ending}
 use Rattle.icn_running.specs.declared.fault.RunFault.{RunFault}
@@ -24,6 +24,7 @@ use Rattle.icn_run_answer.specs.Reporting.{CountsFault, LineStands, PutsSome, Re
 pub is_run_fault : (fault : RunFault) → IsFault (of_run fault)
 is_run_fault Runs.ReadFault = refl
 is_run_fault Runs.WriteFault = refl
+is_run_fault Runs.FileFault = refl
 is_run_fault Runs.NoMemory = refl
 
 -- What was put
@@ -81,18 +82,20 @@ some_put some = record { own = some.0; gains = some.1 }
 
 -- the counts of the error output, where a run ended at its first fault
 output_counts : (before after : CallStreams) → OutputFails before after → CountsFault Runs.WriteFault before.errors after.errors
-output_counts before after (output_fails input out err) = inl err
-output_counts before after (errors_fail input out err) = inr err
+output_counts before after (output_fails store input out err) = inl err
+output_counts before after (errors_fail store input out err) = inr err
 
 memory_counts : (before after : CallStreams) → WantsMemory before after → CountsFault Runs.NoMemory before.errors after.errors
 memory_counts before after (uncounted same) = inl same.errors
-memory_counts before after (input_wants input out err) = inl err
-memory_counts before after (output_wants input out err) = inl err
-memory_counts before after (errors_want input out err) = inr err
+memory_counts before after (files_want store input out err) = inl err
+memory_counts before after (input_wants store input out err) = inl err
+memory_counts before after (output_wants store input out err) = inl err
+memory_counts before after (errors_want store input out err) = inr err
 
 fault_counts : (before after : CallStreams) (fault : RunFault) → RunEnds {A = Ending} (Err fault) before after → CountsFault fault before.errors after.errors
 fault_counts before after Runs.ReadFault fails = fails.errors
 fault_counts before after Runs.WriteFault fails = output_counts before after fails
+fault_counts before after Runs.FileFault fails = fails.errors
 fault_counts before after Runs.NoMemory wants = memory_counts before after wants
 
 -- a run that was broken off, with the fault's own line behind

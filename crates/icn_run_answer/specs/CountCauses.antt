@@ -1,17 +1,16 @@
 -- Which counts of the outside rose in a call, by its answer.
 use Rattle.std.specs.Prelude.{◌≡◌, ◌⊎◌, ℕ}
 use Rattle.std.specs.Io.KnownBytes.{Keeps}
-use Rattle.icn_host.specs.Counts.{CountsIf, CountsOnce, HasCause}
+use Rattle.icn_host.specs.Counts.{HasCause}
 use Rattle.icn_host.specs.Sinks.{SinkState}
 use Rattle.icn_streams.specs.Handed.{CallStreams, FailsOnce, KeepsAllCounts, KeepsFaultCounts, WantsMemory, WantsOnce}
-use Rattle.icn_machine.specs.Stepping.{InputFails, OutputFails}
+use Rattle.icn_machine.specs.Stepping.{InputFails, OutputFails, StoreFails}
 use Rattle.icn_answer.specs.declared.answer.Answer.{Answer}
 use Rattle.icn_answer.specs.declared.answer.Answer.TheVariants.{Wrote, Ran, Refused, Command, Missing, BadUcode, BadImage, FileFault, ReadFault, WriteFault, NoMemory}
 use Rattle.icn_answer.specs.Refusing.{PutsOwn}
-use Rattle.icn_run_answer.specs.ToldObjects.{CallObjects}
 
--- Where it is answered that the input or an output failed, or that memory was wanting, that count rose once, and no other; where it is not, none
--- rose. Want of memory may have no count.
+-- Where it is answered that the store of files, the input or an output failed, or that memory was wanting, that count rose once, and no other; where it
+-- is not, none rose. Want of memory may have no count.
 abbrev pub IsFirstFaultOf : Answer → CallStreams → CallStreams → Type 0
 IsFirstFaultOf Wrote before after = KeepsAllCounts before after
 IsFirstFaultOf (Ran ending) before after = KeepsAllCounts before after
@@ -20,7 +19,7 @@ IsFirstFaultOf (Command kind) before after = KeepsAllCounts before after
 IsFirstFaultOf (Missing name) before after = KeepsAllCounts before after
 IsFirstFaultOf (BadUcode name rule) before after = KeepsAllCounts before after
 IsFirstFaultOf (BadImage rule) before after = KeepsAllCounts before after
-IsFirstFaultOf FileFault before after = KeepsAllCounts before after
+IsFirstFaultOf FileFault before after = StoreFails before after
 IsFirstFaultOf ReadFault before after = InputFails before after
 IsFirstFaultOf WriteFault before after = OutputFails before after
 IsFirstFaultOf NoMemory before after = WantsMemory before after
@@ -49,24 +48,21 @@ SettlesBehind ReadFault before after = after ≡ before
 SettlesBehind WriteFault before after = after ≡ before
 SettlesBehind NoMemory before after = TriesToSettle before after
 
--- What comes behind the first fault: the output may be settled, and the fault's own line is put. Nothing is read.
+-- What comes behind the first fault: the output may be settled, and the fault's own line is put. Nothing is read or written.
 pub record EndsBehind (answer : Answer) (between after : CallStreams) : Type 0 where
+  pub files : after.files ≡ between.files
   pub left : after.left ≡ between.left
   pub counts : after.counts ≡ between.counts
   pub output : SettlesBehind answer between.output after.output
   pub own_line : PutsOwn answer between.errors after.errors
 
--- The first fault ends a call that reads the input and puts on the outputs.
+-- The first fault ends a call.
 pub record RunEndsAtFirst (answer : Answer) (before after : CallStreams) : Type 0 where
   pub between : CallStreams
   pub first : IsFirstFaultOf answer before between
   pub behind : EndsBehind answer between after
 
--- The first fault ends a call that is handed files too; where a file was not there is answered, the count of absences rose. The files
--- wanted memory once at most, where want of memory is answered, and then nothing has failed or wanted memory before its line.
-pub record EndsAtFirst (answer : Answer) (absent : Type 0) (before after : CallObjects) : Type 0 where
-  pub file_fault : CountsOnce before.files.faults after.files.faults (answer ≡ FileFault)
-  pub absence : HasCause before.files.absences after.files.absences absent
-  pub file_want : CountsIf before.files.wants after.files.wants (answer ≡ NoMemory)
-  pub others : RunEndsAtFirst answer before.streams after.streams
-  pub want_alone : (after.files.wants ≡ before.files.wants) ⊎ KeepsAllCounts before.streams others.between
+-- the first fault ends a call; where it is answered that a file was not there, the count of absences rose
+pub record EndsAtFirst (answer : Answer) (absent : Type 0) (before after : CallStreams) : Type 0 where
+  pub absence : HasCause before.files.counts.absences after.files.counts.absences absent
+  pub first : RunEndsAtFirst answer before after

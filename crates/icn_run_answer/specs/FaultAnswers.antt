@@ -9,9 +9,10 @@ use Rattle.icn_answer.specs.declared.answer.Answer.TheVariants.{Wrote, Ran, Refu
 abbrev pub of_run : RunFault → Answer
 of_run Faults.ReadFault = ReadFault
 of_run Faults.WriteFault = WriteFault
+of_run Faults.FileFault = FileFault
 of_run Faults.NoMemory = NoMemory
 
--- an answer of a run
+-- An answer that a run may give. A fault of the files may come before it too.
 abbrev pub IsOfRun : Answer → Type 0
 IsOfRun Wrote = ⊥
 IsOfRun (Ran ending) = ⊤
@@ -20,7 +21,7 @@ IsOfRun (Command kind) = ⊥
 IsOfRun (Missing name) = ⊥
 IsOfRun (BadUcode name rule) = ⊥
 IsOfRun (BadImage rule) = ⊥
-IsOfRun FileFault = ⊥
+IsOfRun FileFault = ⊤
 IsOfRun ReadFault = ⊤
 IsOfRun WriteFault = ⊤
 IsOfRun NoMemory = ⊤

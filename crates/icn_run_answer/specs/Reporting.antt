@@ -43,6 +43,7 @@ LineStands usage name NoMemory before after = ⊥
 abbrev pub CountsFault : RunFault → SinkState → SinkState → Type 0
 CountsFault Faults.ReadFault before after = KeepsFaultCounts before after
 CountsFault Faults.WriteFault before after = KeepsFaultCounts before after ⊎ FailsOnce before after
+CountsFault Faults.FileFault before after = KeepsFaultCounts before after
 CountsFault Faults.NoMemory before after = KeepsFaultCounts before after ⊎ WantsOnce before after
 
 -- a program's run put something

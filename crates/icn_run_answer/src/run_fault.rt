@@ -1,5 +1,6 @@
 // The answer where a run could not go on.
 ghost use Rattle.std.specs.Prelude.{◌≡◌, ℕ, List, Option};
+ghost use Rattle.icn_host.specs.FileMaps.{StoreState};
 ghost use Rattle.icn_host.specs.Sources.{SourceCounts};
 ghost use Rattle.icn_streams.specs.Handed.{call_streams};
 ghost use Rattle.icn_run_answer.specs.CountCauses.{EndsBehind, IsSettledOrFailed, SettlesBehind, TriesToSettle};
@@ -13,9 +14,9 @@ use icn_running::RunFault;
 /// so that nothing of it is lost. Then the fault's own line is put.
 pub fn broken_answer<O: Sink, E: Sink>(fault: RunFault, out: &mut O, err: &mut E) -> Answer
     ensures answer { result ≡ of_run fault }
-    ensures behind { (left : Option (List ℕ)) (input : SourceCounts) → EndsBehind (of_run fault)
-        (call_streams left input (O.state out.old) (E.state err.old))
-        (call_streams left input (O.state out.new) (E.state err.new)) }
+    ensures behind { (files : StoreState) (left : Option (List ℕ)) (input : SourceCounts) → EndsBehind (of_run fault)
+        (call_streams files left input (O.state out.old) (E.state err.old))
+        (call_streams files left input (O.state out.new) (E.state err.new)) }
     ensures settled { fault ≡ RunFault.NoMemory
         → IsSettledOrFailed (O.pending out.new) (O.state out.old) (O.state out.new) }
 {
@@ -32,6 +33,7 @@ fn answer_of(fault: RunFault) -> Answer
     match fault {
         RunFault::ReadFault => Answer::ReadFault,
         RunFault::WriteFault => Answer::WriteFault,
+        RunFault::FileFault => Answer::FileFault,
         RunFault::NoMemory => Answer::NoMemory,
     }
 }
@@ -44,7 +46,7 @@ fn settle_in_want<O: Sink>(fault: RunFault, out: &mut O)
 {
     match fault {
         RunFault::NoMemory => try_settle(out),
-        RunFault::ReadFault | RunFault::WriteFault => {}
+        RunFault::ReadFault | RunFault::WriteFault | RunFault::FileFault => {}
     }
 }
 

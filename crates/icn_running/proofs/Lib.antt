@@ -9,6 +9,7 @@ mod RecordCounts
 mod RecordNumbers
 mod RunAnswers
 mod Starts
+mod EndedRuns
 mod EndsAtStart
 pub mod SettledEnds
 mod ReportedRuns

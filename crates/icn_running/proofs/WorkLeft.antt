@@ -1,6 +1,6 @@
 -- How much is left after some steps.
 use Rattle.std.proofs.Common.{◌≡◌, ◌⊎◌, inl, inr, ℕ, ◌<◌, ◌≤◌, List, [], ◌∷◌, ◌++◌, Ok, refl, sym, subst, arith}
-use Rattle.icn_value.specs.Store.{Outside, outside_of}
+use Rattle.icn_value.specs.Store.{Outside, bare_outside}
 use Rattle.icn_value.specs.declared.limits.Limits.{Limits}
 use Rattle.icn_code.specs.Codes.{Tables}
 use Rattle.icn_run.specs.Stacks.{Frames, flat}
@@ -93,13 +93,13 @@ record After {K : Type 0} (tables : Tables) (m n : Machine K) : Type 0 where
   first : Outside
   later : List Outside
   now : Outside
-  is : run_over tables (first ∷ later) (state_seen tables (outside_of []) m) ≡ state_seen tables now n
+  is : run_over tables (first ∷ later) (state_seen tables bare_outside m) ≡ state_seen tables now n
 
 after : {K : Type 0} (tables : Tables) (m : Machine K) (b : CallStreams) (n : Machine K) (c : CallStreams)
     → Advances IsAny tables m RunStates.Running b n c (Ok RunStates.Running)
     → After tables m n
 after tables m b n c advances =
-    let l = advances.meant (outside_of []) (state_seen tables (outside_of []) m) refl in
+    let l = advances.meant bare_outside (state_seen tables bare_outside m) refl in
     record { first = l.first; later = l.later; now = l.now; is = l.is }
 
 pub lasts_on : {K : Type 0} (tables : Tables) (m : Machine K) (b : CallStreams) (n : Machine K) (c : CallStreams) → Lasts tables m → n.limits ≡ m.limits
@@ -107,13 +107,13 @@ pub lasts_on : {K : Type 0} (tables : Tables) (m : Machine K) (b : CallStreams) 
 lasts_on tables m b n c lasts limits advances outside =
     let a = after tables m b n c advances in
     let bound = m.limits.turns in
-    let here = falls_behind tables bound (a.first ∷ a.later) (state_seen tables (outside_of []) m) (lasts (outside_of [])) in
+    let here = falls_behind tables bound (a.first ∷ a.later) (state_seen tables bare_outside m) (lasts bare_outside) in
     let there = subst (AlwaysFalls tables bound) a.is here in
     subst (λ (l : Limits). AlwaysFalls tables l.turns (state_seen tables outside n)) (sym limits)
     (falls_elsewhere tables bound outside (state_seen tables a.now n) there)
 
 falls_on : {K : Type 0} (tables : Tables) (m n : Machine K) (now : Outside)
-    → Fell tables m.limits.turns (state_seen tables (outside_of []) m) (state_seen tables now n)
+    → Fell tables m.limits.turns (state_seen tables bare_outside m) (state_seen tables now n)
     → MadeTurn m n ⊎ ((n.turns ≡ m.turns) × (left_now tables n < left_now tables m))
 falls_on tables m n now (ended e) = absurd e
 falls_on tables m n now (made a b) = inl (record { more = a; within = b })
@@ -126,5 +126,5 @@ pub falls_by : {K : Type 0} (tables : Tables) (m : Machine K) (b : CallStreams) 
 falls_by tables m b n c lasts advances =
     let a = after tables m b n c advances in
     falls_on tables m n a.now
-    (subst (Fell tables m.limits.turns (state_seen tables (outside_of []) m)) a.is
-    (fell tables m.limits.turns (state_seen tables (outside_of []) m) (lasts (outside_of [])) a.first a.later))
+    (subst (Fell tables m.limits.turns (state_seen tables bare_outside m)) a.is
+    (fell tables m.limits.turns (state_seen tables bare_outside m) (lasts bare_outside) a.first a.later))

@@ -10,6 +10,7 @@ IsAboutLive all (Halts.Error number offending) = IfSome offending (IsLive all)
 IsAboutLive all (Halts.Ends status) = ⊤
 IsAboutLive all Halts.ReadFault = ⊤
 IsAboutLive all Halts.WriteFault = ⊤
+IsAboutLive all Halts.FileFault = ⊤
 IsAboutLive all Halts.NoMemory = ⊤
 
 -- A run is over before its first instruction: by an error that is about no value, or for want of memory.
@@ -19,4 +20,5 @@ IsUnbegun (Halts.Error number (Some offending)) = ⊥
 IsUnbegun (Halts.Ends status) = ⊥
 IsUnbegun Halts.ReadFault = ⊥
 IsUnbegun Halts.WriteFault = ⊥
+IsUnbegun Halts.FileFault = ⊥
 IsUnbegun Halts.NoMemory = ⊤

@@ -1,6 +1,6 @@
 -- How much of a run is left: it ends by its bound on turns, and between two turns by what is left to do.
 use Rattle.std.specs.Prelude.{◌<◌, ◌≤◌, ℕ, List, []}
-use Rattle.icn_value.specs.Store.{Outside, outside_of}
+use Rattle.icn_value.specs.Store.{Outside, bare_outside}
 use Rattle.icn_code.specs.Codes.{Tables}
 use Rattle.icn_run.specs.Stacks.{Frames, flat}
 use Rattle.icn_run.specs.Step.{State, running, step}
@@ -25,7 +25,7 @@ Lasts tables m = (outside : Outside) → AlwaysFalls tables m.limits.turns (stat
 
 -- what is left to do of it before the next turn
 abbrev pub left_now : {K : Type 0} → Tables → Machine K → ℕ
-left_now tables m = left_of tables (state_seen tables (outside_of []) m)
+left_now tables m = left_of tables (state_seen tables bare_outside m)
 
 -- a turn more was made at least, of those that may be
 pub record MadeTurn {K : Type 0} (m n : Machine K) : Type 0 where

@@ -16,6 +16,9 @@ pub enum RunFault {
     /// The output or the error output failed.
     #[error("an output failed")]
     WriteFault,
+    /// The store of files failed.
+    #[error("a file failed")]
+    FileFault,
     /// Memory ran out.
     #[error("memory ran out")]
     NoMemory,

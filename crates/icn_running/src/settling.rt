@@ -1,5 +1,6 @@
 // Settling both outputs once a run has stopped.
 ghost use Rattle.std.specs.Prelude.{◌≡◌, ℕ, List, Option, OnOk};
+ghost use Rattle.icn_host.specs.FileMaps.{StoreState};
 ghost use Rattle.icn_host.specs.Sources.{SourceCounts};
 ghost use Rattle.icn_streams.specs.Handed.{call_streams};
 ghost use Rattle.icn_running.specs.SettledEnds.{SettlesRun, is_broken};
@@ -16,7 +17,7 @@ pub fn is_broken(stopped: &Result<AfterStep, Halt>) -> bool
 {
     matches!(
         stopped,
-        Err(Halt::ReadFault | Halt::WriteFault | Halt::NoMemory)
+        Err(Halt::ReadFault | Halt::WriteFault | Halt::FileFault | Halt::NoMemory)
     )
 }
 
@@ -27,15 +28,16 @@ pub fn is_broken(stopped: &Result<AfterStep, Halt>) -> bool
 /// `WriteFault` where one of them failed, `NoMemory` where one wanted memory.
 pub fn settle_outputs<O: Sink, E: Sink>(out: &mut O, err: &mut E) -> Result<(), RunFault>
     ensures settled { OnOk result ((O.pending out.new ≡ 0) × (E.pending err.new ≡ 0)) }
-    ensures settles { (left : Option (List ℕ)) (counts : SourceCounts)
-        → SettlesRun (call_streams left counts (O.state out.old) (E.state err.old))
-        (call_streams left counts (O.state out.new) (E.state err.new)) result }
+    ensures settles { (files : StoreState) (left : Option (List ℕ)) (counts : SourceCounts)
+        → SettlesRun (call_streams files left counts (O.state out.old) (E.state err.old))
+        (call_streams files left counts (O.state out.new) (E.state err.new)) result }
 {
     match settle(out, err) {
         Ok(()) => Ok(()),
         Err(Halt::WriteFault) => Err(RunFault::WriteFault),
         Err(Halt::NoMemory) => Err(RunFault::NoMemory),
         Err(Halt::ReadFault) => unreachable!(),
+        Err(Halt::FileFault) => unreachable!(),
         Err(Halt::Error(..)) => unreachable!(),
         Err(Halt::Ends(_)) => unreachable!(),
     }

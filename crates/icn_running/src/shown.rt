@@ -16,7 +16,7 @@ ghost use Rattle.icn_running.specs.PlainValues.{IsPlain};
 use crate::names::{has_name, record_name};
 use icn_apply::CodeNames;
 use icn_code::Code;
-use icn_convert::image;
+use icn_convert::{image, push_file};
 use icn_heap::Heap;
 use icn_text::decimal;
 use icn_value::{Limits, Val};
@@ -33,7 +33,7 @@ pub fn push_image(out: &mut Vec<u8>, code: &Code, heap: &Heap, val: Val) -> Resu
         Val::Integer(_) => push_plain(out, code, val),
         Val::Text(span) => push_text(out, code, heap.bytes(span)),
         Val::Chars(_) => push_plain(out, code, val),
-        Val::Std(_) => push_plain(out, code, val),
+        Val::Std(file) => push_file(out, heap, file),
         Val::Proc(number) => push_procedure(out, code, number),
         Val::Rec(id) => push_record(out, code, heap, id),
         Val::List(id) => push_structure(out, heap, b"list", id, val),

@@ -4,6 +4,9 @@ pub mod QuietRows
 pub mod NextRead
 pub mod SomeInput
 pub mod ReadRows
+pub mod OpenedReads
+pub mod OpenedRows
+pub mod ReadableFiles
 pub mod RowAnswers
 pub mod SettledRows
 pub mod InputCounts

@@ -30,7 +30,8 @@ next_there ALine next s is =
     (costs_bytes (length (take_while (λ byte. not (byte == 10)) s.outside.left)) (next (take_while (λ byte. not (byte == 10)) s.outside.left))))
     (record s { outside = with_reading ALine s.outside })) is
 next_there (SomeBytes count) next s is =
-    ap (λ b. fails_unless b (takes_input (length (take count s.outside.left)) (costs_bytes (length (take count s.outside.left)) (next (take count s.outside.left))))
+    ap (λ b. fails_unless b (takes_input (length (take count s.outside.left)) (costs_bytes (length (take count s.outside.left))
+    (next (take count s.outside.left))))
     (record s { outside = with_reading (SomeBytes count) s.outside })) is
     ∙ ap (λ left. costs_bytes (length (take count s.outside.left)) (next (take count s.outside.left))
     (record s { outside = record (with_reading (SomeBytes count) s.outside) { left = left } })) (drop_taken count s.outside.left)
@@ -43,7 +44,8 @@ next_gone ALine next s is =
     (costs_bytes (length (take_while (λ byte. not (byte == 10)) s.outside.left)) (next (take_while (λ byte. not (byte == 10)) s.outside.left))))
     (record s { outside = with_reading ALine s.outside })) is
 next_gone (SomeBytes count) next s is =
-    ap (λ b. fails_unless b (takes_input (length (take count s.outside.left)) (costs_bytes (length (take count s.outside.left)) (next (take count s.outside.left))))
+    ap (λ b. fails_unless b (takes_input (length (take count s.outside.left)) (costs_bytes (length (take count s.outside.left))
+    (next (take count s.outside.left))))
     (record s { outside = with_reading (SomeBytes count) s.outside })) is
 
 -- where nothing is there nothing is taken

@@ -1,5 +1,5 @@
 -- A row that goes on as another one, and a row that stops where a thing is looked for.
-use Rattle.std.proofs.Common.{◌≡◌, ◌∙◌, sym, ap, subst, [], Some, Result, Ok, Err}
+use Rattle.std.proofs.Common.{◌≡◌, ◌∙◌, sym, subst, Result, Ok, Err}
 use Rattle.std.specs.Prelude.{IsErrAnd}
 use Rattle.std.specs.List.{All}
 use Rattle.icn_value.specs.Store.{Outside, Setting}
@@ -9,15 +9,15 @@ use Rattle.icn_heap.specs.Heaps.{extent_of}
 use Rattle.icn_vars.specs.Stops.{IsLiveStop, StopsFinding, halt_of}
 use Rattle.icn_vars.specs.declared.outcome.Outcome.{Outcome as HeldOutcome}
 use Rattle.icn_vars.specs.declared.outcome.Halt.{Halt}
-use Rattle.icn_vars.specs.declared.outcome.Halt.TheVariants.{Error as ErrorHalt, Ends as EndsHalt, ReadFault, WriteFault, NoMemory}
+use Rattle.icn_vars.specs.declared.outcome.Halt.TheVariants.{Error as ErrorHalt, Ends as EndsHalt, ReadFault, WriteFault, FileFault, NoMemory}
 use Rattle.icn_vars.specs.declared.stop.Stop.{Stop}
 use Rattle.icn_vars.specs.declared.stop.Stop.TheVariants.{Error as ErrorStop, NoMemory as NoMemoryStop}
-use Rattle.icn_defs.specs.Interruptions.{BreaksBetween, BreaksReading}
+use Rattle.icn_defs.specs.Interruptions.{BreaksBetween, BreaksFiles, BreaksReading}
 use Rattle.icn_streams.specs.Handed.{CallStreams, streams_of, uncounted}
-use Rattle.icn_streams.specs.Answers.{Answers, CallState, Stops, StopsPutting, StopsReading, idle, outside_after, putting, reading, setting_with, with_left}
+use Rattle.icn_streams.specs.Answers.{Answers, CallState, Stops, StopsFiles, StopsPutting, StopsReading, files, idle, outside_after, putting, reading, setting_with, state_telling}
 use Rattle.icn_streams.specs.Applies.{Applies, reach_given}
-use Rattle.icn_streams.proofs.CallSequences.{follows_all}
-use Rattle.icn_streams.proofs.IdleCalls.{keeps_all_counts_refl, keeps_items_refl, leaves_streams_refl}
+use Rattle.icn_streams.proofs.CallSequences.{follows_all, tells_told}
+use Rattle.icn_streams.proofs.IdleCalls.{allows_own, allows_still, keeps_all_counts_refl, keeps_items_refl, leaves_streams_refl, told_of}
 
 -- A row that is another one here
 
@@ -30,9 +30,14 @@ module _ (row rest : Row) (at : Setting) (same : row at ≡ rest at) (before aft
   putting_same stops =
       subst (λ (o : Outcome). BreaksBetween at.outside (outside_after o) (streams_of before) (streams_of after)) (sym same) stops
 
+  files_same : StopsFiles rest at before after → StopsFiles row at before after
+  files_same stops =
+      subst (λ (o : Outcome). BreaksFiles at.outside (outside_after o) (streams_of before) (streams_of after)) (sym same) stops
+
   stops_same : Stops rest at before after → Stops row at before after
   stops_same (idle is) = idle is
   stops_same (reading is) = reading (reading_same is)
+  stops_same (files is) = files (files_same is)
   stops_same (putting is) = putting (putting_same is)
 
 answers_same : (row rest : Row) (was : Outside) (before after : CallState) (result : Result HeldOutcome Halt)
@@ -43,6 +48,7 @@ answers_same row rest was before after (Err (ErrorHalt number offending)) same i
 answers_same row rest was before after (Err (EndsHalt status)) same is = record { now = is.now; follows = is.follows; comes = same ∙ is.comes }
 answers_same row rest was before after (Err ReadFault) same is = reading_same row rest (setting_with was before) same before.handed after.handed is
 answers_same row rest was before after (Err WriteFault) same is = putting_same row rest (setting_with was before) same before.handed after.handed is
+answers_same row rest was before after (Err FileFault) same is = files_same row rest (setting_with was before) same before.handed after.handed is
 answers_same row rest was before after (Err NoMemory) same is = stops_same row rest (setting_with was before) same before.handed after.handed is
 
 -- the row goes on as another one, of which this is said
@@ -54,7 +60,9 @@ applies_same row rest before after result same is = record {
   meant = record {
     had = is.meant.had;
     has = is.meant.has;
-    answers = λ was first. answers_same row rest was (with_left is.meant.had before) (with_left is.meant.has after) result (same was)
+    allowed = is.meant.allowed;
+    allows = is.meant.allows;
+    answers = λ was first. answers_same row rest was (state_telling is.meant.had before) (state_telling is.meant.has after) result (same was)
         (is.meant.answers was first);
   };
   caused = is.caused;
@@ -71,9 +79,15 @@ stopped : {A : Type 0} (find : Finds A) (next : A → Row) (all : CallState) (st
 stopped find next all (ErrorStop number offending) stops live lives = record {
   answers = λ was told. record { now = was; follows = follows_all all.handed was told; comes = stops was next };
   meant = record {
-    had = [];
-    has = [];
-    answers = λ was is. record { now = was; follows = follows_all (with_left [] all).handed was (ap Some (sym is)); comes = stops was next };
+    had = told_of all.handed;
+    has = told_of all.handed;
+    allowed = allows_own all.handed;
+    allows = allows_still all.handed;
+    answers = λ was is. record {
+      now = was;
+      follows = follows_all (state_telling (told_of all.handed) all).handed was (tells_told (told_of all.handed) all.handed was is);
+      comes = stops was next;
+    };
   };
   caused = keeps_all_counts_refl all.handed;
   live = live;
@@ -82,7 +96,13 @@ stopped find next all (ErrorStop number offending) stops live lives = record {
 }
 stopped find next all NoMemoryStop stops live lives = record {
   answers = λ was told. idle (leaves_streams_refl _);
-  meant = record { had = []; has = []; answers = λ was is. idle (leaves_streams_refl _) };
+  meant = record {
+    had = told_of all.handed;
+    has = told_of all.handed;
+    allowed = allows_own all.handed;
+    allows = allows_still all.handed;
+    answers = λ was is. idle (leaves_streams_refl _);
+  };
   caused = uncounted (keeps_all_counts_refl all.handed);
   live = tt;
   locals = lives;

@@ -1,5 +1,5 @@
 -- All that a call says of the row that it applies.
-use Rattle.std.specs.Prelude.{◌≡◌, Result, Some}
+use Rattle.std.specs.Prelude.{Result}
 use Rattle.std.specs.List.{All}
 use Rattle.icn_value.specs.Store.{Outside}
 use Rattle.icn_defs.specs.Rows.{Row}
@@ -9,18 +9,19 @@ use Rattle.icn_vars.specs.Outcomes.{IsLiveAnswer}
 use Rattle.icn_vars.specs.Worlds.{KeepsItems, Reach, reach_of}
 use Rattle.icn_vars.specs.declared.outcome.Outcome.{Outcome}
 use Rattle.icn_vars.specs.declared.outcome.Halt.{Halt}
-use Rattle.icn_streams.specs.Answers.{CallState, Answers, CausedBy, OverSomeInput}
+use Rattle.icn_streams.specs.Answers.{CallState, Answers, CausedBy, OverSomeOutside}
+use Rattle.icn_streams.specs.Handed.{TellsOutside}
 
 -- what items may name that are of what is given
 abbrev pub reach_given : CallState → Reach
 reach_given all = reach_of all.world all.locals
 
--- The call was answered what the row comes to, or a fault or want of memory broke it off: over the input that was
--- handed where that tells what it has left, and over some input in any case. What was answered is of the world, and
+-- The call was answered what the row comes to, or a fault or want of memory broke it off: over the outside that was
+-- handed where the input and the store of files tell it, and over some outside in any case. What was answered is of the world, and
 -- so are the locals still; every item that was of the world stays so, and stands for the same.
 pub record Applies (row : Row) (before after : CallState) (result : Result Outcome Halt) : Type 0 where
-  pub answers : (was : Outside) → before.handed.left ≡ Some was.left → Answers row was before after result
-  pub meant : OverSomeInput row before after result
+  pub answers : (was : Outside) → TellsOutside before.handed was → Answers row was before after result
+  pub meant : OverSomeOutside row before after result
   pub caused : CausedBy result before.handed after.handed
   pub live : IsLiveAnswer (reach_given after) result
   pub locals : All (IsLive (extent_of after.world.heap)) after.locals

@@ -2,6 +2,7 @@
 ghost use Rattle.std.specs.Prelude.{◌≡◌, List, length, IfErr, IfOk, IfSome, MatchResult, Some};
 ghost use Rattle.std.specs.List.{All};
 ghost use Rattle.icn_host.specs.Counts.{one_more};
+ghost use Rattle.icn_host.specs.FileMaps.{StoreState};
 ghost use Rattle.icn_host.specs.Sinks.{SinkState};
 ghost use Rattle.icn_value.specs.Store.{Outside};
 ghost use Rattle.icn_defs.specs.Calls.{Passes};
@@ -35,13 +36,15 @@ pub fn read_text<L: Locals, I: Source>(
     input: &mut I,
 ) -> Result<Option<Span>, Halt>
     requires locals { All (IsLive (extent_of w.old.heap)) (L.items l.now) }
-    ensures reads { (was : Outside) (output errors : SinkState)
+    ensures reads { (was : Outside) (files : StoreState) (output errors : SinkState)
         → I.left input.old ≡ Some was.left → Reads (asked_in ask) was (call_state w.old (L.items l.now)
-        (call_streams (I.left input.old) (I.counts input.old) output errors)) (call_state w.new
-        (L.items l.now) (call_streams (I.left input.new) (I.counts input.new) output errors)) result }
-    ensures some { (output errors : SinkState) → ReadsOfSome (asked_in ask) (call_state w.old (L.items l.now)
-        (call_streams (I.left input.old) (I.counts input.old) output errors)) (call_state w.new
-        (L.items l.now) (call_streams (I.left input.new) (I.counts input.new) output errors)) result }
+        (call_streams files (I.left input.old) (I.counts input.old) output errors)) (call_state w.new
+        (L.items l.now) (call_streams files (I.left input.new) (I.counts input.new) output errors)) result }
+    ensures some { (files : StoreState) (output errors : SinkState) → ReadsOfSome (asked_in ask)
+        (call_state w.old
+        (L.items l.now) (call_streams files (I.left input.old) (I.counts input.old) output errors))
+        (call_state w.new
+        (L.items l.now) (call_streams files (I.left input.new) (I.counts input.new) output errors)) result }
     ensures cause { InputCause (I.counts input.old) (I.counts input.new) result }
     ensures called { (I.counts input.new).calls ≡ one_more (I.counts input.old).calls }
     ensures live { IfOk result (λ found. IfSome found (IsText (extent_of w.new.heap))) }
@@ -56,9 +59,9 @@ pub fn read_text<L: Locals, I: Source>(
     }
 }
 
-// A text of these bytes, which is charged.
+/// A text of these bytes, which is charged.
 #[tactic(auto, using(icn_vars::proofs::GrowingWorlds::grows, icn_vars::proofs::GrowingWorlds::locals_grow))]
-fn text_of<L: Locals>(w: &mut World, l: &L, bytes: &[u8]) -> Result<Span, Stop>
+pub fn text_of<L: Locals>(w: &mut World, l: &L, bytes: &[u8]) -> Result<Span, Stop>
     requires locals { All (IsLive (extent_of w.old.heap)) (L.items l.now) }
     ensures live { IfOk result (IsText (extent_of w.new.heap)) }
     ensures text { IfOk result (λ span. text_in (extent_of w.new.heap) span ≡ bytes.now) }

@@ -1,5 +1,6 @@
 // Settling what was put.
 ghost use Rattle.std.specs.Prelude.{◌≡◌, ℕ, List, Option, OnOk};
+ghost use Rattle.icn_host.specs.FileMaps.{StoreState};
 ghost use Rattle.icn_host.specs.Sources.{SourceCounts};
 ghost use Rattle.icn_streams.specs.Handed.{call_streams};
 ghost use Rattle.icn_streams.specs.Settling.{Settles, SettlesSink};
@@ -14,9 +15,9 @@ use icn_vars::Halt;
 /// `WriteFault` where an output failed, `NoMemory` where one wanted memory.
 pub fn settle<O: Sink, E: Sink>(out: &mut O, err: &mut E) -> Result<(), Halt>
     ensures settled { OnOk result ((O.pending out.new ≡ 0) × (E.pending err.new ≡ 0)) }
-    ensures settles { (left : Option (List ℕ)) (counts : SourceCounts)
-        → Settles (call_streams left counts (O.state out.old) (E.state err.old))
-        (call_streams left counts (O.state out.new) (E.state err.new)) result }
+    ensures settles { (files : StoreState) (left : Option (List ℕ)) (counts : SourceCounts)
+        → Settles (call_streams files left counts (O.state out.old) (E.state err.old))
+        (call_streams files left counts (O.state out.new) (E.state err.new)) result }
 {
     settle_one(out)?;
     settle_one(err)

@@ -1,9 +1,8 @@
 mod RowAnswers
 mod CheckedRows
-mod Fillings
+mod MadePieces
 mod MappedBytes
 mod Trims
 mod KeptArguments
 mod NamedRecords
-mod TooLong
 mod RowLimits

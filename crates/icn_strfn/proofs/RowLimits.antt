@@ -1,5 +1,5 @@
 -- Want of memory hides no limit.
-use Rattle.std.proofs.Common.{◌≡◌, ◌≢◌, ◌∙◌, refl, sym, subst, ℕ, ◌+◌, ◌≤◌, Bool, true, false, nat_le, List, length, None, Result, Ok, Err}
+use Rattle.std.proofs.Common.{◌≡◌, ◌≢◌, ◌∙◌, refl, sym, ap, subst, ℕ, ◌+◌, ◌≤◌, Bool, true, false, nat_le, List, length, None, Result, Ok, Err}
 use Rattle.std.specs.Prelude.{IsErrAnd}
 use Rattle.std.proofs.lemmas.Bool.{leb-true, leb-false, le-leb}
 use Rattle.icn_value.specs.Values.{Item, Text, Val}
@@ -47,3 +47,15 @@ pub error_no_want : (stop : Stop) (result : Result ValueOutcome Stop) → IsErrA
 error_no_want stop (Ok given) same is wanting = absurd same
 error_no_want stop (Err other) same is wanting =
     let none : other ≡ NoMemory = cc in subst IsError (sym same ∙ none) is
+
+same_stop : {A : Type 0} (stop limit : Stop) → (let answer : Result A Stop = Err stop in answer ≡ Err limit) → stop ≡ limit
+same_stop stop limit is = cc
+
+-- where a limit is the answer, it is what was answered
+pub stopped_as : {A : Type 0} (result : Result ValueOutcome Stop) (stop limit : Stop) → IsErrAnd result (λ other. other ≡ stop)
+    → (let answer : Result A Stop = Err stop in answer ≡ Err limit) → result ≡ Err limit
+stopped_as {A} (Ok given) stop limit same is = absurd same
+stopped_as {A} (Err other) stop limit same is = ap Err (same ∙ same_stop {A = A} stop limit is)
+
+pub no_given : {A : Type 0} (value : A) (stop : Stop) → (let answer : Result A Stop = Ok value in answer ≡ Err stop) → ⊥
+no_given value stop is = cc

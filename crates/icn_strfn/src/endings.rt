@@ -1,16 +1,17 @@
 // How rows that give a text end.
-ghost use Rattle.std.specs.Prelude.{◌≡◌, ◌+◌, ◌<◌, ◌≤◌, ◌^◌, pos, MatchBool};
+ghost use Rattle.std.specs.Prelude.{◌≡◌, pos};
 ghost use Rattle.std.specs.List.{All};
+ghost use Rattle.icn_strings.specs.Pieces.{IsPieceIn, made_of};
 ghost use Rattle.icn_value.specs.Values.{Text};
 ghost use Rattle.icn_value.specs.declared.val.Val.TheVariants.{Integer as IntegerVal, Text as TextVal};
 ghost use Rattle.icn_defs.specs.Rows.{builds, gives_value};
 ghost use Rattle.icn_heap.specs.Extents.{IsLive};
 ghost use Rattle.icn_heap.specs.Heaps.{extent_of, heap_of};
 ghost use Rattle.icn_vars.specs.Worlds.{KeepsLive, reach_of};
-ghost use Rattle.icn_strfn.specs.Stopping.{Gives, IsLiveGiven};
+ghost use Rattle.icn_strfn.specs.Stopping.{Gives, IsLiveGiven, RefusesFirst};
 
-use icn_args::{ValueOutcome, build};
-use icn_heap::Heap;
+use icn_args::{ValueOutcome, build, build_of};
+use icn_strings::StringPiece;
 use icn_value::{Span, Val};
 use icn_vars::{Locals, Stop, World};
 
@@ -25,17 +26,23 @@ pub fn build_text<L: Locals>(w: &mut World, l: &L, bytes: &[u8]) -> Result<Value
     Ok(text(span))
 }
 
-/// Whether so many bytes more may not be charged. A text that is longer needs not be made to be refused.
-pub fn lacks_room(heap: &Heap, bytes: u64) -> bool
-    ensures room { MatchBool result
-        ((heap_of heap.now).bounds.strings < (heap_of heap.now).strings + bytes)
-        ((heap_of heap.now).strings + bytes ≤ (heap_of heap.now).bounds.strings) }
-    ensures bits { (heap_of heap.now).bounds.strings < 2 ^ 64 }
+/// A new text of some pieces, one behind the other, which is charged. The errors are 306, before it is made, and want of memory.
+pub fn build_pieces<L: Locals>(
+    w: &mut World,
+    l: &L,
+    pieces: &[StringPiece],
+) -> Result<ValueOutcome, Stop>
+    requires locals { All (IsLive (extent_of w.old.heap)) (L.items l.now) }
+    requires pieces { All (IsPieceIn (extent_of w.old.heap).strings) pieces.now }
+    ensures row { Gives w.old w.new (L.items l.now)
+        (builds (made_of (extent_of w.old.heap).strings pieces.now)) result }
+    ensures limits { RefusesFirst (heap_of w.old.heap)
+        (made_of (extent_of w.old.heap).strings pieces.now) result }
+    ensures live { IsLiveGiven (reach_of w.new (L.items l.now)) result }
+    ensures kept { KeepsLive w.old (L.items l.now) w.new (L.items l.now) }
 {
-    match heap.room_for_bytes(bytes) {
-        Ok(()) => false,
-        Err(_) => true,
-    }
+    let span = build_of(w, l, pieces)?;
+    Ok(text(span))
 }
 
 /// A text of these bytes, which costs nothing. The error is want of memory.

@@ -1,9 +1,7 @@
 // How a text is laid out in a field.
-ghost use Rattle.std.specs.Prelude.{◌≡◌, IfOk};
-ghost use Rattle.icn_strfn.specs.Layouts.{laid_out};
-
-use crate::fields::{center, left, right};
-use std::alloc::{AllocError, Global};
+ghost use Rattle.std.specs.Prelude.{◌≡◌, ◌+◌, ◌≤◌, ℕ, List, length};
+ghost use Rattle.icn_defs.specs.Strings.{filling_text};
+ghost use Rattle.icn_strfn.specs.Layouts.{in_field, laid_out};
 
 /// Where a text stands in a field.
 #[derive(Clone, Copy, Debug, PartialEq, Eq)]
@@ -16,19 +14,43 @@ pub enum Layout {
     Center,
 }
 
-/// A text in a field of so many bytes, filled with another text. The error is want of memory.
-pub fn laid_out(
-    alloc: Global,
-    layout: Layout,
-    text: &[u8],
-    width: usize,
-    fill: &[u8],
-) -> Result<Vec<u8>, AllocError>
-    ensures { IfOk result (λ made. made.items ≡ laid_out layout text.now width fill.now) }
+/// What stands in a field: a part of a text, and how many bytes are filled before it and behind it.
+#[derive(Clone, Copy)]
+pub struct Field {
+    pub before: u64,
+    /// The place of the part in the text.
+    pub from: u64,
+    /// The length of the part.
+    pub len: u64,
+    pub behind: u64,
+}
+
+/// What stands in a field of so many bytes, of a text of `len` bytes.
+pub fn field_of(layout: Layout, len: u64, width: u64) -> Field
+    ensures within { result.from + result.len ≤ len }
+    ensures field { (text fill : List ℕ) → length text ≡ len
+        → in_field result text (filling_text fill) ≡ laid_out layout text width fill }
 {
+    let missing = width.saturating_sub(len);
+    let lost = len.saturating_sub(width);
     match layout {
-        Layout::Left => left(alloc, text, width, fill),
-        Layout::Right => right(alloc, text, width, fill),
-        Layout::Center => center(alloc, text, width, fill),
+        Layout::Left => Field {
+            before: 0,
+            from: 0,
+            len: len - lost,
+            behind: missing,
+        },
+        Layout::Right => Field {
+            before: missing,
+            from: lost,
+            len: len - lost,
+            behind: 0,
+        },
+        Layout::Center => Field {
+            before: missing / 2,
+            from: lost - lost / 2,
+            len: len - lost,
+            behind: missing - missing / 2,
+        },
     }
 }

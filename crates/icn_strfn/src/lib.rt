@@ -3,14 +3,13 @@
 
 mod defaults;
 mod endings;
-mod fields;
-mod filling;
 mod integer_rows;
 mod integers;
 mod laid_rows;
 mod layouts;
 mod mapping;
 mod new_texts;
+mod origins;
 mod text_arguments;
 mod text_rows;
 mod trimming;

@@ -1,28 +1,9 @@
-// Texts whose bytes become others.
-ghost use Rattle.std.specs.Prelude.{◌≡◌, ◌<◌, ℕ, IfOk, length, map, slice_index};
+// What bytes become.
+ghost use Rattle.std.specs.Prelude.{◌≡◌, ◌<◌, ℕ, slice_index};
 ghost use Rattle.icn_defs.specs.Strings.{map_byte};
 
-use std::alloc::{AllocError, Global};
-
-/// A text whose bytes become others: a byte of the first text the one at its last place, in the second. The error is
-/// want of memory.
-#[tactic(auto, using(crate::proofs::MappedBytes::same_map))]
-pub fn map_bytes(alloc: Global, text: &[u8], from: &[u8], to: &[u8]) -> Result<Vec<u8>, AllocError>
-    ensures { IfOk result (λ made. made.items ≡ map (map_byte from.now to.now) text.now) }
-{
-    mapped_by(alloc, text, &images(from, to))
-}
-
-fn mapped_by(alloc: Global, text: &[u8], images: &[u8; 256]) -> Result<Vec<u8>, AllocError>
-    ensures { IfOk result (λ made. made.items ≡ map (slice_index images.now) text.now) }
-{
-    text.iter()
-        .map(|byte| images[usize::from(*byte)])
-        .collect(alloc)
-}
-
-// What each byte becomes.
-fn images(from: &[u8], to: &[u8]) -> [u8; 256]
+/// What each byte becomes: a byte of the first text the one at its last place, in the second, and each other one itself.
+pub fn images(from: &[u8], to: &[u8]) -> [u8; 256]
     ensures { (byte : ℕ) → byte < 256 → slice_index result byte ≡ map_byte from.now to.now byte }
 {
     let mut images = identity_map();
@@ -41,4 +22,11 @@ fn identity_map() -> [u8; 256]
         bytes[usize::from(byte)] = byte as u8;
     }
     bytes
+}
+
+/// Each byte of a text is below 256. The call does nothing: it tells a caller's proof so.
+pub fn bytes_are_small(text: &[u8])
+    ensures { (k : ℕ) → slice_index text.now k < 256 }
+{
+    let _first = text.first();
 }

@@ -25,6 +25,11 @@ came r x {P} is h = subst (λ q. OnOk q P) is h
 pub room_behind : (len len' cap cap' n m : ℕ) → len' ≡ len + n → cap ≤ cap' → len + (n + m) ≤ cap → len' + m ≤ cap'
 room_behind len len' cap cap' n m is more room = omega (arith, is, more, room)
 
+-- where the end of a list was written anew
+pub end_put : (xs ys : List ℕ) (a k : ℕ) → length xs ≤ a + k → take a xs ++ (ys ++ drop k (drop a xs)) ≡ take a xs ++ ys
+end_put xs ys a k ends =
+    ap (λ zs. take a xs ++ (ys ++ zs)) (drop_all k (drop a xs) (rw length-drop (omega (arith, ends)))) ∙ ap (λ zs. take a xs ++ zs) (append-nil ys)
+
 -- bytes that lie within stay where more is appended
 pub within_stays : (n at : ℕ) (had more : List ℕ) → (0 < n → at + n ≤ length had) → take n (drop at (had ++ more)) ≡ take n (drop at had)
 within_stays zero at had more h = refl

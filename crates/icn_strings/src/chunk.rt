@@ -1,8 +1,12 @@
 // Bytes that lie together.
-ghost use Rattle.std.specs.Prelude.{◌≡◌, ◌+◌, ◌-◌, ◌≤◌, ◌++◌, ℕ, true, length, take, drop};
+ghost use Rattle.std.specs.Prelude.{◌≡◌, ◌+◌, ◌-◌, ◌*◌, ◌<◌, ◌≤◌, ◌++◌, ℕ, true, length, take, drop, map, replicate, reverse, slice_index};
 ghost use Rattle.icn_strings.specs.Chunks.{holds, end_of, HasRoom};
+ghost use Rattle.icn_strings.specs.RepeatedBytes.{copies};
 
 use crate::byte_range::ByteRange;
+
+// So few bytes are copied one by one, which takes less than a call.
+const FEW: usize = 16;
 
 /// Some of the bytes of a region, which lie together. It has a room, past which it never grows.
 #[derive(Drop)]
@@ -65,6 +69,17 @@ impl Chunk {
         self.bytes.extend_from_slice(bytes).unwrap();
     }
 
+    /// Adds a byte so many times, for which there is room.
+    pub fn fill(&mut self, byte: u8, count: u64)
+        requires { HasRoom self.old count }
+        ensures first { self.new.first ≡ self.old.first }
+        ensures bytes { self.new.bytes.items ≡ self.old.bytes.items ++ replicate count byte }
+        ensures room { (more : ℕ) → HasRoom self.old (count + more) → HasRoom self.new more }
+    {
+        let end = self.bytes.len() + count as usize;
+        self.bytes.resize(end, byte).unwrap();
+    }
+
     /// Adds the bytes of a range that lies in it once more, for which there is room.
     pub fn add_part(&mut self, range: ByteRange)
         requires holds { holds range self.old ≡ true }
@@ -74,9 +89,128 @@ impl Chunk {
             ++ take range.len (drop (range.start - self.old.first) self.old.bytes.items) }
         ensures room { (count : ℕ) → HasRoom self.old (range.len + count) → HasRoom self.new count }
     {
-        let from = (range.start - self.first) as usize;
-        self.bytes
-            .extend_from_within(from..from + range.len as usize)
-            .unwrap();
+        self.add_again((range.start - self.first) as usize, range.len as usize);
+    }
+
+    // Adds some of its bytes once more, for which there is room.
+    fn add_again(&mut self, from: usize, len: usize)
+        requires within { from + len ≤ length self.old.bytes.items }
+        requires room { HasRoom self.old len }
+        ensures first { self.new.first ≡ self.old.first }
+        ensures bytes { self.new.bytes.items ≡ self.old.bytes.items ++ take len (drop from self.old.bytes.items) }
+        ensures room { (count : ℕ) → HasRoom self.old (len + count) → HasRoom self.new count }
+    {
+        if len < FEW {
+            self.add_one_by_one(from, len);
+            return;
+        }
+        self.add_at_once(from, len);
+    }
+
+    // Adds some of its bytes once more, for which there is room, one after the other.
+    fn add_one_by_one(&mut self, from: usize, len: usize)
+        requires within { from + len ≤ length self.old.bytes.items }
+        requires room { HasRoom self.old len }
+        ensures first { self.new.first ≡ self.old.first }
+        ensures bytes { self.new.bytes.items ≡ self.old.bytes.items ++ take len (drop from self.old.bytes.items) }
+        ensures room { (count : ℕ) → HasRoom self.old (len + count) → HasRoom self.new count }
+    {
+        self.bytes.extend_from_within(from..from + len).unwrap();
+    }
+
+    // Adds some of its bytes once more, for which there is room, all together.
+    fn add_at_once(&mut self, from: usize, len: usize)
+        requires within { from + len ≤ length self.old.bytes.items }
+        requires room { HasRoom self.old len }
+        ensures first { self.new.first ≡ self.old.first }
+        ensures bytes { self.new.bytes.items ≡ self.old.bytes.items ++ take len (drop from self.old.bytes.items) }
+        ensures room { (count : ℕ) → HasRoom self.old (len + count) → HasRoom self.new count }
+    {
+        let end = self.bytes.len();
+        self.fill(0, len as u64);
+        copy_down(&mut self.bytes, from, end);
+    }
+
+    /// Repeats the bytes behind the first so many, until they stand there so many times.
+    pub fn repeat_behind(&mut self, kept: usize, count: u64)
+        requires kept { kept ≤ length self.old.bytes.items }
+        requires some { 0 < count }
+        requires room { HasRoom self.old ((count - 1) * (length self.old.bytes.items - kept)) }
+        ensures first { self.new.first ≡ self.old.first }
+        ensures bytes { self.new.bytes.items
+            ≡ take kept self.old.bytes.items ++ copies count (drop kept self.old.bytes.items) }
+        ensures room { (more : ℕ) → HasRoom self.old ((count - 1) * (length self.old.bytes.items - kept) + more)
+            → HasRoom self.new more }
+    {
+        let unit = self.bytes.len() - kept;
+        let mut done = 1;
+        while done < count {
+            let more = done.min(count - done);
+            let extra = more as usize * unit;
+            self.add_again(kept, extra);
+            done += more;
+        }
+    }
+
+    /// Turns the bytes behind the first so many round.
+    pub fn reverse_behind(&mut self, kept: usize)
+        requires { kept ≤ length self.old.bytes.items }
+        ensures first { self.new.first ≡ self.old.first }
+        ensures bytes { self.new.bytes.items
+            ≡ take kept self.old.bytes.items ++ reverse (drop kept self.old.bytes.items) }
+        ensures room { (count : ℕ) → HasRoom self.old count → HasRoom self.new count }
+    {
+        reverse_end(&mut self.bytes, kept);
+    }
+
+    /// Puts images in place of the bytes behind the first so many.
+    pub fn map_behind(&mut self, kept: usize, images: &[u8; 256])
+        requires { kept ≤ length self.old.bytes.items }
+        ensures first { self.new.first ≡ self.old.first }
+        ensures bytes { self.new.bytes.items ≡ take kept self.old.bytes.items
+            ++ map (slice_index images.now) (drop kept self.old.bytes.items) }
+        ensures room { (count : ℕ) → HasRoom self.old count → HasRoom self.new count }
+    {
+        map_end(&mut self.bytes, kept, images);
+    }
+}
+
+// Copies bytes that lie before `end` over those from there on.
+fn copy_down(bytes: &mut [u8], from: usize, end: usize)
+    requires within { from + (length bytes.old - end) ≤ end }
+    requires end { end ≤ length bytes.old }
+    ensures bytes { bytes.new
+        ≡ take end bytes.old ++ take (length bytes.old - end) (drop from (take end bytes.old)) }
+    ensures len { length bytes.new ≡ length bytes.old }
+{
+    let (front, back) = bytes.split_at_mut(end);
+    let to = from + back.len();
+    back.copy_from_slice(&front[from..to]);
+}
+
+// Turns the bytes behind the first so many round.
+fn reverse_end(bytes: &mut [u8], kept: usize)
+    requires { kept ≤ length bytes.old }
+    ensures bytes { bytes.new ≡ take kept bytes.old ++ reverse (drop kept bytes.old) }
+    ensures len { length bytes.new ≡ length bytes.old }
+{
+    bytes[kept..].reverse();
+}
+
+// Puts images in place of the bytes behind the first so many.
+fn map_end(bytes: &mut [u8], kept: usize, images: &[u8; 256])
+    requires { kept ≤ length bytes.old }
+    ensures bytes { bytes.new ≡ take kept bytes.old ++ map (slice_index images.now) (drop kept bytes.old) }
+    ensures len { length bytes.new ≡ length bytes.old }
+{
+    put_images(&mut bytes[kept..], images);
+}
+
+// Puts the image of each byte in its place.
+fn put_images(bytes: &mut [u8], images: &[u8; 256])
+    ensures { bytes.new ≡ map (slice_index images.now) bytes.old }
+{
+    for place in 0..bytes.len() {
+        bytes[place] = images[usize::from(bytes[place])];
     }
 }

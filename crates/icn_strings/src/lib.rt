@@ -7,11 +7,14 @@ mod chunk;
 mod copy;
 mod full;
 mod lookup;
+mod piece;
 mod region;
 mod region_laws;
+mod writing;
 
 pub use byte_range::ByteRange;
 pub use full::RegionFull;
+pub use piece::{Origin, StringPiece};
 pub use region::Region;
 pub use region_laws::{
     empty_range, end_of_range, length_of_bytes, part_of_range, short_string, within_limit,

@@ -1,5 +1,6 @@
 // The region of strings.
-ghost use Rattle.std.specs.Prelude.{◌≡◌, ◌+◌, ◌-◌, ◌^◌, ◌<◌, ◌≤◌, ◌↔◌, ◌++◌, ℕ, length, OnOk, OnErr, IfOk};
+ghost use Rattle.std.specs.Prelude.{◌≡◌, ◌+◌, ◌-◌, ◌^◌, ◌<◌, ◌≤◌, ◌↔◌, ◌++◌, length, OnOk, OnErr, IfOk, SomeIff};
+ghost use Rattle.std.specs.List.{All};
 ghost use Rattle.icn_strings.specs.Chunks.{end_of, HasRoom, AreSoundChunks, AreSoundChunks-prop};
 
 use crate::all_bytes::AllBytes;
@@ -8,6 +9,7 @@ use crate::chunk::Chunk;
 use crate::copy::copy_behind;
 use crate::full::RegionFull;
 use crate::lookup::bytes_in;
+use crate::piece::{StringPiece, length_of};
 use std::alloc::{AllocError, Global};
 use std::mem;
 
@@ -28,9 +30,9 @@ const ROOM: usize = 65536;
 pub struct Region {
     alloc: Global,
     // the chunks to which nothing is added any more
-    closed: Vec<Chunk>,
-    last: Chunk,
-    written: AllBytes,
+    pub(crate) closed: Vec<Chunk>,
+    pub(crate) last: Chunk,
+    pub(crate) written: AllBytes,
     sum: u64,
     limit: u64,
     ghost sound: { AreSoundChunks written.bytes closed.items last sum limit } by { AreSoundChunks-prop
@@ -39,6 +41,8 @@ pub struct Region {
 
 impl Region {
     ghost use Rattle.icn_strings.specs.Regions.{limit_of, sum_of, IsOf, bytes_of, KeepsRanges, IsUnchanged};
+    ghost use Rattle.icn_strings.specs.Pieces.{IsPieceIn, made_of};
+    ghost use Rattle.icn_strings.specs.WrittenBytes.{CanWrite, Writes};
 
     /// A region without strings that charges at most `limit` bytes. It takes no memory until a string has bytes.
     #[tactic(auto, using(crate::proofs::AddedBytes::sound_new), unfolding(crate::specs::Regions::limit_of, crate::specs::Regions::sum_of))]
@@ -85,6 +89,34 @@ impl Region {
         let range = self.hold(bytes)?;
         self.charge(len);
         Ok(range)
+    }
+
+    /// Makes a string of some pieces, one behind the other, and charges it.
+    ///
+    /// The limit is looked at before memory: `Strings` comes exactly where it would be passed, and `NoMemory` only
+    /// where it would not. Either leaves the region as it was.
+    #[tactic(auto, using(crate::proofs::KeptRegions::keeps_then))]
+    pub fn build_of(&mut self, pieces: &[StringPiece]) -> Result<ByteRange, RegionFull>
+        requires { All (IsPieceIn self.old) pieces.now }
+        ensures of { IfOk result (IsOf self.new) }
+        ensures len { IfOk result (λ range. range.len ≡ length (made_of self.old pieces.now)) }
+        ensures bytes { IfOk result (λ range. bytes_of self.new range ≡ made_of self.old pieces.now) }
+        ensures sum { OnOk result (sum_of self.new ≡ sum_of self.old + length (made_of self.old pieces.now)) }
+        ensures within { sum_of self.new ≤ limit_of self.new }
+        ensures kept { KeepsRanges self.old self.new }
+
+        ensures full { result ≡ Err (RegionFull.Strings (sum_of self.old) (limit_of self.old))
+            ↔ (limit_of self.old < sum_of self.old + length (made_of self.old pieces.now)) }
+        ensures memory { sum_of self.old + length (made_of self.old pieces.now) ≤ limit_of self.old
+            → OnErr result (result ≡ Err RegionFull.NoMemory) }
+        ensures err { OnErr result (IsUnchanged self.old self.new) }
+    {
+        let Some(size) = self.allowed_length(pieces) else {
+            return Err(self.limit_refusal());
+        };
+        let made = self.hold_pieces(pieces, size)?;
+        self.charge(made.len);
+        Ok(made)
     }
 
     /// Makes a string of the bytes of `a` and then those of `b`, and charges both, whatever was there already: where `a` ends where all
@@ -197,31 +229,52 @@ impl Region {
         Ok(())
     }
 
-    // Writes these bytes into the last chunk, which has room for them.
-    #[tactic(auto, unfolding(crate::specs::Regions::sum_of))]
-    fn add(&mut self, bytes: &[u8])
-        requires room { HasRoom self.old.last (length bytes.now) }
-        requires short { length self.old.written.bytes + length bytes.now < 2 ^ 63 - 1 }
-        ensures written { self.new.written.bytes ≡ self.old.written.bytes ++ bytes.now }
-        ensures first { self.new.last.first ≡ self.old.last.first }
+    // How many bytes some pieces have together, where the limit allows them.
+    fn allowed_length(&self, pieces: &[StringPiece]) -> Option<u64>
+        requires { All (IsPieceIn self.now) pieces.now }
+        ensures { SomeIff result (sum_of self.now + length (made_of self.now pieces.now) ≤ limit_of self.now)
+            (length (made_of self.now pieces.now)) }
+    {
+        let most = self.room();
+        let size = length_of(pieces)?;
+        if size <= most { Some(size) } else { None }
+    }
+
+    // Holds some pieces, which have so many bytes together, without a charge.
+    #[tactic(auto, using(crate::proofs::KeptRegions::keeps_then))]
+    fn hold_pieces(&mut self, pieces: &[StringPiece], len: u64) -> Result<ByteRange, AllocError>
+        requires pieces { All (IsPieceIn self.old) pieces.now }
+        requires len { len ≡ length (made_of self.old pieces.now) }
+        ensures of { IfOk result (IsOf self.new) }
+        ensures len { IfOk result (λ range. range.len ≡ len) }
+        ensures bytes { IfOk result (λ range. bytes_of self.new range ≡ made_of self.old pieces.now) }
         ensures sum { sum_of self.new ≡ sum_of self.old }
         ensures kept { KeepsRanges self.old self.new }
+        ensures err { OnErr result (IsUnchanged self.old self.new) }
+    {
+        let start = self.end();
+        if len >= MOST - start {
+            return Err(AllocError);
+        }
+        self.make_room(len)?;
+        self.add_pieces(pieces);
+        Ok(ByteRange { start, len })
+    }
+
+    // Writes these bytes.
+    pub(crate) fn add(&mut self, bytes: &[u8])
+        requires { CanWrite self.old (length bytes.now) }
+        ensures { Writes self.old self.new bytes.now }
     {
         self.last.add(bytes);
         self.written = AllBytes::up_to(&self.written, &self.last);
     }
 
-    // Writes the bytes of a range once more, into the last chunk, which has room for them.
-    #[tactic(auto, unfolding(crate::specs::Regions::sum_of))]
-    fn add_copy(&mut self, range: ByteRange)
+    // Writes the bytes of a range once more.
+    pub(crate) fn add_copy(&mut self, range: ByteRange)
         requires of { IsOf self.old range }
-        requires room { HasRoom self.old.last range.len }
-        requires short { length self.old.written.bytes + range.len < 2 ^ 63 - 1 }
-        ensures written { self.new.written.bytes ≡ self.old.written.bytes ++ bytes_of self.old range }
-        ensures first { self.new.last.first ≡ self.old.last.first }
-        ensures room { (count : ℕ) → HasRoom self.old.last (range.len + count) → HasRoom self.new.last count }
-        ensures sum { sum_of self.new ≡ sum_of self.old }
-        ensures kept { KeepsRanges self.old self.new }
+        requires can { CanWrite self.old range.len }
+        ensures { Writes self.old self.new (bytes_of self.old range) }
     {
         copy_behind(&mut self.last, &self.closed, range);
         self.written = AllBytes::up_to(&self.written, &self.last);

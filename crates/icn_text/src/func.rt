@@ -58,11 +58,13 @@ pub enum Func {
     Write = 50,
     Writes = 51,
     ErrorClear = 52,
+    Open = 53,
+    Close = 54,
 }
 
 impl Func {
     /// All of them, in the order of their numbers.
-    pub const ALL: [Func; 52] = [
+    pub const ALL: [Func; 54] = [
         Func::Abs,
         Func::Any,
         Func::Bal,
@@ -115,6 +117,8 @@ impl Func {
         Func::Write,
         Func::Writes,
         Func::ErrorClear,
+        Func::Open,
+        Func::Close,
     ];
 
     /// The number, from 1 to how many there are.
@@ -181,6 +185,8 @@ impl Func {
             Func::Write => b"write",
             Func::Writes => b"writes",
             Func::ErrorClear => b"errorclear",
+            Func::Open => b"open",
+            Func::Close => b"close",
         }
     }
 }

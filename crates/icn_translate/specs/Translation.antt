@@ -17,7 +17,7 @@ use Rattle.icn_translate.specs.declared.forms.UpdateForm.TheVariants.{Both as Up
 use Rattle.icn_translate.specs.declared.forms.PrefixForm.TheVariants.{Activation, Repetition, Operation}
 use Rattle.icn_translate.specs.Drafts.{Draft, ◌▹◌, put, next_label, with_label, put_variable, no_ways, in_loop, outside_loop, aside, put_next, put_last, in_case, outside_case, put_end}
 use Rattle.icn_translate.specs.Instructions.{literal_instr, keyword_instr, section_op, infix_form, update_form, prefix_form}
-use Rattle.icn_translate.specs.OpenMarks.{OpenMarks, Outermost, Marked, Looped, Each, unmarks_for_break, unmarks_for_next, around}
+use Rattle.icn_translate.specs.OpenMarks.{OpenMarks, Outermost, Marked, Looped, Controlled, Each, is_loopless, is_nextless, unmarks_for_break, unmarks_for_next, around}
 
 -- the empty expression
 abbrev pub is_empty : Tree → Bool
@@ -86,11 +86,11 @@ control_part Until control d =
     d ▹ with_label ▹ put (I.Lab (next_label d)) ▹ in_loop no_ways ▹ until_part control
 control_part Every control d = d ▹ in_loop no_ways ▹ put I.Mark0 ▹ control ▹ put I.Pop
 
--- what is open in the control expression of a loop: of `every` its mark stays for the next pass
+-- what is open in the control expression of a loop: in that of `every` its mark stays for the next pass
 abbrev pub in_control : LoopKind → OpenMarks → OpenMarks
 in_control While o = Marked (Looped o)
 in_control Until o = Marked (Looped o)
-in_control Every o = Each o
+in_control Every o = Controlled o
 
 -- what is open where the `do` part of a loop begins
 abbrev pub in_body : LoopKind → OpenMarks → OpenMarks
@@ -157,6 +157,20 @@ case_of guards default d = d ▹ in_case None ▹ guards ▹ put I.Pop ▹ defau
 abbrev pub looped_body : (Draft → Draft) → Draft → Draft
 looped_body code d = d ▹ put_next I.Mark ▹ code ▹ put I.Unmark
 
+-- `next`; where it may not stand it has no code
+abbrev pub next_code : OpenMarks → Draft → Draft
+next_code o d = elim (is_nextless o) as (λ is. Draft) [
+  | true ↦ d
+  | false ↦ d ▹ unmarks_for_next o ▹ put_next I.Goto
+]
+
+-- `break`, where the code of its operand is this; where no loop is open it never stands, and has no code
+abbrev pub break_code : OpenMarks → (operand : Draft → Draft) → Draft → Draft
+break_code o operand d = elim (is_loopless o) as (λ is. Draft) [
+  | true ↦ d
+  | false ↦ d ▹ unmarks_for_break o ▹ aside operand ▹ put_last I.Goto
+]
+
 -- The translation of trees, with that of their parts
 abbrev mutual
   -- what a form adds, with these marks and loops open
@@ -193,9 +207,9 @@ abbrev mutual
   translate o (Repeat place b) d = d ▹ with_label ▹ put (I.Lab (next_label d)) ▹ in_loop no_ways
       ▹ looped_body (translate (Marked (Looped o)) b) ▹ loop_end (I.Loop (next_label d))
   translate o (Create place e) d = d ▹ create_code (translate Outermost e)
-  translate o (Next place) d = d ▹ unmarks_for_next o ▹ put_next I.Goto
+  translate o (Next place) d = d ▹ next_code o
   translate o (Fail place) d = d ▹ put I.Pfail
-  translate o (Break place e) d = d ▹ unmarks_for_break o ▹ aside (translate (around o) e) ▹ put_last I.Goto
+  translate o (Break place e) d = d ▹ break_code o (translate (around o) e)
   translate o (Return place e) d = d ▹ put_mark ▹ translate (Marked o) e ▹ put I.Pret
       ▹ put (I.Lab (next_label d)) ▹ put I.Pfail
   translate o (Suspend place e b) d = d ▹ put I.Mark0 ▹ translate (Marked o) e ▹ put I.Psusp ▹ put I.Pop

@@ -8,13 +8,14 @@ use Rattle.icn_translate.specs.declared.builder.Pass.TheVariants.{At, NextResult
 use Rattle.icn_unit.specs.declared.unit.UnitInstr.{UnitInstr}
 use Rattle.icn_unit.specs.declared.unit.UnitInstr.TheVariants as I
 use Rattle.icn_translate.specs.Drafts.{Draft}
-use Rattle.icn_translate.specs.OpenMarks.{OpenMarks, Outermost, Marked, Looped, Each}
+use Rattle.icn_translate.specs.OpenMarks.{OpenMarks, Outermost, Marked, Looped, Controlled, Each}
 
 -- what is open round a place, as definitions see it
 abbrev pub open_of : KeptOpen → OpenMarks
 open_of Kept.Outermost = Outermost
 open_of (Kept.Mark' p outer) = Marked (open_of outer)
 open_of (Kept.Loop' p outer) = Looped (open_of outer)
+open_of (Kept.Control' p outer) = Controlled (open_of outer)
 open_of (Kept.Each' p outer) = Each (open_of outer)
 
 -- the code that is written so far, as definitions see it

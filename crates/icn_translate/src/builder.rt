@@ -7,11 +7,11 @@ ghost use Rattle.icn_translate.specs.Drafts.{case_end, end_number, in_case, in_l
 ghost use Rattle.icn_translate.specs.Instructions.{literal_instr};
 ghost use Rattle.icn_translate.specs.OpenMarks.{unmarks_for_break, unmarks_for_next};
 ghost use Rattle.icn_translate.specs.Room.{IsRoomFor, TakesAtMost, numbers_given};
-ghost use Rattle.icn_translate.specs.Translation.{keyword_code, loop_end, put_mark};
+ghost use Rattle.icn_translate.specs.Translation.{keyword_code, loop_end, next_code, put_mark};
 ghost use Rattle.icn_translate.specs.Views.{draft_of, open_of, pass_instr};
 
 use crate::forms::{keyword_instr, literal_instr};
-use crate::marks::OpenMarks;
+use crate::marks::{OpenMarks, is_nextless};
 use icn_tree::{Bytes, Literal};
 use icn_unit::{UnitInstr, keyword};
 use indexmap::IndexSet;
@@ -303,7 +303,7 @@ impl<'a> Builder<'a> {
                 self.put(UnitInstr::Unmark)?;
                 self.put_unmarks_for_break(*outer)
             }
-            OpenMarks::Each(_) => self.put(UnitInstr::Unmark),
+            OpenMarks::Control(_) | OpenMarks::Each(_) => self.put(UnitInstr::Unmark),
         }
     }
 
@@ -315,7 +315,10 @@ impl<'a> Builder<'a> {
         ensures given { OnOk result (TakesAtMost 0 (draft_of self.old) (draft_of self.new)) }
     {
         match within {
-            OpenMarks::Outermost | OpenMarks::Loop(_) | OpenMarks::Each(_) => Ok(()),
+            OpenMarks::Outermost
+            | OpenMarks::Loop(_)
+            | OpenMarks::Control(_)
+            | OpenMarks::Each(_) => Ok(()),
             OpenMarks::Mark(outer) => {
                 self.put(UnitInstr::Unmark)?;
                 self.put_unmarks_for_next(*outer)
@@ -382,6 +385,20 @@ impl<'a> Builder<'a> {
     {
         let label = self.next_label()?;
         self.put(UnitInstr::Goto(label))
+    }
+
+    /// Writes `next`. Where it may not stand it has no code. `AllocError` is want of memory.
+    pub fn put_next(&mut self, within: OpenMarks<'_>) -> Result<(), AllocError>
+        requires { IsRoomFor 1 (draft_of self.old) }
+        ensures draft { OnOk result
+            (draft_of self.new ≡ next_code (open_of within.entry) (draft_of self.old)) }
+        ensures given { OnOk result (TakesAtMost 1 (draft_of self.old) (draft_of self.new)) }
+    {
+        if is_nextless(within) {
+            return Ok(());
+        }
+        self.put_unmarks_for_next(within)?;
+        self.put_next_goto()
     }
 
     /// Goes on in one more loop, with these labels, and writes `goto` to its last one. `AllocError` is want of memory.

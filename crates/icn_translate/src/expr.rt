@@ -2,18 +2,18 @@
 ghost use Rattle.std.specs.Prelude.{◌≡◌, ◌+◌, IfOk, OnOk};
 ghost use Rattle.icn_tree.specs.TreeOf.{all_clauses_of, all_of, clause_of, tree_of};
 ghost use Rattle.icn_unit.specs.declared.unit.UnitInstr.TheVariants as I;
-ghost use Rattle.icn_translate.specs.Drafts.{◌▹◌, aside, in_loop, next_label, no_ways, put, put_last, with_label};
-ghost use Rattle.icn_translate.specs.OpenMarks.{Looped, Marked, Outermost as OutermostOpen, around, unmarks_for_break};
+ghost use Rattle.icn_translate.specs.Drafts.{◌▹◌, in_loop, next_label, no_ways, put, with_label};
+ghost use Rattle.icn_translate.specs.OpenMarks.{Looped, Marked, Outermost as OutermostOpen, around};
 ghost use Rattle.icn_translate.specs.NumbersTaken.{all_numbers, clause_numbers, numbers};
 ghost use Rattle.icn_translate.specs.Room.{IsRoomFor, TakesAtMost, default_numbers, guard_numbers, guarded_numbers};
-ghost use Rattle.icn_translate.specs.Translation.{alternative, arguments, augmented_form, back, bounded_code, case_of, compound, conjunction, control_part, create_code, creations, default_part, either_step, elements, guarded_part, guarded_clause, in_body, in_control, is_empty, is_no_element, loop_end, looped_body, operands, other_creations, plain_form, prefix_by, put_mark, subscripts, translate, unless_empty};
+ghost use Rattle.icn_translate.specs.Translation.{alternative, arguments, augmented_form, back, bounded_code, break_code, case_of, compound, conjunction, control_part, create_code, creations, default_part, either_step, elements, guarded_part, guarded_clause, in_body, in_control, is_empty, is_no_element, loop_end, looped_body, operands, other_creations, plain_form, prefix_by, put_mark, subscripts, translate, unless_empty};
 ghost use Rattle.icn_translate.specs.Views.{draft_of, open_of, pass_instr};
 
 use crate::builder::{Builder, Pass, UNMENTIONED, count_operand};
 use crate::forms::{
     InfixForm, PrefixForm, UpdateForm, infix_form, prefix_form, section_op, update_form,
 };
-use crate::marks::{OpenMarks, around};
+use crate::marks::{OpenMarks, around, is_loopless};
 use icn_text::Op;
 use icn_tree::{Clause, Expr, Infix, LoopKind};
 use icn_unit::UnitInstr;
@@ -126,10 +126,7 @@ impl<'a> Builder<'a> {
             }
             Expr::Repeat { body, .. } => self.put_repeat(body, within),
             Expr::Create { body, .. } => self.put_created(body),
-            Expr::Next { .. } => {
-                self.put_unmarks_for_next(within)?;
-                self.put_next_goto()
-            }
+            Expr::Next { .. } => self.put_next(within),
             Expr::Fail { .. } => self.put(UnitInstr::Pfail),
             Expr::Break { value, .. } => self.put_break(value, within),
             Expr::Return { value, .. } => self.put_return(value, within),
@@ -459,16 +456,18 @@ impl<'a> Builder<'a> {
         self.end_loop(Pass::At(start))
     }
 
-    // `break`
+    // `break`. Where no loop is open it never stands, and has no code.
     #[cycle(translate)]
     fn put_break(&mut self, value: &'a Expr, within: OpenMarks<'_>) -> Result<(), AllocError>
         requires { IsRoomFor (1 + numbers (tree_of value.now)) (draft_of self.old) }
-        ensures draft { OnOk result
-            (draft_of self.new ≡ (draft_of self.old ▹ unmarks_for_break (open_of within.entry)
-            ▹ aside (translate (around (open_of within.entry)) (tree_of value.now)) ▹ put_last I.Goto)) }
+        ensures draft { OnOk result (draft_of self.new ≡ break_code (open_of within.entry)
+            (translate (around (open_of within.entry)) (tree_of value.now)) (draft_of self.old)) }
         ensures given { OnOk result
             (TakesAtMost (1 + numbers (tree_of value.now)) (draft_of self.old) (draft_of self.new)) }
     {
+        if is_loopless(within) {
+            return Ok(());
+        }
         self.put_unmarks_for_break(within)?;
         let ways = self.leave_loop();
         self.put_expr(value, around(within))?;
@@ -626,7 +625,7 @@ impl<'a> Builder<'a> {
             LoopKind::Every => {
                 self.enter_loop(UNMENTIONED)?;
                 self.put(UnitInstr::Mark0)?;
-                self.put_expr(control, OpenMarks::Each(&within))?;
+                self.put_expr(control, OpenMarks::Control(&within))?;
                 self.put(UnitInstr::Pop)?;
                 Ok(Pass::NextResult)
             }

@@ -25,7 +25,7 @@ use Rattle.icn_translate.specs.declared.forms.PrefixForm.{PrefixForm}
 use Rattle.icn_translate.specs.declared.forms.PrefixForm.TheVariants.{Activation, Repetition, Operation}
 use Rattle.icn_translate.specs.Drafts.{Draft, ◌▹◌, put, next_label, with_label, no_ways, in_loop, outside_loop, aside, put_next, put_last, in_case, put_end}
 use Rattle.icn_translate.specs.Instructions.{literal_instr, keyword_instr, section_op, infix_form, update_form, prefix_form}
-use Rattle.icn_translate.specs.OpenMarks.{OpenMarks, Outermost, Marked, Looped, Each, unmarks_for_break, unmarks_for_next, around}
+use Rattle.icn_translate.specs.OpenMarks.{OpenMarks, Outermost, Marked, Looped, Controlled, Each, is_loopless, is_nextless, unmarks_for_break, unmarks_for_next, around}
 use Rattle.icn_translate.specs.Translation.{is_empty, is_nothing, is_no_element, elements, bounded_code, create_code, if_mark, unless_empty, either_step, control_part, in_control, in_body, back, loop_end, keyword_code, prefix_by, plain_form, update, augmented_form, case_of, looped_body, translate, operands, arguments, conjunction, conjuncts, compound, creations, other_creations, subscripts, to_step, otherwise, looped_part, suspended_part, guarded_part, guarded_clause, default_part, default_clause, initially, body}
 use Rattle.icn_units.specs.Written.{operand_fits, name_fits, literal_fits, tree_fits, maybe_fits, trees_fit, clause_fits, clauses_fit, initial_fits}
 use Rattle.icn_units.proofs.WrittenTrees.{and_first, and_second}
@@ -48,12 +48,12 @@ some_fault true f g h = absurd (cc)
 some_fault false f g h = absurd (cc)
 
 -- a loop is open where `break` and `next` break no rule
-break_inside : (b : Bool) (loops : List Bool) (place : Place) → break_by b loops place ≡ [] → length loops
+pub break_inside : (b : Bool) (loops : List Bool) (place : Place) → break_by b loops place ≡ [] → length loops
     ≡ suc (length (others loops))
 break_inside b [] place h = absurd (some_fault b _ _ h)
 break_inside b (x ∷ loops) place h = refl
 
-next_inside : (b : Bool) (loops : List Bool) (place : Place) → next_by b loops place ≡ [] → length loops
+pub next_inside : (b : Bool) (loops : List Bool) (place : Place) → next_by b loops place ≡ [] → length loops
     ≡ suc (length (others loops))
 next_inside b [] place h = absurd (some_fault b _ _ h)
 next_inside b (x ∷ loops) place h = refl
@@ -155,6 +155,7 @@ module _ (S : Keeps) where
   unmarks_for_break_run (Marked o) = then_runs (put_runs I.Unmark refl refl refl (λ h. refl))
       (unmarks_for_break_run o)
   unmarks_for_break_run (Looped o) = nothing_runs
+  unmarks_for_break_run (Controlled o) = put_runs I.Unmark refl refl refl (λ h. refl)
   unmarks_for_break_run (Each o) = put_runs I.Unmark refl refl refl (λ h. refl)
 
   unmarks_for_next_run : {n : ℕ} (o : OpenMarks) → Runs S n (unmarks_for_next o)
@@ -162,6 +163,7 @@ module _ (S : Keeps) where
   unmarks_for_next_run (Marked o) = then_runs (put_runs I.Unmark refl refl refl (λ h. refl))
       (unmarks_for_next_run o)
   unmarks_for_next_run (Looped o) = nothing_runs
+  unmarks_for_next_run (Controlled o) = nothing_runs
   unmarks_for_next_run (Each o) = nothing_runs
 
   -- Keywords and operators
@@ -455,11 +457,11 @@ module _ (S : Keeps) where
         (looped_runs (tree_runs (Marked (Looped o)) (enter_loop true c) b x w))
     tree_runs o c (Create place e) x w = created_runs (tree_runs Outermost created_context e x w)
     tree_runs o c (Next place) x w = subst (λ n. Runs S n (translate o (Next place)))
-        (sym (next_inside c.in_create c.loops place x)) (next_runs o)
+        (sym (next_inside c.in_create c.loops place x)) (if_runs (is_nextless o) (next_runs o))
     tree_runs o c (Fail place) x w = put_runs I.Pfail refl refl refl (λ h. refl)
     tree_runs o c (Break place e) x w = subst (λ n. Runs S n (translate o (Break place e)))
         (sym (break_inside c.in_create c.loops place (none_before _ _ x)))
-        (break_runs o (tree_runs (around o) (leave_loop c) e (none_behind _ _ x) w))
+        (if_runs (is_loopless o) (break_runs o (tree_runs (around o) (leave_loop c) e (none_behind _ _ x) w)))
     tree_runs o c (Return place e) x w = let r = tree_runs (Marked o) c e (none_behind _ _ x) w in
         record {
           run = λ d h. (from d h ▸ labelled I.Mark

@@ -1,5 +1,5 @@
 -- Values are the same exactly where the test says so.
-use Rattle.std.proofs.Common.{◌≡◌, ◌∙◌, refl, sym, ap, ℕ, ℤ, pos, negsuc, ◌==◌, true, cond, true≢false, List}
+use Rattle.std.proofs.Common.{◌≡◌, ◌∙◌, ◌+◌, ◌<◌, refl, sym, ap, arith, ℕ, zero, suc, ℤ, pos, negsuc, ◌==◌, true, cond, true≢false, List}
 use Rattle.std.specs.Cmp.{IsTotalOrder, IsEquivalence, Equal-is}
 use Rattle.std.specs.declared.cmp.Ordering.{Ordering}
 use Rattle.std.specs.declared.cmp.Ordering.TheVariants.{Less, Equal, Greater}
@@ -7,7 +7,7 @@ use Rattle.std.specs.Cmp.Lexicographic.{slice_cmp}
 use Rattle.std.specs.Ordering.{ordering_then, nat_cmp, int_cmp, is_eq}
 use Rattle.std.proofs.lemmas.Cmp.{nat_cmp_total, int_cmp_total, nat_list_cmp_total, on_total, then_total, tied_itself, eq_by_cmp_equiv, on_equiv}
 use Rattle.std.proofs.lemmas.Map.Lookups.{CmpEqualImpliesEq, exact_bytes, exact_signed, exact_unsigned}
-use Rattle.icn_value.specs.Values.{Value, Null, Integer, Text, Chars, Std, Procedure, ARecord, AList, ASet, ATable, ACoexp, File, Input, Output, Errout}
+use Rattle.icn_value.specs.Values.{Value, Null, Integer, Text, Chars, Std, Procedure, ARecord, AList, ASet, ATable, ACoexp, File, Input, Output, Errout, Opened}
 use Rattle.icn_value.specs.Sameness.{ValueRank, shape_of, shape_cmp, same}
 
 -- the value of a shape
@@ -15,19 +15,32 @@ natural : ℤ → ℕ
 natural (pos n) = n
 natural (negsuc n) = 0
 
-file_at : ℕ → File
-file_at n = cond (n == 0) Errout (cond (n == 1) Input Output)
+file_ranked : ℕ → File
+file_ranked zero = Errout
+file_ranked (suc zero) = Input
+file_ranked (suc (suc zero)) = Output
+file_ranked (suc (suc (suc number))) = Opened number
+
+below : (number n : ℕ) → n < 3 → n ≡ 3 + number → ⊥
+below number n small is = omega arith
+
+opened_ranked : (number n : ℕ) → n ≡ 3 + number → file_ranked n ≡ Opened number
+unfolding file_ranked
+opened_ranked number zero is = absurd (below number 0 (omega arith) is)
+opened_ranked number (suc zero) is = absurd (below number 1 (omega arith) is)
+opened_ranked number (suc (suc zero)) is = absurd (below number 2 (omega arith) is)
+opened_ranked number (suc (suc (suc n))) is = ap Opened (omega arith)
 
 valued : ValueRank → Value
 valued shape =
     cond (shape.rank == 0) Null (cond (shape.rank == 1) (Integer shape.number) (cond (shape.rank == 2) (Text shape.text)
-    (cond (shape.rank == 3) (Chars shape.text) (cond (shape.rank == 4) (Std (file_at (natural shape.number)))
+    (cond (shape.rank == 3) (Chars shape.text) (cond (shape.rank == 4) (Std (file_ranked (natural shape.number)))
     (cond (shape.rank == 5) (ACoexp (natural shape.number)) (cond (shape.rank == 6) (Procedure (natural shape.number))
     (cond (shape.rank == 7) (AList (natural shape.number)) (cond (shape.rank == 8) (ASet (natural shape.number))
     (cond (shape.rank == 9) (ATable (natural shape.number)) (ARecord (natural shape.number)))))))))))
 
 back : (value : Value) → valued (shape_of value) ≡ value
-unfolding valued natural file_at
+unfolding valued natural file_ranked
 back Null = refl
 back (Integer n) = refl
 back (Text bytes) = refl
@@ -35,6 +48,7 @@ back (Chars bytes) = refl
 back (Std Input) = refl
 back (Std Output) = refl
 back (Std Errout) = refl
+back (Std (Opened number)) = ap Std (opened_ranked number (3 + number) refl)
 back (Procedure number) = refl
 back (ARecord id) = refl
 back (AList id) = refl

@@ -1,10 +1,11 @@
 -- The changes of a heap, each charged or refused as a whole, and what they leave.
-use Rattle.std.specs.Prelude.{◌≡◌, ℕ, ◌+◌, Bool, true, false, not, nat_le, List, [], ◌∷◌, ◌++◌, length, filter, slice_set, Option, is_some, Result, Ok, Err, ◌⊎◌, if◌then◌else◌}
+use Rattle.std.specs.Prelude.{◌≡◌, ℕ, ◌+◌, Bool, true, false, not, nat_le, List, [], ◌∷◌, ◌++◌, length, filter, min, slice_set, Option, is_some, Result, Ok, Err, ◌⊎◌, if◌then◌else◌}
 use Rattle.icn_structs.specs.Numbered.{with_left, with_right}
 use Rattle.icn_structs.specs.PairLists.{value_of, with_value_of, without}
-use Rattle.icn_value.specs.Values.{Value, AList, ASet, ATable, ARecord, ACoexp}
-use Rattle.icn_value.specs.Store.{Heap, new_list, list_at, set_at, table_at, record_at, count_at, with_list, with_set, with_table, with_record}
+use Rattle.icn_value.specs.Values.{Value, AList, ASet, ATable, ARecord, ACoexp, Std, Opened}
+use Rattle.icn_value.specs.Store.{Heap, OpenedFile, new_list, list_at, set_at, table_at, record_at, count_at, file_at, with_list, with_set, with_table, with_record, with_opened}
 use Rattle.icn_value.specs.Sameness.{same, has_value, with_member}
+use Rattle.icn_value.specs.declared.mode.FileMode.{FileMode}
 use Rattle.icn_value.specs.declared.full.Full.{Full}
 use Rattle.icn_value.specs.declared.full.Full.TheVariants.{Strings, Cells, NoMemory}
 
@@ -90,6 +91,20 @@ having_coexp heap = record heap { coexps = heap.coexps ++ 0 ∷ [] }
 abbrev pub made_coexp : Heap → ℕ → ChangedHeap
 made_coexp heap locals = and_then (charged_cells heap (1 + locals)) (λ paid. Ok (having_coexp paid))
 
+-- an opened file of which nothing is read yet
+abbrev pub new_file : List ℕ → FileMode → List ℕ → OpenedFile
+new_file name mode content =
+    record { name = name; mode = mode; content = content; place = 0; closed = false }
+
+-- an opened file goes behind the others, without a charge
+abbrev pub having_file : OpenedFile → Heap → Heap
+having_file file heap = record heap { files = heap.files ++ file ∷ [] }
+
+-- a file is opened that holds this, which costs a cell, or it is refused
+abbrev pub made_file : Heap → List ℕ → FileMode → List ℕ → ChangedHeap
+made_file heap name mode content =
+    and_then (charged_cells heap 1) (λ paid. Ok (having_file (new_file name mode content) paid))
+
 -- the value of the structure of each type that is made next
 abbrev pub next_list : Heap → Value
 next_list heap = AList (length heap.lists)
@@ -109,6 +124,30 @@ next_record heap = ARecord (length heap.records)
 -- the co-expression that will be made next
 abbrev pub next_coexp : Heap → Value
 next_coexp heap = ACoexp (length heap.coexps)
+
+-- the file that will be opened next
+abbrev pub next_file : Heap → Value
+next_file heap = Std (Opened (length heap.files))
+
+-- Opened files
+
+-- these bytes go behind what an opened file holds, without a charge
+abbrev pub added_to : ℕ → List ℕ → Heap → Heap
+added_to number bytes heap =
+    with_opened number (record (file_at heap number) { content = (file_at heap number).content ++ bytes })
+    heap
+
+-- so many bytes more of an opened file are read, or all that are left where these are fewer
+abbrev pub read_on : ℕ → ℕ → Heap → Heap
+read_on number count heap = with_opened number
+    (record (file_at heap number) {
+      place = min ((file_at heap number).place + count) (length (file_at heap number).content);
+    }) heap
+
+-- an opened file is closed, and holds nothing any more
+abbrev pub shut : ℕ → Heap → Heap
+shut number heap = with_opened number
+    (record (file_at heap number) { content = []; place = 0; closed = true }) heap
 
 -- Elements
 

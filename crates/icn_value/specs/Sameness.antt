@@ -1,10 +1,10 @@
 -- What tells values apart.
-use Rattle.std.specs.Prelude.{ℕ, ℤ, pos, Bool, List, [], ◌∷◌, ◌++◌, if◌then◌else◌}
+use Rattle.std.specs.Prelude.{◌+◌, ℕ, ℤ, pos, Bool, List, [], ◌∷◌, ◌++◌, if◌then◌else◌}
 use Rattle.std.specs.List.{list_any}
 use Rattle.std.specs.declared.cmp.Ordering.{Ordering}
 use Rattle.std.specs.Ordering.{ordering_then, nat_cmp, int_cmp, is_eq}
 use Rattle.std.specs.Cmp.Lexicographic.{slice_cmp}
-use Rattle.icn_value.specs.Values.{Value, Null, Integer, Text, Chars, Std, Procedure, ARecord, AList, ASet, ATable, ACoexp, File, Input, Output, Errout}
+use Rattle.icn_value.specs.Values.{Value, Null, Integer, Text, Chars, Std, Procedure, ARecord, AList, ASet, ATable, ACoexp, File, Input, Output, Errout, Opened}
 
 -- what tells the values of a type apart: a text or a number; and the type's rank in sorted lists
 pub record ValueRank : Type 0 where
@@ -12,11 +12,12 @@ pub record ValueRank : Type 0 where
   pub text : List ℕ
   pub number : ℤ
 
--- the order of the files among one another in sorted lists
+-- the order of the files among one another in sorted lists: the opened ones come last, as they were opened
 abbrev pub file_rank : File → ℕ
 file_rank Errout = 0
 file_rank Input = 1
 file_rank Output = 2
+file_rank (Opened number) = 3 + number
 
 -- what tells a value apart: its type by the rank, and its content by the text or by the number
 abbrev pub shape_of : Value → ValueRank

@@ -1,8 +1,13 @@
 -- What a heap stands for, the world round it, and the outside.
-use Rattle.std.specs.Prelude.{ℕ, zero, suc, ℤ, List, [], ◌∷◌, ◌++◌, slice_get, slice_set, slice_index, unwrap_or, pos, Option}
+use Rattle.std.specs.Prelude.{ℕ, zero, suc, ℤ, Bool, true, List, [], ◌∷◌, ◌++◌, slice_get, slice_set, slice_index, unwrap_or, pos, Option, None, Some}
+use Rattle.std.specs.Map.{update}
+use Rattle.std.specs.Str.{bytes_eq}
+use Rattle.icn_host.specs.FileMaps.{FileMap}
 use Rattle.icn_structs.specs.Numbered.{NumberedList}
 use Rattle.icn_value.specs.Limited.{Bounds}
 use Rattle.icn_value.specs.Values.{Value, Null}
+use Rattle.icn_value.specs.declared.mode.FileMode.{FileMode}
+use Rattle.icn_value.specs.declared.mode.FileMode.TheVariants.{ToRead}
 
 -- the value of keys that are not there, and the pairs in the order in which their keys came
 pub record Table : Type 0 where
@@ -14,14 +19,25 @@ pub record Record : Type 0 where
   pub kind : ℕ
   pub fields : List Value
 
+-- A file that the program opened: its name, how it was opened, what it holds, how many of its bytes were read,
+-- and whether it was closed.
+pub record OpenedFile : Type 0 where
+  pub name : List ℕ
+  pub mode : FileMode
+  pub content : List ℕ
+  pub place : ℕ
+  pub closed : Bool
+
 -- The structures, each in the list of its type at its number; of each co-expression, `&main` first, how
--- many results it gave; the sums of the string bytes and of the cells that were charged; and the limits.
+-- many results it gave; the files that were opened, in that order; the sums of the string bytes and of the
+-- cells that were charged; and the limits.
 pub record Heap : Type 0 where
   pub lists : List (NumberedList Value)
   pub sets : List (List Value)
   pub tables : List Table
   pub records : List Record
   pub coexps : List ℕ
+  pub files : List OpenedFile
   pub strings : ℕ
   pub cells : ℕ
   pub bounds : Bounds
@@ -47,11 +63,14 @@ pub data Request : Type 0 where
   ALine : Request
   SomeBytes : ℕ → Request
 
--- what a program does outside: it reads, or it puts a byte on the output or on the error output
+-- What a program does outside: it reads the input, puts a byte on the output or on the error output, reads the
+-- file of a name, or writes one whole, with these bytes.
 pub data Event : Type 0 where
   AReading : Request → Event
   OutputByte : ℕ → Event
   ErrorByte : ℕ → Event
+  FileReading : List ℕ → Event
+  FileWriting : List ℕ → List ℕ → Event
 
 -- the bytes that these events put on the output, in their order
 abbrev pub output_in : List Event → List ℕ
@@ -59,6 +78,8 @@ output_in [] = []
 output_in (AReading asked ∷ later) = output_in later
 output_in (OutputByte byte ∷ later) = byte ∷ output_in later
 output_in (ErrorByte byte ∷ later) = output_in later
+output_in (FileReading name ∷ later) = output_in later
+output_in (FileWriting name bytes ∷ later) = output_in later
 
 -- the bytes that they put on the error output
 abbrev pub errors_in : List Event → List ℕ
@@ -66,22 +87,44 @@ errors_in [] = []
 errors_in (AReading asked ∷ later) = errors_in later
 errors_in (OutputByte byte ∷ later) = errors_in later
 errors_in (ErrorByte byte ∷ later) = byte ∷ errors_in later
+errors_in (FileReading name ∷ later) = errors_in later
+errors_in (FileWriting name bytes ∷ later) = errors_in later
 
--- how many readings are among them
+-- how many readings of the input are among them
 abbrev pub readings_in : List Event → ℕ
 readings_in [] = zero
 readings_in (AReading asked ∷ later) = suc (readings_in later)
 readings_in (OutputByte byte ∷ later) = readings_in later
 readings_in (ErrorByte byte ∷ later) = readings_in later
+readings_in (FileReading name ∷ later) = readings_in later
+readings_in (FileWriting name bytes ∷ later) = readings_in later
 
--- the input left, and all that was done outside so far, in its order
+-- the writings of files among them: each name, with what its file holds then
+abbrev pub writings_in : List Event → List (List ℕ × List ℕ)
+writings_in [] = []
+writings_in (AReading asked ∷ later) = writings_in later
+writings_in (OutputByte byte ∷ later) = writings_in later
+writings_in (ErrorByte byte ∷ later) = writings_in later
+writings_in (FileReading name ∷ later) = writings_in later
+writings_in (FileWriting name bytes ∷ later) = (name, bytes) ∷ writings_in later
+
+-- the input left, what the file of each name holds, and all that was done outside so far, in its order
 pub record Outside : Type 0 where
   pub left : List ℕ
+  pub files : FileMap
   pub history : List Event
 
--- a program begins with its input, before anything is put or read
-abbrev pub outside_of : List ℕ → Outside
-outside_of input = record { left = input; history = [] }
+-- a program begins with its input and these files, before anything is put, read or written
+abbrev pub outside_of : List ℕ → FileMap → Outside
+outside_of input files = record { left = input; files = files; history = [] }
+
+-- no file has a name
+abbrev pub no_files : FileMap
+no_files name = None
+
+-- an outside of no input and no files
+abbrev pub bare_outside : Outside
+bare_outside = outside_of [] no_files
 
 -- these events more were done
 abbrev pub with_events : List Event → Outside → Outside
@@ -90,6 +133,19 @@ with_events done outside = record outside { history = outside.history ++ done }
 -- a reading is made: the history keeps it, whatever it finds
 abbrev pub with_reading : Request → Outside → Outside
 with_reading asked outside = with_events (AReading asked ∷ []) outside
+
+-- the file of this name is read: the history keeps it, whether or not there is one
+abbrev pub with_file_reading : List ℕ → Outside → Outside
+with_file_reading name outside = with_events (FileReading name ∷ []) outside
+
+-- these files, of which the one of this name holds these bytes now
+abbrev pub with_file : List ℕ → List ℕ → FileMap → FileMap
+with_file name bytes files = update bytes_eq files name (Some bytes)
+
+-- the file of this name is written whole, with these bytes
+abbrev pub with_file_writing : List ℕ → List ℕ → Outside → Outside
+with_file_writing name bytes outside =
+    with_events (FileWriting name bytes ∷ []) (record outside { files = with_file name bytes outside.files })
 
 -- what an operation is applied in: the world, the locals of the activation at hand, and the outside
 pub record Setting : Type 0 where
@@ -129,6 +185,14 @@ record_at heap id = unwrap_or (slice_get heap.records id) (record { kind = 0; fi
 abbrev pub count_at : Heap → ℕ → ℕ
 count_at heap id = slice_index heap.coexps id
 
+-- a closed file without a name or content
+abbrev pub no_file : OpenedFile
+no_file = record { name = []; mode = ToRead; content = []; place = 0; closed = true }
+
+-- the opened file of this number; where there is none, a closed one without a name or content
+abbrev pub file_at : Heap → ℕ → OpenedFile
+file_at heap number = unwrap_or (slice_get heap.files number) no_file
+
 -- the value at a place; where there is none, null
 abbrev pub value_at : List Value → ℕ → Value
 value_at values place = unwrap_or (slice_get values place) Null
@@ -150,6 +214,10 @@ with_table id table heap = record heap { tables = slice_set heap.tables id table
 -- another record under this number
 abbrev pub with_record : ℕ → Record → Heap → Heap
 with_record id structure heap = record heap { records = slice_set heap.records id structure }
+
+-- another opened file under this number
+abbrev pub with_opened : ℕ → OpenedFile → Heap → Heap
+with_opened number file heap = record heap { files = slice_set heap.files number file }
 
 -- the setting with its heap changed
 abbrev pub having_heap : (Heap → Heap) → Setting → Setting

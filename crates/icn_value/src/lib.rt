@@ -5,6 +5,7 @@ mod cset;
 mod full;
 mod item;
 mod limits;
+mod mode;
 mod residual;
 mod val;
 
@@ -12,5 +13,6 @@ pub use cset::Cset;
 pub use full::Full;
 pub use item::{Item, KeywordVariable, Pair, Root, VarRef};
 pub use limits::Limits;
+pub use mode::FileMode;
 pub use residual::{Mover, Residual};
 pub use val::{File, Span, Val};

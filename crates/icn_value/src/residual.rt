@@ -1,7 +1,7 @@
 // What is kept of an operation or a function that may be resumed.
 use crate::cset::Cset;
 use crate::item::VarRef;
-use crate::val::{Span, Val};
+use crate::val::{File, Span, Val};
 
 /// Which assignment of an exchange moves the place of the other side, where both sides are parts of one variable.
 #[derive(Clone, Copy, Debug, PartialEq, Eq)]
@@ -68,7 +68,10 @@ pub enum Residual {
         place: u64,
     },
     /// `!f`
-    InputLines,
+    FileLines {
+        /// The file whose lines are given.
+        file: File,
+    },
     /// `x <- y`
     UndoAssign {
         /// What was assigned to.

@@ -10,7 +10,7 @@ pub struct Span {
     pub len: u64,
 }
 
-/// The three standard files.
+/// A file: one of the three standard ones, or one that the program opened.
 #[derive(Clone, Copy, Debug, PartialEq, Eq, Hash)]
 pub enum File {
     /// `&input`
@@ -19,6 +19,8 @@ pub enum File {
     Output,
     /// `&errout`
     Errout,
+    /// One that the program opened, by the order in which files were opened, from 0 on.
+    Opened(u32),
 }
 
 /// A value. The bytes of a text and the contents of a structure lie in a heap.
@@ -32,7 +34,7 @@ pub enum Val {
     Text(Span),
     /// A set of bytes.
     Chars(Cset),
-    /// A standard file.
+    /// A file.
     Std(File),
     /// A procedure, a record constructor or a function: procedures have the first numbers, then constructors, then functions.
     Proc(u32),

@@ -43,6 +43,7 @@ pub record IsCharged (heap made : Heap) : Type 0 where
   pub sets : made.sets ≡ heap.sets
   pub tables : made.tables ≡ heap.tables
   pub records : made.records ≡ heap.records
+  pub files : made.files ≡ heap.files
 
 -- the part of a row makes this change of the heap, or comes to the error of its refusal
 pub record IsChange (part : Row → Row) (change : Heap → ChangedHeap) : Type 0 where
@@ -87,7 +88,7 @@ bytes_change count = record {
   charged = λ heap made is.
       subst (IsCharged heap) (paid_is (nat_le (heap.strings + count) heap.bounds.strings) (record heap { strings = heap.strings + count }) made
       (Strings heap.strings heap.bounds.strings) is)
-      (record { lists = refl; sets = refl; tables = refl; records = refl });
+      (record { lists = refl; sets = refl; tables = refl; records = refl; files = refl });
 }
 
 -- cells
@@ -107,7 +108,7 @@ cells_change count = record {
   charged = λ heap made is.
       subst (IsCharged heap)
       (paid_is (nat_le (heap.cells + count) heap.bounds.cells) (record heap { cells = heap.cells + count }) made (Cells heap.cells heap.bounds.cells) is)
-      (record { lists = refl; sets = refl; tables = refl; records = refl });
+      (record { lists = refl; sets = refl; tables = refl; records = refl; files = refl });
 }
 
 nothing_made : (heap made : Heap) → (let r : ChangedHeap = Ok heap in r) ≡ Ok made → heap ≡ made
@@ -118,7 +119,7 @@ nothing_changes : IsChange (λ next. next) (λ heap. Ok heap)
 nothing_changes = record {
   ok = λ setting made is next. ap (λ (paid : Heap). next (having_heap (λ heap. paid) setting)) (nothing_made setting.world.heap made is);
   err = λ all setting full is. absurd (never setting.world.heap full is);
-  charged = λ heap made is. subst (IsCharged heap) (nothing_made heap made is) (record { lists = refl; sets = refl; tables = refl; records = refl });
+  charged = λ heap made is. subst (IsCharged heap) (nothing_made heap made is) (record { lists = refl; sets = refl; tables = refl; records = refl; files = refl });
 }
   where
     never : (heap : Heap) (full : Full) → (let r : ChangedHeap = Ok heap in r) ≡ Err full → ⊥

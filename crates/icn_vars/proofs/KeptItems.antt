@@ -47,7 +47,8 @@ keeps_items_trans a b c first second = record {
 }
 
 -- what two changes keep live one after the other is kept live by both
-pub keeps_live_then : {a b c : World} {first second third : List HeldValue} → KeepsLive a first b second → KeepsLive b second c third → KeepsLive a first c third
+pub keeps_live_then : {a b c : World} {first second third : List HeldValue} → KeepsLive a first b second
+    → KeepsLive b second c third → KeepsLive a first c third
 keeps_live_then one two = record { locals = two.locals; items = keeps_items_trans _ _ _ one.items two.items }
 
 -- What stays of each item

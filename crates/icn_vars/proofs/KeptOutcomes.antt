@@ -6,10 +6,10 @@ use Rattle.std.specs.Option.{option_map}
 use Rattle.std.proofs.lemmas.List.Elements.{All-head, All-tail, All-weaker}
 use Rattle.icn_value.specs.declared.val.Span.{Span}
 use Rattle.icn_value.specs.declared.val.Val.{Val}
-use Rattle.icn_value.specs.declared.val.Val.TheVariants.{List as ListVal, Set as SetVal, Table as TableVal, Rec as RecVal}
+use Rattle.icn_value.specs.declared.val.Val.TheVariants.{List as ListVal, Set as SetVal, Table as TableVal, Rec as RecVal, Std as StdVal}
 use Rattle.icn_value.specs.declared.item.VarRef.{VarRef}
 use Rattle.icn_value.specs.declared.residual.Residual.{Residual as HeldResidual}
-use Rattle.icn_value.specs.declared.residual.Residual.TheVariants.{TextBytes as HeldTextBytes, VariableBytes as HeldVariableBytes, ListItems as HeldListItems, SetMembers as HeldSetMembers, TableValues as HeldTableValues, TableKeys as HeldTableKeys, RecordFields as HeldRecordFields, InputLines as HeldInputLines, UndoAssign as HeldUndoAssign, UndoExchange as HeldUndoExchange, UndoPosition as HeldUndoPosition, Counting as HeldCounting, Sequence as HeldSequence, Balanced as HeldBalanced, Found as HeldFound, Among as HeldAmong}
+use Rattle.icn_value.specs.declared.residual.Residual.TheVariants.{TextBytes as HeldTextBytes, VariableBytes as HeldVariableBytes, ListItems as HeldListItems, SetMembers as HeldSetMembers, TableValues as HeldTableValues, TableKeys as HeldTableKeys, RecordFields as HeldRecordFields, FileLines as HeldFileLines, UndoAssign as HeldUndoAssign, UndoExchange as HeldUndoExchange, UndoPosition as HeldUndoPosition, Counting as HeldCounting, Sequence as HeldSequence, Balanced as HeldBalanced, Found as HeldFound, Among as HeldAmong}
 use Rattle.icn_value.specs.Members.{members_of}
 use Rattle.icn_value.specs.Values.{Value, Variable}
 use Rattle.icn_value.specs.Store.{Setting}
@@ -20,7 +20,7 @@ use Rattle.icn_heap.proofs.GrowingHeaps.{optional_kept}
 use Rattle.icn_vars.specs.declared.outcome.Outcome.{Outcome as HeldOutcome}
 use Rattle.icn_vars.specs.declared.outcome.Outcome.TheVariants.{Fails as HeldFails, Gives as HeldGives, Suspends as HeldSuspends}
 use Rattle.icn_vars.specs.declared.outcome.Halt.{Halt}
-use Rattle.icn_vars.specs.declared.outcome.Halt.TheVariants.{Error as ErrorHalt, Ends as EndsHalt, ReadFault, WriteFault, NoMemory as NoMemoryHalt}
+use Rattle.icn_vars.specs.declared.outcome.Halt.TheVariants.{Error as ErrorHalt, Ends as EndsHalt, ReadFault, WriteFault, FileFault, NoMemory as NoMemoryHalt}
 use Rattle.icn_vars.specs.declared.stop.Stop.{Stop}
 use Rattle.icn_vars.specs.declared.stop.Stop.TheVariants.{Error, NoMemory}
 use Rattle.icn_vars.specs.Outcomes.{IsLiveHalt, IsLiveOutcome, IsLiveResidual, IsOld, IsSearch, OutcomeBy, ResidualBy, mover_of, outcome_in, residual_in}
@@ -54,7 +54,7 @@ module _ {old new : Reach} (keeps : KeepsItems old new) where
   residual_by (HeldTableValues table place) is = keeps.extent.live (TableVal table) is
   residual_by (HeldTableKeys table place) is = keeps.extent.live (TableVal table) is
   residual_by (HeldRecordFields rec place) is = keeps.extent.live (RecVal rec) is
-  residual_by HeldInputLines is = tt
+  residual_by (HeldFileLines file) is = keeps.extent.live (StdVal file) is
   residual_by (HeldUndoAssign variable val) is = old_stays variable val is
   residual_by (HeldUndoExchange mover left right old_left old_right) is = (old_stays left old_left is.0, old_stays right old_right is.1)
   residual_by (HeldUndoPosition place) is = is
@@ -82,7 +82,7 @@ module _ {old new : Reach} (keeps : KeepsItems old new) where
   same_residual_by (HeldTableValues table place) is = refl
   same_residual_by (HeldTableKeys table place) is = refl
   same_residual_by (HeldRecordFields rec place) is = refl
-  same_residual_by HeldInputLines is = refl
+  same_residual_by (HeldFileLines file) is = refl
   same_residual_by (HeldUndoAssign variable val) is =
       ap (λ v. UndoAssign v (value_in new.extent val)) (variable_kept keeps variable is.live_variable)
       ∙ ap (UndoAssign (variable_in old.extent variable)) (keeps.extent.value val is.live_value)
@@ -139,6 +139,7 @@ module _ {old new : Reach} (keeps : KeepsItems old new) where
   halt_stays (EndsHalt status) is = tt
   halt_stays ReadFault is = tt
   halt_stays WriteFault is = tt
+  halt_stays FileFault is = tt
   halt_stays NoMemoryHalt is = tt
 
   pub stop_stays : (stop : Stop) → IsLiveStop old.extent stop → IsLiveStop new.extent stop

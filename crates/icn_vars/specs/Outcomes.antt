@@ -3,21 +3,22 @@ use Rattle.std.specs.Prelude.{◌≡◌, ◌≤◌, ◌+◌, ℕ, length, true, 
 use Rattle.std.specs.Option.{option_map}
 use Rattle.icn_value.specs.declared.val.Span.{Span}
 use Rattle.icn_value.specs.declared.val.Val.{Val}
-use Rattle.icn_value.specs.declared.val.Val.TheVariants.{List as ListVal, Set as SetVal, Table as TableVal, Rec as RecVal}
+use Rattle.icn_value.specs.declared.val.Val.TheVariants.{List as ListVal, Set as SetVal, Table as TableVal, Rec as RecVal, Std as StdVal}
 use Rattle.icn_value.specs.declared.item.VarRef.{VarRef}
 use Rattle.icn_value.specs.declared.residual.Mover.{Mover as HeldMover}
 use Rattle.icn_value.specs.declared.residual.Mover.TheVariants.{Neither as HeldNeither, Left as HeldLeft, Right as HeldRight}
 use Rattle.icn_value.specs.declared.residual.Residual.{Residual as HeldResidual}
-use Rattle.icn_value.specs.declared.residual.Residual.TheVariants.{TextBytes as HeldTextBytes, VariableBytes as HeldVariableBytes, ListItems as HeldListItems, SetMembers as HeldSetMembers, TableValues as HeldTableValues, TableKeys as HeldTableKeys, RecordFields as HeldRecordFields, InputLines as HeldInputLines, UndoAssign as HeldUndoAssign, UndoExchange as HeldUndoExchange, UndoPosition as HeldUndoPosition, Counting as HeldCounting, Sequence as HeldSequence, Balanced as HeldBalanced, Found as HeldFound, Among as HeldAmong}
+use Rattle.icn_value.specs.declared.residual.Residual.TheVariants.{TextBytes as HeldTextBytes, VariableBytes as HeldVariableBytes, ListItems as HeldListItems, SetMembers as HeldSetMembers, TableValues as HeldTableValues, TableKeys as HeldTableKeys, RecordFields as HeldRecordFields, FileLines as HeldFileLines, UndoAssign as HeldUndoAssign, UndoExchange as HeldUndoExchange, UndoPosition as HeldUndoPosition, Counting as HeldCounting, Sequence as HeldSequence, Balanced as HeldBalanced, Found as HeldFound, Among as HeldAmong}
 use Rattle.icn_value.specs.Members.{members_of}
 use Rattle.icn_value.specs.Store.{Setting}
 use Rattle.icn_defs.specs.RowFacts.{can_hold}
-use Rattle.icn_defs.specs.Rows.{Row, Mover, Neither, Left, Right, Residual, TextBytes, VariableBytes, ListItems, SetMembers, TableValues, TableKeys, RecordFields, InputLines, UndoAssign, UndoExchange, UndoPosition, Counting, Sequence, Balanced, Found, Among, Outcome, Fails, Gives, Suspends, Error, Ends}
+use Rattle.icn_defs.specs.Rows.{Row, Mover, Neither, Left, Right, Residual, TextBytes, VariableBytes, ListItems, SetMembers, TableValues, TableKeys, RecordFields, FileLines, UndoAssign, UndoExchange, UndoPosition, Counting, Sequence, Balanced, Found, Among, Outcome, Fails, Gives, Suspends, Error, Ends}
 use Rattle.icn_heap.specs.Extents.{Extent, IsLive, IsText, text_in, value_in}
+use Rattle.icn_heap.specs.Keys.{file_of}
 use Rattle.icn_vars.specs.declared.outcome.Outcome.{Outcome as HeldOutcome}
 use Rattle.icn_vars.specs.declared.outcome.Outcome.TheVariants.{Fails as HeldFails, Gives as HeldGives, Suspends as HeldSuspends}
 use Rattle.icn_vars.specs.declared.outcome.Halt.{Halt}
-use Rattle.icn_vars.specs.declared.outcome.Halt.TheVariants.{Error as ErrorHalt, Ends as EndsHalt, ReadFault, WriteFault, NoMemory}
+use Rattle.icn_vars.specs.declared.outcome.Halt.TheVariants.{Error as ErrorHalt, Ends as EndsHalt, ReadFault, WriteFault, FileFault, NoMemory}
 use Rattle.icn_vars.specs.Worlds.{IsLiveItem, IsLiveVariable, Reach, item_in, variable_in}
 
 -- What residuals and outcomes stand for
@@ -37,7 +38,7 @@ residual_in all (HeldSetMembers set place) = SetMembers set place
 residual_in all (HeldTableValues table place) = TableValues table place
 residual_in all (HeldTableKeys table place) = TableKeys table place
 residual_in all (HeldRecordFields rec place) = RecordFields rec place
-residual_in all HeldInputLines = InputLines
+residual_in all (HeldFileLines file) = FileLines (file_of file)
 residual_in all (HeldUndoAssign variable old) = UndoAssign (variable_in all variable) (value_in all old)
 residual_in all (HeldUndoExchange mover left right old_left old_right) =
     UndoExchange (mover_of mover) (variable_in all left) (variable_in all right) (value_in all old_left)
@@ -79,7 +80,7 @@ ResidualBy reach (HeldSetMembers set place) = IsLive reach.extent (SetVal set)
 ResidualBy reach (HeldTableValues table place) = IsLive reach.extent (TableVal table)
 ResidualBy reach (HeldTableKeys table place) = IsLive reach.extent (TableVal table)
 ResidualBy reach (HeldRecordFields rec place) = IsLive reach.extent (RecVal rec)
-ResidualBy reach HeldInputLines = ⊤
+ResidualBy reach (HeldFileLines file) = IsLive reach.extent (StdVal file)
 ResidualBy reach (HeldUndoAssign variable old) = IsOld reach variable old
 ResidualBy reach (HeldUndoExchange mover left right old_left old_right) =
     IsOld reach left old_left × IsOld reach right old_right
@@ -111,6 +112,7 @@ IsLiveHalt reach (ErrorHalt number offending) = IfSome offending (IsLive reach.e
 IsLiveHalt reach (EndsHalt status) = ⊤
 IsLiveHalt reach ReadFault = ⊤
 IsLiveHalt reach WriteFault = ⊤
+IsLiveHalt reach FileFault = ⊤
 IsLiveHalt reach NoMemory = ⊤
 
 -- What a call says of a row
@@ -123,6 +125,7 @@ HaltsRow all row before after (ErrorHalt number offending) =
 HaltsRow all row before after (EndsHalt status) = row before ≡ Ends status after
 HaltsRow all row before after ReadFault = ⊥
 HaltsRow all row before after WriteFault = ⊥
+HaltsRow all row before after FileFault = ⊥
 HaltsRow all row before after NoMemory = ⊤
 
 -- What the row comes to in the setting before is what was answered, in the setting after it.

@@ -157,7 +157,7 @@ pub record KeepsItems (old new : Reach) : Type 0 where
   pub statics : new.statics ≡ old.statics
   pub locals : new.locals ≡ old.locals
 
--- the locals behind a call are of the world that it leaves; every item stays of the world, and stands for the same
+-- the locals behind a call are of the world that it leaves; every item stays, and stands for the same
 pub record KeepsLive (old : World) (before : List Val) (new : World) (after : List Val) : Type 0 where
   pub locals : All (IsLive (extent_of new.heap)) after
   pub items : KeepsItems (reach_of old before) (reach_of new after)

@@ -23,6 +23,8 @@ pub enum Halt {
     ReadFault,
     /// A writing failed.
     WriteFault,
+    /// The store of files failed.
+    FileFault,
     /// There was no memory.
     NoMemory,
 }

@@ -3,7 +3,7 @@ ghost use Rattle.std.specs.Prelude.{◌≡◌, ◌+◌, ◌-◌, ◌≤◌, leng
 ghost use Rattle.std.specs.List.{All};
 ghost use Rattle.std.specs.Option.{option_map};
 ghost use Rattle.icn_structs.specs.Numbered.{item_numbered};
-ghost use Rattle.icn_value.specs.Store.{Outside, list_at, outside_of, table_at};
+ghost use Rattle.icn_value.specs.Store.{Outside, list_at, bare_outside, table_at};
 ghost use Rattle.icn_value.specs.declared.val.Val.{Val};
 ghost use Rattle.icn_value.specs.declared.val.Val.TheVariants.{Integer as IntegerVal, List as ListVal, Table as TableVal};
 ghost use Rattle.icn_vars.specs.declared.stop.Stop.TheVariants.{NoMemory};
@@ -105,9 +105,9 @@ pub fn read_root<L: Locals>(w: &World, l: &L, root: Root) -> Result<Val, Stop>
     requires live { IsLiveRoot (reach_of w.now (L.items l.now)) root }
     ensures live { IfOk result (IsLive (extent_of w.now.heap)) }
     ensures stops { IfErr result (IsLiveStop (extent_of w.now.heap)) }
-    ensures value { MatchResult result (λ val. root_value (setting_of (outside_of []) w.now (L.items l.now))
+    ensures value { MatchResult result (λ val. root_value (setting_of bare_outside w.now (L.items l.now))
         (root_in (extent_of w.now.heap) root) ≡ Some (value_in (extent_of w.now.heap) val))
-        (IsGone (root_value (setting_of (outside_of []) w.now (L.items l.now))
+        (IsGone (root_value (setting_of bare_outside w.now (L.items l.now))
         (root_in (extent_of w.now.heap) root))) }
 {
     match root {

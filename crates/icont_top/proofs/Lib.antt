@@ -18,4 +18,3 @@ mod UnitsAgain
 mod WrittenUnits
 mod WrittenTexts
 mod WholeCommand
-mod InputLeft

@@ -20,7 +20,7 @@ use Rattle.icont_units.specs.Files.{files_named, first_name, sources_in}
 use Rattle.icont_units.specs.Generated.{GeneratedComes}
 use Rattle.icont_units.specs.Units.{Member, FilesCome, Load, units_of, link_answer}
 use Rattle.icont_units.proofs.OneLoading.{one_come, one_generated, one_load}
-use Rattle.icont_top.specs.Job.{Job, Plan, Plans, IsPlanned, RefusesCommand, IsJob, refusal, files_job, run_job, image_file, ucode_files, run_launch, behind}
+use Rattle.icont_top.specs.Job.{Job, Plan, Plans, IsPlanned, RefusesCommand, IsJob, refusal, files_job, run_job, image_file, ucode_files, run_launch, behind, with_image}
 use Rattle.icont_top.specs.Programs.{Links, linked_code, link_refusal, first_ucode, files_of, RunsBy, Behaves}
 
 -- What units come to
@@ -122,29 +122,30 @@ of_units left (Err answer) = refusal left answer
 of_units left (Ok members) = files_job (ucode_files members) left
 
 -- where the code came to this, and a run was asked for so
-abbrev OfRun : List ℕ → Plan → Option Run → List Member → Tables → Job → Type 0
-OfRun left plan None members tables job = job ≡ files_job (image_file plan.image members tables ∷ []) left
-OfRun left plan (Some run) members tables job = (seen : Observation) × (Behaves members (run_launch run left) seen)
+abbrev OfRun : FileMap → List ℕ → Plan → Option Run → List Member → Tables → Job → Type 0
+OfRun files left plan None members tables job = job ≡ files_job (image_file plan.image members tables ∷ []) left
+OfRun files left plan (Some run) members tables job = (seen : Observation)
+    × (Behaves members (run_launch run left (with_image (image_file plan.image members tables) files)) seen)
     × (job ≡ run_job (image_file plan.image members tables) seen (behind plan.number seen.ending))
 
-abbrev OfCode : List ℕ → Plan → List Member → Result Tables Answer → Job → Type 0
-OfCode left plan members (Err answer) job = job ≡ refusal left answer
-OfCode left plan members (Ok tables) job = OfRun left plan plan.run members tables job
+abbrev OfCode : FileMap → List ℕ → Plan → List Member → Result Tables Answer → Job → Type 0
+OfCode files left plan members (Err answer) job = job ≡ refusal left answer
+OfCode files left plan members (Ok tables) job = OfRun files left plan plan.run members tables job
 
-abbrev OfMembers : List ℕ → Plan → Result (List Member) Answer → Job → Type 0
-OfMembers left plan (Err answer) job = job ≡ refusal left answer
-OfMembers left plan (Ok members) job = (code : Result Tables Answer) × (Links members code) × OfCode left plan members code job
+abbrev OfMembers : FileMap → List ℕ → Plan → Result (List Member) Answer → Job → Type 0
+OfMembers files left plan (Err answer) job = job ≡ refusal left answer
+OfMembers files left plan (Ok members) job = (code : Result Tables Answer) × (Links members code) × OfCode files left plan members code job
 
 -- with the members that are there so
-abbrev OfPlan : List ℕ → Plan → (Result (List Member) Answer → Type 0) → Job → Type 0
-OfPlan left plan AreThere job = (result : Result (List Member) Answer) × (AreThere result) × OfMembers left plan result job
+abbrev OfPlan : FileMap → List ℕ → Plan → (Result (List Member) Answer → Type 0) → Job → Type 0
+OfPlan files left plan AreThere job = (result : Result (List Member) Answer) × (AreThere result) × OfMembers files left plan result job
 
 abbrev pub JobBy : FileMap → List ℕ → WordsReading → Job → Type 0
 JobBy files left (Faulty kind) job = job ≡ refusal left (Command kind)
 JobBy files left (Asks (Translate names)) job =
     (result : Result (List Member) Answer) × (FilesCome files (sources_in (files_named names)) result) × (job ≡ of_units left result)
-JobBy files left (Asks (Link names image run)) job = OfPlan left (plan_of_files image run) (Load files (files_named names)) job
-JobBy files left (Asks (Generate number turns)) job = OfPlan left (plan_of_number number turns) (GeneratedComes number) job
+JobBy files left (Asks (Link names image run)) job = OfPlan files left (plan_of_files image run) (Load files (files_named names)) job
+JobBy files left (Asks (Generate number turns)) job = OfPlan files left (plan_of_number number turns) (GeneratedComes number) job
 
 record AsksJob (words : List (List ℕ)) (files : FileMap) (left : List ℕ) (job : Job) : Type 0 where
   pub reading : WordsReading
@@ -152,7 +153,7 @@ record AsksJob (words : List (List ℕ)) (files : FileMap) (left : List ℕ) (jo
   pub by : JobBy files left reading job
 
 module _ (words : List (List ℕ)) (files : FileMap) (left : List ℕ) where
-  of_plan : (plan : Plan) (result : Result (List Member) Answer) (job : Job) → Plans words files plan result → OfMembers left plan result job
+  of_plan : (plan : Plan) (result : Result (List Member) Answer) (job : Job) → Plans words files plan result → OfMembers files left plan result job
       → AsksJob words files left job
   of_plan _ _ job (Plans.of_files names image run result e x) by = record { reading = Asks (Link names image run); comes = e; by = (result, x, by) }
   of_plan _ _ job (Plans.of_number number turns result e x) by = record { reading = Asks (Generate number turns); comes = e; by = (result, x, by) }
@@ -164,9 +165,9 @@ module _ (words : List (List ℕ)) (files : FileMap) (left : List ℕ) where
   of_refusal _ (RefusesCommand.no_program plan members answer x y) = of_plan plan (Ok members) (refusal left answer) x (Err answer, y, refl)
 
   with_run : (plan : Plan) (members : List Member) (tables : Tables) (job : Job) (run : Option Run) → IsPlanned words files plan members tables
-      → plan.run ≡ run → OfRun left plan run members tables job → AsksJob words files left job
+      → plan.run ≡ run → OfRun files left plan run members tables job → AsksJob words files left job
   with_run plan members tables job run x e by =
-      of_plan plan (Ok members) job x.plans (Ok tables, x.links, subst (λ r. OfRun left plan r members tables job) (sym e) by)
+      of_plan plan (Ok members) job x.plans (Ok tables, x.links, subst (λ r. OfRun files left plan r members tables job) (sym e) by)
 
   asks_job : (job : Job) → IsJob words files left job → AsksJob words files left job
   asks_job _ (IsJob.refuses answer x) = of_refusal answer x
@@ -175,28 +176,29 @@ module _ (words : List (List ℕ)) (files : FileMap) (left : List ℕ) where
   asks_job _ (IsJob.runs plan members tables run seen x e b) = with_run plan members tables _ (Some run) x e (seen, b, refl)
 
 module _ (observed : HasOne) (fault : HaveOneFault) (sound : HaveNoFault) (files : FileMap) (left : List ℕ) where
-  same_run : (plan : Plan) (run : Option Run) (members : List Member) (tables : Tables) (a b : Job) → OfRun left plan run members tables a
-      → OfRun left plan run members tables b → a ≡ b
+  same_run : (plan : Plan) (run : Option Run) (members : List Member) (tables : Tables) (a b : Job) → OfRun files left plan run members tables a
+      → OfRun files left plan run members tables b → a ≡ b
   same_run plan None members tables a b x y = x ∙ sym y
   same_run plan (Some run) members tables a b x y =
       x.2 ∙ (ap (λ (seen : Observation). run_job (image_file plan.image members tables) seen (behind plan.number seen.ending))
-      (one_behaves observed members (run_launch run left) x.0 y.0 x.1 y.1) ∙ sym y.2)
+      (one_behaves observed members (run_launch run left (with_image (image_file plan.image members tables) files)) x.0 y.0 x.1 y.1) ∙ sym y.2)
 
-  same_code : (plan : Plan) (members : List Member) (code : Result Tables Answer) (a b : Job) → OfCode left plan members code a
-      → OfCode left plan members code b → a ≡ b
+  same_code : (plan : Plan) (members : List Member) (code : Result Tables Answer) (a b : Job) → OfCode files left plan members code a
+      → OfCode files left plan members code b → a ≡ b
   same_code plan members (Err answer) a b x y = x ∙ sym y
   same_code plan members (Ok tables) a b x y = same_run plan plan.run members tables a b x y
 
-  same_members : (plan : Plan) (result : Result (List Member) Answer) (a b : Job) → OfMembers left plan result a → OfMembers left plan result b → a ≡ b
+  same_members : (plan : Plan) (result : Result (List Member) Answer) (a b : Job) → OfMembers files left plan result a → OfMembers files left plan result b
+      → a ≡ b
   same_members plan (Err answer) a b x y = x ∙ sym y
   same_members plan (Ok members) a b x y =
-      same_code plan members y.0 a b (subst (λ code. OfCode left plan members code a) (one_links fault sound members x.0 y.0 x.1 y.1) x.2) y.2
+      same_code plan members y.0 a b (subst (λ code. OfCode files left plan members code a) (one_links fault sound members x.0 y.0 x.1 y.1) x.2) y.2
 
   same_planned : (plan : Plan) (AreThere : Result (List Member) Answer → Type 0)
-      → ((p q : Result (List Member) Answer) → AreThere p → AreThere q → p ≡ q) → (a b : Job) → OfPlan left plan AreThere a
-      → OfPlan left plan AreThere b → a ≡ b
+      → ((p q : Result (List Member) Answer) → AreThere p → AreThere q → p ≡ q) → (a b : Job) → OfPlan files left plan AreThere a
+      → OfPlan files left plan AreThere b → a ≡ b
   same_planned plan AreThere one a b x y =
-      same_members plan y.0 a b (subst (λ result. OfMembers left plan result a) (one x.0 y.0 x.1 y.1) x.2) y.2
+      same_members plan y.0 a b (subst (λ result. OfMembers files left plan result a) (one x.0 y.0 x.1 y.1) x.2) y.2
 
   same_job : (reading : WordsReading) (a b : Job) → JobBy files left reading a → JobBy files left reading b → a ≡ b
   same_job (Faulty kind) a b x y = x ∙ sym y

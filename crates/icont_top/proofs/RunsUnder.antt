@@ -1,5 +1,6 @@
 -- Runs under the bound of turns that is said.
 use Rattle.std.proofs.Common.{◌≡◌, ℕ, List, [], append-nil, Option, None, Err, refl, ap, subst, sym}
+use Rattle.icn_host.specs.FileMaps.{FileMap}
 use Rattle.icn_host.specs.Sinks.{Gains, SinkState}
 use Rattle.icn_code.specs.Codes.{Tables}
 use Rattle.icn_value.specs.Limited.{Bounds}
@@ -19,26 +20,29 @@ use Rattle.icont_words.specs.Words.{Run}
 use Rattle.icont_top.specs.Job.{bounds_with, run_launch}
 use Rattle.icont_top.specs.Running.{IsOver, IsRanOrBroken, WasOver, broken, ran}
 
-launched_as : (run : Run) (bounds : Bounds) (left : List ℕ) → bounds ≡ bounds_with run.turns → launch_of run.arguments bounds left ≡ run_launch run left
-launched_as run bounds left e = ap (λ b. launch_of run.arguments b left) e
+launched_as : (run : Run) (bounds : Bounds) (left : List ℕ) (files : FileMap) → bounds ≡ bounds_with run.turns
+    → launch_of run.arguments bounds left files ≡ run_launch run left files
+launched_as run bounds left files e = ap (λ b. launch_of run.arguments b left files) e
 
-pub run_ended : {before after : CallStreams} (tables : Tables) (run : Run) (left : List ℕ) (bounds : Bounds) (ending : Ending) → bounds ≡ bounds_with run.turns
-    → RunsTo tables (launch_of run.arguments bounds left) (ending_seen ending) before after
-    → IsRanOrBroken tables (run_launch run left) (Ran ending) before after
-run_ended {before} {after} tables run left bounds ending e ends =
-    ran ending refl (subst (λ launch. RunsTo tables launch (ending_seen ending) before after) (launched_as run bounds left e) ends)
+pub run_ended : {before after : CallStreams} (tables : Tables) (run : Run) (left : List ℕ) (files : FileMap) (bounds : Bounds) (ending : Ending)
+    → bounds ≡ bounds_with run.turns
+    → RunsTo tables (launch_of run.arguments bounds left files) (ending_seen ending) before after
+    → IsRanOrBroken tables (run_launch run left files) (Ran ending) before after
+run_ended {before} {after} tables run left files bounds ending e ends =
+    ran ending refl (subst (λ launch. RunsTo tables launch (ending_seen ending) before after) (launched_as run bounds left files e) ends)
 
 -- the report of a run under the bound that is said
-pub run_reported : {before after : SinkState} (tables : Tables) (run : Run) (bounds : Bounds) (ending : Ending)
-    → PutsReport tables (launch_of run.arguments bounds []) (ending_seen ending) before after → ReportStands ending before after
-run_reported tables run bounds ending report = (tables, (launch_of run.arguments bounds [], report))
+pub run_reported : {before after : SinkState} (tables : Tables) (run : Run) (files : FileMap) (bounds : Bounds) (ending : Ending)
+    → PutsReport tables (launch_of run.arguments bounds [] files) (ending_seen ending) before after → ReportStands ending before after
+run_reported tables run files bounds ending report = (tables, (launch_of run.arguments bounds [] files, report))
 
 -- how it was over, whatever the input tells
-pub run_over : {before after : CallStreams} (tables : Tables) (run : Run) (bounds : Bounds) (ending : SeenEnding) → bounds ≡ bounds_with run.turns
-    → RunsOver tables (launch_of run.arguments bounds []) ending before after → WasOver tables (run_launch run []) None ending before after
-run_over {before} {after} tables run bounds ending e over =
-    let there : RunsOver tables (run_launch run []) ending before after =
-    subst (λ launch. RunsOver tables launch ending before after) (launched_as run bounds [] e) over in
+pub run_over : {before after : CallStreams} (tables : Tables) (run : Run) (files : FileMap) (bounds : Bounds) (ending : SeenEnding)
+    → bounds ≡ bounds_with run.turns
+    → RunsOver tables (launch_of run.arguments bounds [] files) ending before after → WasOver tables (run_launch run [] files) None ending before after
+run_over {before} {after} tables run files bounds ending e over =
+    let there : RunsOver tables (run_launch run [] files) ending before after =
+    subst (λ launch. RunsOver tables launch ending before after) (launched_as run bounds [] files e) over in
     record {
       report = there.report;
       calls = there.calls;
@@ -50,11 +54,12 @@ pub never_over : (tables : Tables) (launch : Launch) (number : Option ℕ) (befo
     → IsOver tables launch number (of_run wrong) before after
 never_over tables launch number before after Runs.ReadFault = tt
 never_over tables launch number before after Runs.WriteFault = tt
+never_over tables launch number before after Runs.FileFault = tt
 never_over tables launch number before after Runs.NoMemory = tt
 
-pub run_broken : {before between after : CallStreams} (tables : Tables) (run : Run) (left : List ℕ) (bounds : Bounds) (wrong : RunFault)
+pub run_broken : {before between after : CallStreams} (tables : Tables) (run : Run) (left : List ℕ) (files : FileMap) (bounds : Bounds) (wrong : RunFault)
     → bounds ≡ bounds_with run.turns → RunEnds {A = Ending} (Err wrong) before between
-    → IsBrokenOff tables (launch_of run.arguments bounds left) wrong before between → EndsBehind (of_run wrong) between after
-    → IsRanOrBroken tables (run_launch run left) (of_run wrong) before after
-run_broken {before} {between} tables run left bounds wrong e first off behind =
-    broken wrong between refl first (subst (λ launch. IsBrokenOff tables launch wrong before between) (launched_as run bounds left e) off) behind
+    → IsBrokenOff tables (launch_of run.arguments bounds left files) wrong before between → EndsBehind (of_run wrong) between after
+    → IsRanOrBroken tables (run_launch run left files) (of_run wrong) before after
+run_broken {before} {between} tables run left files bounds wrong e first off behind =
+    broken wrong between refl first (subst (λ launch. IsBrokenOff tables launch wrong before between) (launched_as run bounds left files e) off) behind

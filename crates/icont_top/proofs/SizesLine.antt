@@ -1,6 +1,7 @@
 -- The line of the sizes of the program of a number, behind its run.
 use Rattle.std.proofs.Common.{◌≡◌, inl, inr, ℕ, true, false, List, [], ◌++◌, take, Option, None, Some, Err, refl, sym, ap, ◌∙◌, subst, append-nil}
 use Rattle.icn_host.specs.Counts.{one_more, raised_count}
+use Rattle.icn_host.specs.FileMaps.{StoreState}
 use Rattle.icn_host.specs.declared.fault.Fault.{Fault}
 use Rattle.icn_host.specs.declared.fault.Fault.TheVariants as Faults
 use Rattle.icn_host.proofs.SinkSteps.{gains_nothing, gains_then}
@@ -10,10 +11,11 @@ use Rattle.icn_host.specs.Sources.{SourceCounts}
 use Rattle.icn_value.specs.Store.{errors_in, output_in, readings_in}
 use Rattle.icn_code.specs.Codes.{Tables}
 use Rattle.icn_defs.specs.Running.{Launch, Observation, Done, Exit, Errored, AtBound, Ending as SeenEnding}
+use Rattle.icn_defs.specs.Interruptions.{HoldsMap}
 use Rattle.icn_defs.specs.declared.ending.Ending.{Ending}
 use Rattle.icn_defs.specs.declared.ending.Ending.TheVariants as Endings
 use Rattle.law_simulation.specs.FirstLaw.{RunsFlat}
-use Rattle.icn_streams.specs.Handed.{CallStreams, KeepsAllCounts, KeepsFaultCounts, call_streams, faults_of, uncounted, output_wants}
+use Rattle.icn_streams.specs.Handed.{CallStreams, KeepsAllCounts, KeepsFaultCounts, KeepsStoreCounts, call_streams, faults_of, uncounted, output_wants}
 use Rattle.icn_machine.specs.Stepping.{output_fails}
 use Rattle.icn_running.specs.declared.fault.RunFault.{RunFault}
 use Rattle.icn_running.specs.declared.fault.RunFault.TheVariants as Runs
@@ -54,7 +56,7 @@ gains_alone {before} {after} text more none gains = subst (Gains before after) (
 pub ran_alone : {tables : Tables} {launch : Launch} {answer : Answer} {before after : CallStreams} → IsRanOrBroken tables launch answer before after
     → HasRun tables launch None answer before after
 ran_alone {answer = answer} (ran ending same to) =
-    has_ended to.0 to.1.1.0 (answered_seen answer ending to.0.ending same to.1.0) to.1.1.1.left to.1.1.1.calls
+    has_ended to.0 to.1.1.0 (answered_seen answer ending to.0.ending same to.1.0) to.1.1.1.files to.1.1.1.left to.1.1.1.calls
     (gains_alone (output_in to.0.outside.history) [] refl to.1.1.1.output) to.1.1.1.errors
 ran_alone (broken wrong between same first off puts) = was_broken wrong between same first off puts
 
@@ -69,7 +71,7 @@ pub ran_undone : {tables : Tables} {launch : Launch} {answer : Answer} {before a
     → IsRanOrBroken tables launch answer before after → HasRun tables launch (Some n) answer before after
 ran_undone {answer = answer} n undone (ran ending same to) =
     let seen = answered_seen answer ending to.0.ending same to.1.0 in
-    has_ended to.0 to.1.1.0 seen to.1.1.1.left to.1.1.1.calls
+    has_ended to.0 to.1.1.0 seen to.1.1.1.files to.1.1.1.left to.1.1.1.calls
     (gains_alone (output_in to.0.outside.history) (sizes_behind n to.0.ending) (none_behind n to.0.ending (sym (ap is_done seen) ∙ undone)) to.1.1.1.output)
     to.1.1.1.errors
 ran_undone n undone (broken wrong between same first off puts) = was_broken wrong between same first off puts
@@ -97,6 +99,7 @@ record HasDone (tables : Tables) (launch : Launch) (before after : CallStreams) 
   pub seen : Observation
   pub flat : RunsFlat tables launch seen
   pub done : seen.ending ≡ Done
+  pub files : HoldsMap before.files.held after.files.held seen.outside.files
   pub left : after.left ≡ Some seen.outside.left
   pub calls : after.counts.calls ≡ raised_count before.counts.calls (readings_in seen.outside.history)
   pub output : Gains before.output.held after.output.held (output_in seen.outside.history)
@@ -111,6 +114,7 @@ seen_done Endings.AtBound e = absurd (let wrong : false ≡ true = e in cc)
 undone : (fault : RunFault) → is_done (of_run fault) ≡ false
 undone Runs.ReadFault = refl
 undone Runs.WriteFault = refl
+undone Runs.FileFault = refl
 undone Runs.NoMemory = refl
 
 has_done : {tables : Tables} {launch : Launch} {answer : Answer} {before after : CallStreams} → is_done answer ≡ true
@@ -119,6 +123,7 @@ has_done e (ran ending same to) = record {
   seen = to.0;
   flat = to.1.1.0;
   done = to.1.0 ∙ seen_done ending (sym (ap is_done same) ∙ e);
+  files = to.1.1.1.files;
   left = to.1.1.1.left;
   calls = to.1.1.1.calls;
   output = to.1.1.1.output;
@@ -131,6 +136,7 @@ counts_kept : {before after : CallStreams} (answer : Answer) → is_done answer 
 counts_kept {before} {after} answer e ends =
     let there : RunEndsAtFirst (Ran Endings.Done) before after = rw (done_of answer e) at ends in
     record {
+      files = subst (λ (store : StoreState). KeepsStoreCounts before.files store) (sym there.behind.files) there.first.files;
       faults = ap faults_of there.behind.counts ∙ there.first.faults;
       output = subst (λ (sink : SinkState). KeepsFaultCounts before.output sink) (sym there.behind.output) there.first.output;
       errors = subst (λ (sink : SinkState). KeepsFaultCounts before.errors sink) (sym there.behind.own_line) there.first.errors;
@@ -149,20 +155,22 @@ stops_put Faults.Failed = tt
 stops_put Faults.NoMemory = tt
 
 -- the count of the output rose, if any did
-ends_behind : (left : Option (List ℕ)) (input : SourceCounts) (before : CallStreams) (out out' err : SinkState) (fault : Fault) (line : List ℕ)
-    → KeepsAllCounts before (call_streams left input out err) → LeadsBy fault out out' line
-    → RunEnds {A = Ending} (Err (run_fault fault)) before (call_streams left input out' err)
-ends_behind left input before out out' err Faults.Failed line kept stops =
-    output_fails kept.faults
+ends_behind : (files : StoreState) (left : Option (List ℕ)) (input : SourceCounts) (before : CallStreams) (out out' err : SinkState) (fault : Fault)
+    (line : List ℕ)
+    → KeepsAllCounts before (call_streams files left input out err) → LeadsBy fault out out' line
+    → RunEnds {A = Ending} (Err (run_fault fault)) before (call_streams files left input out' err)
+ends_behind files left input before out out' err Faults.Failed line kept stops =
+    output_fails kept.files kept.faults
     (record { faults = stops.faults ∙ ap one_more kept.output.faults; wants = stops.wants ∙ kept.output.wants }) kept.errors
-ends_behind left input before out out' err Faults.NoMemory line kept (inl same) =
+ends_behind files left input before out out' err Faults.NoMemory line kept (inl same) =
     uncounted (record {
+      files = kept.files;
       faults = kept.faults;
       output = subst (λ (sink : SinkState). KeepsFaultCounts before.output sink) (sym same) kept.output;
       errors = kept.errors;
     })
-ends_behind left input before out out' err Faults.NoMemory line kept (inr short) =
-    output_wants kept.faults
+ends_behind files left input before out out' err Faults.NoMemory line kept (inr short) =
+    output_wants kept.files kept.faults
     (record { faults = short.faults ∙ kept.output.faults; wants = short.wants ∙ ap one_more kept.output.wants }) kept.errors
 
 -- some first part of a line that was put
@@ -176,38 +184,47 @@ part_put {out} {out'} Faults.NoMemory line (inl same) =
     record { count = 0; gains = subst (λ (sink : SinkState). Gains out.held sink.held []) (sym same) (gains_nothing out.held) }
 part_put Faults.NoMemory line (inr short) = record { count = short.part.count; gains = record { appends = short.part.appends } }
 
-pub sizes_run : {tables : Tables} {launch : Launch} {left : Option (List ℕ)} {input : SourceCounts} {before : CallStreams} {out out' err err' : SinkState}
-    (n : ℕ) (answer given : Answer) → is_done answer ≡ true → IsRanOrBroken tables launch answer before (call_streams left input out err)
-    → RunEndsAtFirst answer before (call_streams left input out err) → PutsSizes n given out out' err err'
-    → HasRun tables launch (Some n) given before (call_streams left input out' err')
+pub sizes_run : {tables : Tables} {launch : Launch} {files : StoreState} {left : Option (List ℕ)} {input : SourceCounts} {before : CallStreams} {out out' err err' : SinkState}
+    (n : ℕ) (answer given : Answer) → is_done answer ≡ true → IsRanOrBroken tables launch answer before (call_streams files left input out err)
+    → RunEndsAtFirst answer before (call_streams files left input out err) → PutsSizes n given out out' err err'
+    → HasRun tables launch (Some n) given before (call_streams files left input out' err')
 sizes_run {before = before} {out' = out'} n answer given e run ends (sizes_put same put kept) =
     let was = has_done e run in
-    has_ended was.seen was.flat (same ∙ ap (λ ending. Ran (ending_held ending)) (sym was.done)) was.left was.calls
+    has_ended was.seen was.flat (same ∙ ap (λ ending. Ran (ending_held ending)) (sym was.done)) was.files was.left was.calls
     (subst (λ (behind : List ℕ). Gains before.output.held out'.held (output_in was.seen.outside.history ++ behind)) (sym (ap (sizes_behind n) was.done))
     (gains_then was.output put.gains))
     (subst (λ (sink : SinkState). Gains before.errors.held sink.held (errors_in was.seen.outside.history)) (sym kept) was.errors)
-sizes_run {left = left} {input} {before} {out} {out'} {err} n answer given e run ends (sizes_broken fault same leads own) =
+sizes_run {files = files} {left} {input} {before} {out} {out'} {err} n answer given e run ends (sizes_broken fault same leads own) =
     let was = has_done e run in
     let part = part_put fault (sizes_line n) leads in
     was_broken_behind n (run_fault fault) err was.seen refl (stops_put fault) (same ∙ as_run fault)
-    (ends_behind left input before out out' err fault (sizes_line n) (counts_kept answer e ends) leads) was.flat
-    (record { done = was.done; input = was.left; calls = was.calls; count = part.count; output = gains_then was.output part.gains; errors = was.errors })
+    (ends_behind files left input before out out' err fault (sizes_line n) (counts_kept answer e ends) leads) was.flat
+    (record {
+      done = was.done;
+      files = was.files;
+      input = was.left;
+      calls = was.calls;
+      count = part.count;
+      output = gains_then was.output part.gains;
+      errors = was.errors;
+    })
     (puts_own _ _ given own)
 
 -- which counts rose, behind both
-pub sizes_end : {left : Option (List ℕ)} {input : SourceCounts} {before : CallStreams} {out out' err err' : SinkState} (n : ℕ) (answer given : Answer)
-    → is_done answer ≡ true → RunEndsAtFirst answer before (call_streams left input out err) → PutsSizes n given out out' err err'
-    → RunEndsAtFirst given before (call_streams left input out' err')
-sizes_end {left} {input} {before} {out} {out'} {err} n answer given e ends (sizes_put same put kept) =
+pub sizes_end : {files : StoreState} {left : Option (List ℕ)} {input : SourceCounts} {before : CallStreams} {out out' err err' : SinkState} (n : ℕ) (answer given : Answer)
+    → is_done answer ≡ true → RunEndsAtFirst answer before (call_streams files left input out err) → PutsSizes n given out out' err err'
+    → RunEndsAtFirst given before (call_streams files left input out' err')
+sizes_end {files} {left} {input} {before} {out} {out'} {err} n answer given e ends (sizes_put same put kept) =
     let run = counts_kept answer e ends in
     rw (same, kept) (ran_counts Endings.Done (record {
+      files = run.files;
       faults = run.faults;
       output = record { faults = put.faults ∙ run.output.faults; wants = put.wants ∙ run.output.wants };
       errors = run.errors;
     }))
-sizes_end {left} {input} {before} {out} {out'} {err} n answer given e ends (sizes_broken fault same leads own) =
+sizes_end {files} {left} {input} {before} {out} {out'} {err} n answer given e ends (sizes_broken fault same leads own) =
     let run = same ∙ as_run fault in
-    rw run (broken_counts (run_fault fault) (ends_behind left input before out out' err fault (sizes_line n) (counts_kept answer e ends) leads)
+    rw run (broken_counts (run_fault fault) (ends_behind files left input before out out' err fault (sizes_line n) (counts_kept answer e ends) leads)
     (own_behind (of_run (run_fault fault)) (rw run at own)))
 
 pub done_no_fault : (answer : Answer) → is_done answer ≡ true → IsFault answer → ⊥
@@ -226,16 +243,16 @@ some_reported {before} {after} answer e reports = by_done (subst (λ (a : Answer
     by_done (put_own f other n between leads puts) = absurd (ran_no_fault Endings.Done f)
     by_done (broke fault e between counts some puts) = absurd (ran_no_fault Endings.Done (subst IsFault (sym e) (is_run_fault fault)))
 
-pub sizes_reports : {left : Option (List ℕ)} {input : SourceCounts} {before : CallStreams} {out out' err err' : SinkState} (n : ℕ) (answer given : Answer)
-    → is_done answer ≡ true → RunEndsAtFirst answer before (call_streams left input out err) → Reports usage [] before.errors err answer
+pub sizes_reports : {files : StoreState} {left : Option (List ℕ)} {input : SourceCounts} {before : CallStreams} {out out' err err' : SinkState} (n : ℕ) (answer given : Answer)
+    → is_done answer ≡ true → RunEndsAtFirst answer before (call_streams files left input out err) → Reports usage [] before.errors err answer
     → PutsSizes n given out out' err err' → Reports usage [] before.errors err' given
 sizes_reports {before = before} {err = err} n answer given e ends reports (sizes_put same put kept) =
     let there : Reports usage [] before.errors err given = subst (Reports usage [] before.errors err) (done_of answer e ∙ sym same) reports in
     subst (λ (sink : SinkState). Reports usage [] before.errors sink given) (sym kept) there
-sizes_reports {left} {input} {before} {out} {out'} {err} {err'} n answer given e ends reports (sizes_broken fault same leads own) =
+sizes_reports {files} {left} {input} {before} {out} {out'} {err} {err'} n answer given e ends reports (sizes_broken fault same leads own) =
     let run = same ∙ as_run fault in
-    rw run (fault_reports before (call_streams left input out' err) err' (run_fault fault)
-    (ends_behind left input before out out' err fault (sizes_line n) (counts_kept answer e ends) leads) (some_reported answer e reports) (rw run at own))
+    rw run (fault_reports before (call_streams files left input out' err) err' (run_fault fault)
+    (ends_behind files left input before out out' err fault (sizes_line n) (counts_kept answer e ends) leads) (some_reported answer e reports) (rw run at own))
 
 -- How a run was over, whatever the input tells
 
@@ -263,15 +280,16 @@ put_over tables launch number before after Faults.Failed = tt
 put_over tables launch number before after Faults.NoMemory = tt
 
 -- one that was done, with the line of the sizes behind it
-pub sizes_over : {out out' err err' : SinkState} (tables : Tables) (launch : Launch) (left : Option (List ℕ)) (input : SourceCounts)
-    (before : CallStreams) (n : ℕ) (answer given : Answer) → is_done answer ≡ true → IsOver tables launch None answer before (call_streams left input out err)
-    → PutsSizes n given out out' err err' → IsOver tables launch (Some n) given before (call_streams left input out' err')
-sizes_over {out} {out'} {err} tables launch left input before n answer given e over (sizes_put same put kept) =
-    let there : WasOver tables launch None Done before (call_streams left input out err) = rw (done_of answer e) at over in
+pub sizes_over : {out out' err err' : SinkState} (tables : Tables) (launch : Launch) (files : StoreState) (left : Option (List ℕ)) (input : SourceCounts)
+    (before : CallStreams) (n : ℕ) (answer given : Answer) → is_done answer ≡ true → IsOver tables launch None answer before
+    (call_streams files left input out err)
+    → PutsSizes n given out out' err err' → IsOver tables launch (Some n) given before (call_streams files left input out' err')
+sizes_over {out} {out'} {err} tables launch files left input before n answer given e over (sizes_put same put kept) =
+    let there : WasOver tables launch None Done before (call_streams files left input out err) = rw (done_of answer e) at over in
     rw (same, kept) (record {
       report = there.report;
       calls = there.calls;
       output = subst (λ (text : List ℕ). Gains before.output.held out'.held (text ++ sizes_line n)) (append-nil (output_in there.report.now.history))
           (gains_then there.output put.gains);
     })
-sizes_over tables launch left input before n answer given e over (sizes_broken fault same leads own) = rw same (put_over _ _ _ _ _ fault)
+sizes_over tables launch files left input before n answer given e over (sizes_broken fault same leads own) = rw same (put_over _ _ _ _ _ fault)

@@ -31,7 +31,7 @@ use Rattle.icont_units.specs.Units.{Member, FromSource, FromUcode, FilesCome, Lo
 use Rattle.icont_units.proofs.ShortTexts.{and_intro}
 use Rattle.icont_units.proofs.SomeLoading.{AreSpelled, KeepRules, some_come, some_generated, some_load}
 use Rattle.icont_units.proofs.SoundMembers.{Each, OfAll}
-use Rattle.icont_top.specs.Job.{Job, Plan, Plans, IsPlanned, RefusesCommand, IsJob, run_launch}
+use Rattle.icont_top.specs.Job.{Job, Plan, Plans, IsPlanned, RefusesCommand, IsJob, run_launch, image_file, with_image}
 use Rattle.icont_top.specs.Programs.{Links, linked_code, first_ucode, files_of, with_file, RunsBy, Behaves}
 use Rattle.icont_top.proofs.LinkingRules.{faults_are_rules}
 
@@ -165,7 +165,9 @@ module _ (is_joinable : UnitRead → Bool) (laws : Laws is_joinable) where
         → IsPlanned words files plan members (linked_code members) → (run : Option Run) → plan.run ≡ run → (job : Job) × IsJob words files left job
     with_run plan members sound rules verified is None e = (_, IsJob.writes plan members (linked_code members) is e)
     with_run plan members sound rules verified is (Some run) e =
-        let seen = some_behaves members (run_launch run left) sound rules verified in (_, IsJob.runs plan members (linked_code members) run seen.0 is e seen.1)
+        let found = with_image (image_file plan.image members (linked_code members)) files in
+        let seen = some_behaves members (run_launch run left found) sound rules verified in
+        (_, IsJob.runs plan members (linked_code members) run seen.0 is e seen.1)
 
     with_linking : (plan : Plan) (members : List Member) → Each (IsSound is_joinable) members → Plans words files plan (Ok members) → Linking members
         → (job : Job) × IsJob words files left job

@@ -1,22 +1,20 @@
 -- What the call comes to, of what its parts come to.
 use Rattle.std.proofs.Common.{◌≡◌, ◌⊎◌, inl, inr, ℕ, true, false, List, [], Option, None, Some, IfSome, Result, Ok, Err, Bor, refl, sym, ap, ◌∙◌, subst, true≢false}
 use Rattle.std.specs.Str.{is_utf8}
-use Rattle.icn_host.specs.FileMaps.{FileMap}
+use Rattle.icn_host.specs.FileMaps.{FileMap, StoreState}
 use Rattle.icn_host.specs.Sinks.{SinkState}
 use Rattle.icn_host.specs.Sources.{SourceCounts}
 use Rattle.icn_answer.specs.declared.answer.Answer.{Answer}
 use Rattle.icn_answer.specs.declared.answer.Answer.TheVariants.{NoMemory}
 use Rattle.icn_answer.specs.Answers.{IsFault, IsAbsence}
-use Rattle.icn_answer.specs.FilesRead.{FilesState, files_state}
 use Rattle.icn_run_answer.specs.CountCauses.{EndsAtFirst}
 use Rattle.icn_answer.specs.Refusing.{PutsItsLine as PutsRefusal}
 use Rattle.icn_run_answer.specs.Reporting.{Reports}
-use Rattle.icn_run_answer.specs.ToldObjects.{CallObjects, call_objects}
 use Rattle.icn_answer.proofs.FaultCounts.{no_cause, unmoved, unwanted}
 use Rattle.icn_answer.proofs.ToldContent.{if_some_intro}
 use Rattle.icn_run_answer.proofs.CountCauses.{refused_ends, absence_of}
 use Rattle.icn_run_answer.proofs.Reports.{reports_of}
-use Rattle.icn_streams.specs.Handed.{call_streams}
+use Rattle.icn_streams.specs.Handed.{CallStreams, call_streams}
 use Rattle.icn_verify.specs.ShapeLaws.{HaveOneFault, HaveNoFault}
 use Rattle.icont_words.specs.declared.words.Task.{Task as TaskHeld}
 use Rattle.icont_words.specs.declared.words.WordsFault.{WordsFault}
@@ -49,17 +47,17 @@ names_asked words task given items e is = subst (λ (names : List (Bor (List ℕ
 
 -- What was done
 
-module _ (words : List (List ℕ)) (answer : Answer) (before after : CallObjects) where
+module _ (words : List (List ℕ)) (answer : Answer) (before after : CallStreams) where
   -- where the files tell what they hold
   abbrev DoneBy : Option FileMap → Type 0
   DoneBy held = IfSome held (λ files. IsDone words files answer before after)
 
   pub outcome_of : (held : Option FileMap) → DoneBy held
-      → IfSome held (λ files. IfSome before.streams.left (λ left. AnswersCommand words files left answer before after))
+      → IfSome held (λ files. IfSome before.left (λ left. AnswersCommand words files left answer before after))
   outcome_of None is = tt
   outcome_of (Some files) is = is.outcome
 
-  pub headline_of : (held : Option FileMap) → DoneBy held → HasWritten answer → IfSome held (λ files. HoldsWritten words files after.files.held)
+  pub headline_of : (held : Option FileMap) → DoneBy held → HasWritten answer → IfSome held (λ files. HoldsWritten words files answer after.files.held)
   headline_of None is written = tt
   headline_of (Some files) is written = is.headline written
 
@@ -71,7 +69,7 @@ module _ (words : List (List ℕ)) (answer : Answer) (before after : CallObjects
   written_of None is = tt
   written_of (Some files) is = is.leaves
 
-  pub ran_of : (held : Option FileMap) → DoneBy held → IfSome held (λ files. RunsAsAsked words files answer before.streams after.streams)
+  pub ran_of : (held : Option FileMap) → DoneBy held → IfSome held (λ files. RunsAsAsked words files answer before after)
   ran_of None is = tt
   ran_of (Some files) is = is.ran
 
@@ -130,18 +128,17 @@ module _ (words : List (List ℕ)) (fault : WordsFault) (answer given : Answer) 
   line_again : PutsRefusal usage [] (words_answer fault) before after given
   line_again = subst (λ (a : Answer). PutsRefusal usage [] a before after given) same line
 
-  pub words_done : (held : FilesState) (left : Option (List ℕ)) (input : SourceCounts) (out : SinkState)
+  pub words_done : (held : StoreState) (left : Option (List ℕ)) (input : SourceCounts) (out : SinkState)
       → (let found : Result TaskHeld WordsFault = Err fault in IsReading words found)
-      → IfSome held.held (λ files. IsDone words files given (call_objects held (call_streams left input out before))
-      (call_objects held (call_streams left input out after)))
+      → IfSome held.held (λ files. IsDone words files given (call_streams held left input out before)
+      (call_streams held left input out after))
   words_done held left input out is =
       if_some_intro held.held _ (λ files told. refused_done (words_answer fault) given held held left input out before after
       (words_no_image fault) (words_no_write fault) (words_no_read fault) (words_asked fault is) refl line_again)
 
-  pub words_end : (held : Option FileMap) (faults wants absences : ℕ) (input : SourceCounts) (left : Option (List ℕ)) (out : SinkState)
-      → EndsAtFirst given (IsAbsence given) (call_objects (files_state held faults wants absences) (call_streams left input out before))
-      (call_objects (files_state held faults wants absences) (call_streams left input out after))
-  words_end held faults wants absences input left out =
+  pub words_end : (held : StoreState) (input : SourceCounts) (left : Option (List ℕ)) (out : SinkState)
+      → EndsAtFirst given (IsAbsence given) (call_streams held left input out before) (call_streams held left input out after)
+  words_end held input left out =
       refused_ends (words_answer fault) given (words_no_write fault) (words_no_read fault) (unmoved (words_no_file fault)) unwanted
       (no_cause (words_no_absence fault)) (absence_of (words_answer fault) given line_again) line_again
 

@@ -6,11 +6,10 @@ use Rattle.icn_streams.specs.Handed.{CallStreams}
 use Rattle.icn_running.specs.Reported.{ending_seen}
 use Rattle.icn_answer.specs.declared.answer.Answer.{Answer}
 use Rattle.icn_answer.specs.declared.answer.Answer.TheVariants.{Wrote, Ran, Refused, Command, Missing, BadUcode, BadImage, FileFault, ReadFault, WriteFault, NoMemory}
-use Rattle.icn_run_answer.specs.ToldObjects.{CallObjects}
 use Rattle.icont_words.specs.Words.{Run}
 use Rattle.icont_units.specs.Units.{Member}
 use Rattle.icont_top.specs.Answered.{IsAnswered}
-use Rattle.icont_top.specs.Job.{IsPlanned, Plan, run_launch}
+use Rattle.icont_top.specs.Job.{IsPlanned, Plan, image_file, run_launch, with_image}
 use Rattle.icont_top.specs.Outcomes.{HasWritten, HoldsWritten, LeavesFiles, AnswersCommand}
 use Rattle.icont_top.specs.Running.{WasOver}
 
@@ -19,7 +18,8 @@ abbrev pub RunsAsAsked : List (List ℕ) → FileMap → Answer → CallStreams 
 RunsAsAsked words files (Ran ending) before after = (plan : Plan) × ((members : List Member)
     × ((tables : Tables) × ((run : Run) × (IsPlanned words files plan members tables
     × ((plan.run ≡ Some run)
-    × WasOver tables (run_launch run []) plan.number (ending_seen ending) before after)))))
+    × WasOver tables (run_launch run [] (with_image (image_file plan.image members tables) files))
+    plan.number (ending_seen ending) before after)))))
 RunsAsAsked words files Wrote before after = ⊤
 RunsAsAsked words files (Refused file line rule) before after = ⊤
 RunsAsAsked words files (Command kind) before after = ⊤
@@ -33,9 +33,9 @@ RunsAsAsked words files NoMemory before after = ⊤
 
 -- what the words and these files ask for was done and is answered, or a fault is, and what was written is there
 pub record IsDone (words : List (List ℕ)) (files : FileMap) (answer : Answer)
-    (before after : CallObjects) : Type 0 where
-  pub outcome : IfSome before.streams.left (λ left. AnswersCommand words files left answer before after)
-  pub headline : HasWritten answer → HoldsWritten words files after.files.held
+    (before after : CallStreams) : Type 0 where
+  pub outcome : IfSome before.left (λ left. AnswersCommand words files left answer before after)
+  pub headline : HasWritten answer → HoldsWritten words files answer after.files.held
   pub leaves : LeavesFiles words files answer before.files after.files
   pub answered : IsAnswered words files answer
-  pub ran : RunsAsAsked words files answer before.streams after.streams
+  pub ran : RunsAsAsked words files answer before after

@@ -3,7 +3,7 @@ use Rattle.std.specs.Prelude.{◌≡◌, ℕ, List, [], ◌∷◌, ◌++◌, map
 use Rattle.std.specs.List.{flat_map}
 use Rattle.icn_host.specs.FileMaps.{FileMap}
 use Rattle.icn_value.specs.Limited.{Bounds, default_limits}
-use Rattle.icn_value.specs.Store.{errors_in, output_in, readings_in}
+use Rattle.icn_value.specs.Store.{errors_in, output_in, readings_in, with_file, writings_in}
 use Rattle.icn_code.specs.Codes.{Tables}
 use Rattle.icn_image.specs.Spelling.{image_of}
 use Rattle.icn_defs.specs.Running.{Ending, Done, Exit, Errored, AtBound, Launch, Observation, launch_of}
@@ -22,6 +22,10 @@ use Rattle.icont_top.specs.Usage.{usage}
 pub record WrittenFile : Type 0 where
   pub name : List ℕ
   pub bytes : List ℕ
+
+-- a name and what it holds, as a file that is written
+abbrev pub as_written : List ℕ × List ℕ → WrittenFile
+as_written text = record { name = text.0; bytes = text.1 }
 
 -- the answer, the files that are written, in their order, the input left after it, and what is added to the output and to the error
 -- output
@@ -49,11 +53,11 @@ abbrev pub files_job : List WrittenFile → List ℕ → Job
 files_job written left =
     record { answer = Wrote; written = written; left = left; readings = 0; output = []; errors = [] }
 
--- the image was written, and then the program ran, behind which this was put on the output
+-- the image was written, and then the program ran, which wrote files of its own, behind which this was put on the output
 abbrev pub run_job : WrittenFile → Observation → List ℕ → Job
 run_job image seen behind = record {
   answer = Ran (ending_held seen.ending);
-  written = image ∷ [];
+  written = image ∷ map as_written (writings_in seen.outside.history);
   left = seen.outside.left;
   readings = readings_in seen.outside.history;
   output = output_in seen.outside.history ++ behind;
@@ -61,10 +65,6 @@ run_job image seen behind = record {
 }
 
 -- Files that are written
-
--- a name and what it holds, as a file that is written
-abbrev pub as_written : List ℕ × List ℕ → WrittenFile
-as_written text = record { name = text.0; bytes = text.1 }
 
 -- the two texts of each unit, in the order of the units
 abbrev pub ucode_files : List Member → List WrittenFile
@@ -89,9 +89,13 @@ image_file name members tables = record { name = image_name name members; bytes 
 abbrev pub bounds_with : ℕ → Bounds
 bounds_with turns = record default_limits { turns = turns }
 
--- with these arguments and this input, under this bound of turns and the other limits that stand where none are said
-abbrev pub run_launch : Run → List ℕ → Launch
-run_launch run left = launch_of run.arguments (bounds_with run.turns) left
+-- with these arguments, this input and these files, under this bound of turns and the other limits that stand where none are said
+abbrev pub run_launch : Run → List ℕ → FileMap → Launch
+run_launch run left files = launch_of run.arguments (bounds_with run.turns) left files
+
+-- the files once the image is written, which the program finds as it begins
+abbrev pub with_image : WrittenFile → FileMap → FileMap
+with_image image files = with_file image.name image.bytes files
 
 -- The program of a number
 
@@ -161,6 +165,6 @@ pub data IsJob (words : List (List ℕ)) (files : FileMap) (left : List ℕ) : J
       → IsJob words files left (files_job (image_file plan.image members tables ∷ []) left)
   runs : (plan : Plan) (members : List Member) (tables : Tables) (run : Run) (seen : Observation)
       → IsPlanned words files plan members tables → plan.run ≡ Some run
-      → Behaves members (run_launch run left) seen
+      → Behaves members (run_launch run left (with_image (image_file plan.image members tables) files)) seen
       → IsJob words files left
       (run_job (image_file plan.image members tables) seen (behind plan.number seen.ending))

@@ -4,10 +4,11 @@ use Rattle.std.specs.Map.{update}
 use Rattle.std.specs.Str.{bytes_eq}
 use Rattle.icn_profile.specs.Numbers.{most_bytes_of_image}
 use Rattle.icn_host.specs.Counts.{raised_count}
-use Rattle.icn_host.specs.FileMaps.{FileMap, Follows, IsLeftBehind}
+use Rattle.icn_host.specs.FileMaps.{FileMap, Follows, IsLeftBehind, StoreState}
 use Rattle.icn_host.specs.Puts.{FailsPutting, Puts, RunsShort}
 use Rattle.icn_host.specs.Sinks.{Gains, SinkState}
-use Rattle.icn_value.specs.Store.{errors_in, output_in, readings_in}
+use Rattle.icn_value.specs.Store.{errors_in, outside_of, output_in, readings_in}
+use Rattle.icn_defs.specs.Interruptions.{HoldsMap}
 use Rattle.icn_code.specs.Codes.{Tables}
 use Rattle.icn_defs.specs.Running.{Done, Launch, Observation}
 use Rattle.icn_unit.specs.UnitTexts.{decls_text, procs_text}
@@ -23,17 +24,16 @@ use Rattle.icn_running.specs.Runs.{EndsAtFirst, LeavesBy}
 use Rattle.icn_answer.specs.declared.answer.Answer.{Answer}
 use Rattle.icn_answer.specs.declared.answer.Answer.TheVariants.{Wrote, Ran, Refused, Command, Missing, BadUcode, BadImage, FileFault, ReadFault, WriteFault, NoMemory}
 use Rattle.icn_answer.specs.Answers.{IsFault}
-use Rattle.icn_answer.specs.FilesRead.{FilesState}
 use Rattle.icn_answer.specs.TornFiles.{IsTornFault}
 use Rattle.icn_run_answer.specs.CountCauses.{EndsBehind}
-use Rattle.icn_run_answer.specs.FaultAnswers.{of_run}
+use Rattle.icn_run_answer.specs.FaultAnswers.{IsOfRun, of_run}
 use Rattle.icn_answer.specs.Lines.{fault_line}
-use Rattle.icn_run_answer.specs.ToldObjects.{CallObjects, with_errors}
+use Rattle.icn_run_answer.specs.ToldObjects.{with_errors}
 use Rattle.icont_words.specs.Words.{Run}
 use Rattle.icont_units.specs.Generated.{sizes_line}
 use Rattle.icont_units.specs.Units.{Member, unit_of}
 use Rattle.icont_top.specs.Programs.{Behaves}
-use Rattle.icont_top.specs.Job.{IsJob, IsPlanned, AsksForUnits, Job, Plan, WrittenFile, image_file, run_launch, ucode_files}
+use Rattle.icont_top.specs.Job.{IsJob, IsPlanned, AsksForUnits, Job, Plan, WrittenFile, image_file, run_launch, ucode_files, with_image}
 
 -- Files that are written
 
@@ -57,13 +57,13 @@ pub record WritesPart (before after : Option FileMap) (written : List WrittenFil
       × ((q : List ℕ) → new q ≡ update bytes_eq (written_over old whole) torn.name content q))
 
 -- the job was done
-pub record Completes (job : Job) (answer : Answer) (before after : CallObjects) : Type 0 where
+pub record Completes (job : Job) (answer : Answer) (before after : CallStreams) : Type 0 where
   pub answered : answer ≡ job.answer
   pub files : WritesAll before.files.held after.files.held job.written
-  pub left : after.streams.left ≡ Some job.left
-  pub calls : after.streams.counts.calls ≡ raised_count before.streams.counts.calls job.readings
-  pub output : Gains before.streams.output.held after.streams.output.held job.output
-  pub errors : Gains before.streams.errors.held after.streams.errors.held job.errors
+  pub left : after.left ≡ Some job.left
+  pub calls : after.counts.calls ≡ raised_count before.counts.calls job.readings
+  pub output : Gains before.output.held after.output.held job.output
+  pub errors : Gains before.errors.held after.errors.held job.errors
 
 -- What the words ask to be written, of files that break no rule
 pub data AreWritten (words : List (List ℕ)) (files : FileMap) : List WrittenFile → Type 0 where
@@ -90,22 +90,25 @@ IsIdleFault IsJobOf NoMemory before between =
     (between ≡ before)
     ⊎ ((job : Job) × IsJobOf job × (job.written ≡ []) × RunsShort before between job.errors)
 
--- What a fault leaves of a program that is run with this input: all is said of what is observed of it, as each program comes to an end.
-pub record ProgramBrokenOff (members : List Member) (run : Run) (left : List ℕ) (fault : RunFault)
-    (before after : CallStreams) : Type 0 where
+-- What a fault leaves of a program that is run with this input and these files: all is said of what is observed of it, as each program comes to an
+-- end.
+pub record ProgramBrokenOff (members : List Member) (run : Run) (left : List ℕ) (files : FileMap)
+    (fault : RunFault) (before after : CallStreams) : Type 0 where
   pub seen : Observation
-  pub behaves : Behaves members (run_launch run left) seen
-  pub leaves : LeavesBy fault left seen before after
+  pub behaves : Behaves members (run_launch run left files) seen
+  pub leaves : LeavesBy fault (outside_of left files) seen before after
 
 -- what a put may be stopped by
 abbrev pub StopsPut : RunFault → Type 0
 StopsPut RunFaults.ReadFault = ⊥
 StopsPut RunFaults.WriteFault = Unit {0}
+StopsPut RunFaults.FileFault = ⊥
 StopsPut RunFaults.NoMemory = Unit {0}
 
 -- What a put that was stopped leaves of the line of the sizes, behind a program that was done.
 pub record LeavesBehind (number : ℕ) (seen : Observation) (before after : CallStreams) : Type 0 where
   pub done : seen.ending ≡ Done
+  pub files : HoldsMap before.files.held after.files.held seen.outside.files
   pub input : after.left ≡ Some seen.outside.left
   pub calls : after.counts.calls ≡ raised_count before.counts.calls (readings_in seen.outside.history)
   pub count : ℕ
@@ -114,38 +117,38 @@ pub record LeavesBehind (number : ℕ) (seen : Observation) (before after : Call
   pub errors : Gains before.errors.held after.errors.held (errors_in seen.outside.history)
 
 -- The program of a number was done, and the line of its sizes was put in part behind its output.
-pub record BrokenBehind (members : List Member) (run : Run) (number : ℕ) (left : List ℕ)
+pub record BrokenBehind (members : List Member) (run : Run) (number : ℕ) (left : List ℕ) (files : FileMap)
     (before after : CallStreams) : Type 0 where
   pub seen : Observation
-  pub behaves : Behaves members (run_launch run left) seen
+  pub behaves : Behaves members (run_launch run left files) seen
   pub leaves : LeavesBehind number seen before after
 
 -- nothing was done: the outside failed, or memory was wanting, before anything was
 pub record EndsIdle (words : List (List ℕ)) (files : FileMap) (left : List ℕ) (answer : Answer)
-    (before after : CallObjects) : Type 0 where
+    (before after : CallStreams) : Type 0 where
   pub between : SinkState
   pub files_stay : after.files.held ≡ before.files.held
-  pub input_stays : after.streams.left ≡ before.streams.left
-  pub counts_stay : after.streams.counts ≡ before.streams.counts
-  pub output_stays : after.streams.output.held ≡ before.streams.output.held
-  pub cause : IsIdleFault (IsJob words files left) answer before.streams.errors between
-  pub line : Puts between after.streams.errors (fault_line answer)
+  pub input_stays : after.left ≡ before.left
+  pub counts_stay : after.counts ≡ before.counts
+  pub output_stays : after.output.held ≡ before.output.held
+  pub cause : IsIdleFault (IsJob words files left) answer before.errors between
+  pub line : Puts between after.errors (fault_line answer)
 
 -- a file could not be written whole, since the store failed or wanted memory
 pub record EndsTorn (words : List (List ℕ)) (files : FileMap) (left : List ℕ) (answer : Answer)
-    (before after : CallObjects) : Type 0 where
+    (before after : CallStreams) : Type 0 where
   pub written : List WrittenFile
   pub cause : IsTornFault answer before.files after.files
   pub asked : AreWritten words files written
   pub part : WritesPart before.files.held after.files.held written
-  pub input_stays : after.streams.left ≡ before.streams.left
-  pub counts_stay : after.streams.counts ≡ before.streams.counts
-  pub output_stays : after.streams.output.held ≡ before.streams.output.held
-  pub line : Puts before.streams.errors after.streams.errors (fault_line answer)
+  pub input_stays : after.left ≡ before.left
+  pub counts_stay : after.counts ≡ before.counts
+  pub output_stays : after.output.held ≡ before.output.held
+  pub line : Puts before.errors after.errors (fault_line answer)
 
--- the image was written, and its run broke off
+-- the image was written, and its run broke off, which found it among the files
 pub record EndsBroken (words : List (List ℕ)) (files : FileMap) (left : List ℕ) (answer : Answer)
-    (before after : CallObjects) : Type 0 where
+    (before after : CallStreams) : Type 0 where
   pub plan : Plan
   pub members : List Member
   pub tables : Tables
@@ -154,15 +157,16 @@ pub record EndsBroken (words : List (List ℕ)) (files : FileMap) (left : List �
   pub between : CallStreams
   pub asked : IsPlanned words files plan members tables
   pub runs : plan.run ≡ Some run
-  pub image : WritesAll before.files.held after.files.held (image_file plan.image members tables ∷ [])
   pub answered : answer ≡ of_run stopped
-  pub first : EndsAtFirst {A = Ending} (Err stopped) before.streams between
-  pub broken : ProgramBrokenOff members run left stopped before.streams between
-  pub line : EndsBehind answer between after.streams
+  pub first : EndsAtFirst {A = Ending} (Err stopped) before between
+  pub broken : ProgramBrokenOff members run left (with_image (image_file plan.image members tables) files)
+      stopped
+      before between
+  pub line : EndsBehind answer between after
 
 -- the image was written and its run ended; the line of sizes behind it could not be put
 pub record EndsBrokenBehind (words : List (List ℕ)) (files : FileMap) (left : List ℕ) (answer : Answer)
-    (before after : CallObjects) : Type 0 where
+    (before after : CallStreams) : Type 0 where
   pub plan : Plan
   pub members : List Member
   pub tables : Tables
@@ -173,18 +177,18 @@ pub record EndsBrokenBehind (words : List (List ℕ)) (files : FileMap) (left : 
   pub asked : IsPlanned words files plan members tables
   pub runs : plan.run ≡ Some run
   pub numbered : plan.number ≡ Some number
-  pub image : WritesAll before.files.held after.files.held (image_file plan.image members tables ∷ [])
   pub stops : StopsPut stopped
   pub answered : answer ≡ of_run stopped
-  pub first : EndsAtFirst {A = Ending} (Err stopped) before.streams (with_errors between after.streams)
-  pub broken : BrokenBehind members run number left before.streams (with_errors between after.streams)
-  pub line : Puts between after.streams.errors (fault_line answer)
+  pub first : EndsAtFirst {A = Ending} (Err stopped) before (with_errors between after)
+  pub broken : BrokenBehind members run number left (with_image (image_file plan.image members tables) files)
+      before (with_errors between after)
+  pub line : Puts between after.errors (fault_line answer)
 
 -- What a fault leaves, told apart by the answer, with its own line behind, as far as the error output took it. Nothing was done but that a
--- refusal's line may be begun; or a file could not be written whole, since the store failed or wanted memory; or the image was written, and the program was broken off as it ran,
--- or the line behind its output was.
+-- refusal's line may be begun; or a file could not be written whole, since the store failed or wanted memory; or the image was written, and the
+-- program was broken off as it ran, or the line behind its output was.
 pub data EndsByFault (words : List (List ℕ)) (files : FileMap) (left : List ℕ) (answer : Answer)
-    (before after : CallObjects) : Type 0 where
+    (before after : CallStreams) : Type 0 where
   idle : EndsIdle words files left answer before after → EndsByFault words files left answer before after
   torn : EndsTorn words files left answer before after → EndsByFault words files left answer before after
   broke : EndsBroken words files left answer before after → EndsByFault words files left answer before after
@@ -193,7 +197,7 @@ pub data EndsByFault (words : List (List ℕ)) (files : FileMap) (left : List �
 
 -- the job was done, or a fault is answered
 pub data AnswersCommand (words : List (List ℕ)) (files : FileMap) (left : List ℕ) (answer : Answer)
-    (before after : CallObjects) : Type 0 where
+    (before after : CallStreams) : Type 0 where
   done : (job : Job) → IsJob words files left job → Completes job answer before after
       → AnswersCommand words files left answer before after
   fault : IsFault answer → EndsByFault words files left answer before after
@@ -219,30 +223,19 @@ IsUnwritten ReadFault = ⊥
 IsUnwritten WriteFault = Unit {0}
 IsUnwritten NoMemory = Unit {0}
 
--- an answer that may come where all files were written: that they were, or of a run, or a fault of it
-abbrev pub IsBehindFiles : Answer → Type 0
-IsBehindFiles Wrote = Unit {0}
-IsBehindFiles (Ran ending) = Unit {0}
-IsBehindFiles (Refused file line rule) = ⊥
-IsBehindFiles (Command kind) = ⊥
-IsBehindFiles (Missing name) = ⊥
-IsBehindFiles (BadUcode name rule) = ⊥
-IsBehindFiles (BadImage rule) = ⊥
-IsBehindFiles FileFault = ⊥
-IsBehindFiles ReadFault = Unit {0}
-IsBehindFiles WriteFault = Unit {0}
-IsBehindFiles NoMemory = Unit {0}
-
 -- What a call leaves of the files, whatever the input tells, told apart by the answer: they are as they were; or all that is asked for was
--- written; or some first ones were, and perhaps a part of the next, since the store failed or wanted memory.
+-- written; or some first ones were, and perhaps a part of the next, since the store failed or wanted memory; or the program was run, which may
+-- write files of its own: what it writes is said where the input tells too.
 pub data LeavesFiles (words : List (List ℕ)) (files : FileMap) (answer : Answer)
-    (before after : FilesState) : Type 0 where
+    (before after : StoreState) : Type 0 where
   left_alone : IsUnwritten answer → after.held ≡ before.held → LeavesFiles words files answer before after
-  all_written : (written : List WrittenFile) → AreWritten words files written → IsBehindFiles answer
-      → WritesAll before.held after.held written
-      → LeavesFiles words files answer before after
+  all_written : (written : List WrittenFile) → AreWritten words files written → answer ≡ Wrote
+      → WritesAll before.held after.held written → LeavesFiles words files answer before after
   part_written : (written : List WrittenFile) → AreWritten words files written
       → IsTornFault answer before after → WritesPart before.held after.held written
+      → LeavesFiles words files answer before after
+  by_run : (plan : Plan) (members : List Member) (tables : Tables) (run : Run) → IsOfRun answer
+      → IsPlanned words files plan members tables → plan.run ≡ Some run
       → LeavesFiles words files answer before after
 
 -- where the words and the files ask for files to be written, they were, or a fault is answered
@@ -271,12 +264,14 @@ IsReadBack member =
 abbrev pub HoldsNow : Option FileMap → WrittenFile → Type 0
 HoldsNow after written = (held : FileMap) × (after ≡ Some held) × (held written.name ≡ Some written.bytes)
 
--- What an answer that files were written says: the texts of each unit are there; or the image of the program is.
-pub data HoldsWritten (words : List (List ℕ)) (files : FileMap) (after : Option FileMap) : Type 0 where
+-- What an answer that files were written says: the texts of each unit are there; or the image of the program is. Where the program was run, it
+-- found the image there as it began, and may have written that name itself.
+pub data HoldsWritten (words : List (List ℕ)) (files : FileMap) (answer : Answer)
+    (after : Option FileMap) : Type 0 where
   ucode : (members : List Member) → AsksForUnits words files (Ok members)
       → WritesAll (Some files) after (ucode_files members) → All IsReadBack members
-      → HoldsWritten words files after
+      → HoldsWritten words files answer after
   image : (plan : Plan) (members : List Member) (tables : Tables) → IsPlanned words files plan members tables
-      → HoldsNow after (image_file plan.image members tables)
+      → (answer ≡ Wrote → HoldsNow after (image_file plan.image members tables))
       → IsImage members (image_file plan.image members tables).bytes
-      → HoldsWritten words files after
+      → HoldsWritten words files answer after

@@ -7,6 +7,7 @@ use Rattle.icn_host.specs.Puts.{LeadsBy, Puts, PutsAll}
 use Rattle.icn_host.specs.Sinks.{Gains, SinkState}
 use Rattle.icn_code.specs.Codes.{Tables}
 use Rattle.icn_value.specs.Store.{errors_in, output_in, readings_in}
+use Rattle.icn_defs.specs.Interruptions.{HoldsMap}
 use Rattle.icn_defs.specs.Running.{Launch, Observation, Ending as SeenEnding}
 use Rattle.icn_defs.specs.declared.ending.Ending.{Ending}
 use Rattle.icn_defs.specs.declared.ending.Ending.TheVariants as Endings
@@ -73,6 +74,7 @@ pub data PutsSizes (number : ℕ) (answer : Answer) (out out' err err' : SinkSta
 pub data HasRun (tables : Tables) (launch : Launch) (number : Option ℕ) (answer : Answer)
     (before after : CallStreams) : Type 0 where
   has_ended : (seen : Observation) → RunsFlat tables launch seen → answer ≡ Ran (ending_held seen.ending)
+      → HoldsMap before.files.held after.files.held seen.outside.files
       → after.left ≡ Some seen.outside.left
       → after.counts.calls ≡ raised_count before.counts.calls (readings_in seen.outside.history)
       → Gains before.output.held after.output.held

@@ -1,7 +1,7 @@
 // What is made of the files that the words name.
 ghost use Rattle.std.specs.Prelude.{◌≡◌, ⊤, IfErr, IfOk, IfSome, IsErrOf};
 ghost use Rattle.icn_answer.specs.Answers.{IsErrOfAbsence};
-ghost use Rattle.icn_answer.specs.FilesRead.{ReadsFiles, files_state};
+ghost use Rattle.icn_answer.specs.FilesRead.{ReadsFiles};
 ghost use Rattle.icn_host.specs.Counts.{Rose};
 ghost use Rattle.icont_units.specs.FetchedFiles.{IsOfLoading, files_seen};
 ghost use Rattle.icont_units.specs.Files.{files_named, sources_in};
@@ -38,11 +38,9 @@ pub fn translate_sources<F: Files>(
     names: &[&str],
     files: &mut F,
 ) -> Result<Vec<FileToWrite>, Answer>
-    ensures translated { IfSome (F.held files.old) (λ held. AreTranslated held (texts names.now) result) }
+    ensures translated { IfSome (F.state files.old).held (λ held. AreTranslated held (texts names.now) result) }
     ensures others { IfErr result IsOfLoading }
-    ensures reads { ReadsFiles result (IsErrOfAbsence result)
-        (files_state (F.held files.old) (F.faults files.old) (F.wants files.old) (F.absences files.old))
-        (files_state (F.held files.new) (F.faults files.new) (F.wants files.new) (F.absences files.new)) }
+    ensures reads { ReadsFiles result (IsErrOfAbsence result) (F.state files.old) (F.state files.new) }
 {
     one_spelling();
     let Ok(sources) = named_sources(alloc, names) else {
@@ -76,15 +74,13 @@ pub fn linked_program<'a, F: Files>(
     names: &[&'a str],
     files: &mut F,
 ) -> Result<LoadedProgram<'a>, Answer>
-    ensures program { IfSome (F.held files.old)
+    ensures program { IfSome (F.state files.old).held
         (λ held. IsProgramOf (Load held (files_named (texts names.now)))
-        (Rose (F.absences files.old) (F.absences files.new)) result) }
+        (Rose (F.state files.old).counts.absences (F.state files.new).counts.absences) result) }
     ensures missed { IfErr result
-        (λ answer. TellsLink answer (F.absences files.old) (F.absences files.new)) }
+        (λ answer. TellsLink answer (F.state files.old).counts.absences (F.state files.new).counts.absences) }
     ensures others { IfErr result IsOfProgram }
-    ensures reads { ReadsFiles result (IsErrOfAbsence result)
-        (files_state (F.held files.old) (F.faults files.old) (F.wants files.old) (F.absences files.old))
-        (files_state (F.held files.new) (F.faults files.new) (F.wants files.new) (F.absences files.new)) }
+    ensures reads { ReadsFiles result (IsErrOfAbsence result) (F.state files.old) (F.state files.new) }
 {
     one_spelling();
     let Ok(named) = files_named(alloc, names) else {

@@ -7,13 +7,13 @@ ghost use Rattle.icn_host.specs.Puts.{LeadsBy, PutsAll};
 ghost use Rattle.icn_host.specs.Sinks.{SinkState};
 ghost use Rattle.icn_host.specs.Sources.{SourceCounts};
 ghost use Rattle.icn_code.specs.CodeTables.{tables_of};
-ghost use Rattle.icn_streams.specs.Handed.{call_streams};
+ghost use Rattle.icn_value.specs.Store.{outside_of};
+ghost use Rattle.icn_streams.specs.Handed.{TellsOutside, call_streams};
 ghost use Rattle.icn_answer.specs.Answers.{IsFault, IsRefusal, IsAbsence, IsCommand};
-ghost use Rattle.icn_answer.specs.FilesRead.{files_state};
 ghost use Rattle.icn_run_answer.specs.CountCauses.{EndsAtFirst, RunEndsAtFirst};
+ghost use Rattle.icn_running.specs.Runs.{TakesSome};
 ghost use Rattle.icn_run_answer.specs.FaultAnswers.{IsOfRun};
 ghost use Rattle.icn_run_answer.specs.Reporting.{LineStands, Reports};
-ghost use Rattle.icn_run_answer.specs.ToldObjects.{call_objects};
 ghost use Rattle.icont_words.specs.Asking.{run_seen};
 ghost use Rattle.icont_words.specs.Words.{Translate, Link, Generate, Asks, ComeTo};
 ghost use Rattle.icn_text.specs.WordTexts.{texts};
@@ -74,35 +74,33 @@ pub fn icont_main<F: Files, I: Source, O: Sink, E: Sink>(
     err: &mut E,
 ) -> Answer
     // Where the files and the input tell their content, the job was done, or a fault is answered and leaves a part of it.
-    ensures outcome { IfSome (F.held files.old)
+    ensures outcome { IfSome (F.state files.old).held
         (λ held. IfSome (I.left input.old)
         (λ left. AnswersCommand (map string_bytes words.now) held left result
-        (call_objects
-        (files_state (F.held files.old) (F.faults files.old) (F.wants files.old) (F.absences files.old))
-        (call_streams (I.left input.old) (I.counts input.old) (O.state out.old) (E.state err.old)))
-        (call_objects
-        (files_state (F.held files.new) (F.faults files.new) (F.wants files.new) (F.absences files.new))
-        (call_streams (I.left input.new) (I.counts input.new) (O.state out.new) (E.state err.new))))) }
+        (call_streams (F.state files.old) (I.left input.old) (I.counts input.old) (O.state out.old)
+        (E.state err.old))
+        (call_streams (F.state files.new) (I.left input.new) (I.counts input.new) (O.state out.new)
+        (E.state err.new)))) }
 
     // Where no count of faults rose, no fault is answered but want of memory.
-    ensures faultless { ¬ Rose (F.faults files.old) (F.faults files.new)
+    ensures faultless { ¬ Rose (F.state files.old).counts.faults (F.state files.new).counts.faults
         → ¬ Rose (I.counts input.old).faults (I.counts input.new).faults
         → ¬ Rose (O.state out.old).faults (O.state out.new).faults
         → ¬ Rose (E.state err.old).faults (E.state err.new).faults
         → IsFault result → result ≡ Answer.NoMemory }
 
     // Where an image was written, its name holds the image of a code that `iconx` takes, and whose runs are what the program is: for
-    // sources alone what they mean. Where units were, their texts are there, and are read back as these units.
+    // sources alone what they mean. Where units were, their texts are there, and are read back as these units. A program that was run
+    // found its image there as it began, and may have written that name itself.
     ensures headline { HasWritten result
-        → IfSome (F.held files.old)
-        (λ held. HoldsWritten (map string_bytes words.now) held (F.held files.new)) }
+        → IfSome (F.state files.old).held
+        (λ held. HoldsWritten (map string_bytes words.now) held result (F.state files.new).held) }
 
-    // Where the files tell their content, it is said which of them changed, whatever the input tells; one is in part only where the
-    // store failed or wanted memory.
-    ensures written { IfSome (F.held files.old)
-        (λ held. LeavesFiles (map string_bytes words.now) held result
-        (files_state (F.held files.old) (F.faults files.old) (F.wants files.old) (F.absences files.old))
-        (files_state (F.held files.new) (F.faults files.new) (F.wants files.new) (F.absences files.new))) }
+    // Where the files tell their content, it is said which of them changed, whatever the input tells, but for those that a program
+    // wrote that was run: these are said by `outcome`. One is in part only where the store failed or wanted memory.
+    ensures written { IfSome (F.state files.old).held
+        (λ held. LeavesFiles (map string_bytes words.now) held result (F.state files.old)
+        (F.state files.new)) }
 
     // Every other answer's line was put, whatever the files and the input tell; of a run, its report behind what it put.
     ensures line { IsFault result
@@ -113,30 +111,30 @@ pub fn icont_main<F: Files, I: Source, O: Sink, E: Sink>(
     ensures fault_line { Reports usage [] (E.state err.old) (E.state err.new) result }
 
     // Where the files tell their content, the answer is the one that the words and the files ask for, or a fault.
-    ensures answered { IfSome (F.held files.old)
+    ensures answered { IfSome (F.state files.old).held
         (λ held. IsAnswered (map string_bytes words.now) held result) }
 
     // Where the words and the files ask for files to be written, they were, or a fault is answered.
-    ensures complete { IfSome (F.held files.old)
+    ensures complete { IfSome (F.state files.old).held
         (λ held. IsComplete (map string_bytes words.now) held result) }
 
     // The words are faulty, and in which way, exactly where they come to that.
     ensures command { IsCommanded (map string_bytes words.now) result }
 
     // Where the first linked file that is not there has a name that is a text, that is told only where that count rose.
-    ensures links { IfSome (F.held files.old) (λ held. MissesText (map string_bytes words.now) held
-        → IsFault result ⊎ Rose (F.absences files.old) (F.absences files.new)) }
+    ensures links { IfSome (F.state files.old).held (λ held. MissesText (map string_bytes words.now) held
+        → IsFault result ⊎ Rose (F.state files.old).counts.absences (F.state files.new).counts.absences) }
 
     // Where it is told that a linked file is not there, whatever the files tell, there are members that are refused so: for the first
     // file that they miss the count of absences rose, or its name is no text. Nothing is said of the program of a number.
     ensures missed { (AsksForNumber (map string_bytes words.now) → ⊥)
-        → TellsLink result (F.absences files.old) (F.absences files.new) }
+        → TellsLink result (F.state files.old).counts.absences (F.state files.new).counts.absences }
 
     // Where the input tells what it has left, some first bytes of it were taken, whatever the files tell.
     ensures input { IfSome (I.left input.old) (λ left. LosesSome left (I.left input.new)) }
 
     // A refusal leaves the files, the output and the input as they were; an answer that no run gives leaves the output and the input so.
-    ensures untouched { IsRefusal result → F.held files.new ≡ F.held files.old }
+    ensures untouched { IsRefusal result → (F.state files.new).held ≡ (F.state files.old).held }
     ensures refused { (IsOfRun result → ⊥) → (O.state out.new).held ≡ (O.state out.old).held }
     ensures unread { (IsOfRun result → ⊥) → I.left input.new ≡ I.left input.old }
     ensures uncalled { (IsOfRun result → ⊥) → I.counts input.new ≡ I.counts input.old }
@@ -145,18 +143,18 @@ pub fn icont_main<F: Files, I: Source, O: Sink, E: Sink>(
     // settled at want of memory, and at the put of the fault's own line. An absence (also of an included file) is answered only
     // where that count rose. The store wanted memory once at most, and only where that is answered and nothing else was counted.
     ensures causes { EndsAtFirst result (IsAbsence result)
-        (call_objects
-        (files_state (F.held files.old) (F.faults files.old) (F.wants files.old) (F.absences files.old))
-        (call_streams (I.left input.old) (I.counts input.old) (O.state out.old) (E.state err.old)))
-        (call_objects
-        (files_state (F.held files.new) (F.faults files.new) (F.wants files.new) (F.absences files.new))
-        (call_streams (I.left input.new) (I.counts input.new) (O.state out.new) (E.state err.new))) }
+        (call_streams (F.state files.old) (I.left input.old) (I.counts input.old) (O.state out.old)
+        (E.state err.old))
+        (call_streams (F.state files.new) (I.left input.new) (I.counts input.new) (O.state out.new)
+        (E.state err.new)) }
 
     // Where the files tell their content, and a run is answered, it is the run that words and files ask for, whatever the input tells.
-    ensures ran { IfSome (F.held files.old)
+    ensures ran { IfSome (F.state files.old).held
         (λ held. RunsAsAsked (map string_bytes words.now) held result
-        (call_streams (I.left input.old) (I.counts input.old) (O.state out.old) (E.state err.old))
-        (call_streams (I.left input.new) (I.counts input.new) (O.state out.new) (E.state err.new))) }
+        (call_streams (F.state files.old) (I.left input.old) (I.counts input.old) (O.state out.old)
+        (E.state err.old))
+        (call_streams (F.state files.new) (I.left input.new) (I.counts input.new) (O.state out.new)
+        (E.state err.new))) }
 
     // Where nothing was pending on the outputs before, and no fault is answered, nothing is pending behind.
     ensures settled { LeavesSettled result (pending_bytes (O.pending out.old) (E.pending err.old))
@@ -195,26 +193,18 @@ fn translate_answer<F: Files, E: Sink>(
 ) -> Answer
     ensures done { (words : List (List ℕ)) (left : Option (List ℕ)) (input : SourceCounts) (out : SinkState)
         → ComeTo words (Asks (Translate (texts names.now)))
-        → IfSome (F.held files.old) (λ held.
+        → IfSome (F.state files.old).held (λ held.
         IsDone words held result
-        (call_objects
-        (files_state (F.held files.old) (F.faults files.old) (F.wants files.old) (F.absences files.old))
-        (call_streams left input out (E.state err.old)))
-        (call_objects
-        (files_state (F.held files.new) (F.faults files.new) (F.wants files.new) (F.absences files.new))
-        (call_streams left input out (E.state err.new)))) }
+        (call_streams (F.state files.old) left input out (E.state err.old))
+        (call_streams (F.state files.new) left input out (E.state err.new))) }
     ensures reported { Reports usage [] (E.state err.old) (E.state err.new) result }
-    ensures missed { TellsLink result (F.absences files.old) (F.absences files.new) }
+    ensures missed { TellsLink result (F.state files.old).counts.absences (F.state files.new).counts.absences }
     ensures command { IsCommand result → ⊥ }
-    ensures untouched { IsRefusal result → F.held files.new ≡ F.held files.old }
+    ensures untouched { IsRefusal result → (F.state files.new).held ≡ (F.state files.old).held }
     ensures causes { (left : Option (List ℕ)) (input : SourceCounts) (out : SinkState)
         → EndsAtFirst result (IsAbsence result)
-        (call_objects
-        (files_state (F.held files.old) (F.faults files.old) (F.wants files.old) (F.absences files.old))
-        (call_streams left input out (E.state err.old)))
-        (call_objects
-        (files_state (F.held files.new) (F.faults files.new) (F.wants files.new) (F.absences files.new))
-        (call_streams left input out (E.state err.new))) }
+        (call_streams (F.state files.old) left input out (E.state err.old))
+        (call_streams (F.state files.new) left input out (E.state err.new)) }
     ensures settled { (out : ℕ) → LeavesSettled result (pending_bytes out (E.pending err.old))
         (pending_bytes out (E.pending err.new)) }
 {
@@ -229,24 +219,17 @@ fn texts_answer<F: Files, E: Sink>(texts: &[FileToWrite], files: &mut F, err: &m
     ensures done { (words : List (List ℕ)) (held : FileMap) (members : List Member) (left : Option (List ℕ))
         (input : SourceCounts) (out : SinkState)
         → AsksForUnits words held (Ok members)
-        → texts_seen texts.now ≡ ucode_files members → All IsReadBack members → F.held files.old ≡ Some held
+        → texts_seen texts.now ≡ ucode_files members → All IsReadBack members → (F.state files.old).held
+        ≡ Some held
         → IsDone words held result
-        (call_objects
-        (files_state (F.held files.old) (F.faults files.old) (F.wants files.old) (F.absences files.old))
-        (call_streams left input out (E.state err.old)))
-        (call_objects
-        (files_state (F.held files.new) (F.faults files.new) (F.wants files.new) (F.absences files.new))
-        (call_streams left input out (E.state err.new))) }
+        (call_streams (F.state files.old) left input out (E.state err.old))
+        (call_streams (F.state files.new) left input out (E.state err.new)) }
     ensures reported { Reports usage [] (E.state err.old) (E.state err.new) result }
     ensures no_refusal { IsRefusal result → ⊥ }
     ensures causes { (left : Option (List ℕ)) (input : SourceCounts) (out : SinkState)
         → EndsAtFirst result (IsAbsence result)
-        (call_objects
-        (files_state (F.held files.old) (F.faults files.old) (F.wants files.old) (F.absences files.old))
-        (call_streams left input out (E.state err.old)))
-        (call_objects
-        (files_state (F.held files.new) (F.faults files.new) (F.wants files.new) (F.absences files.new))
-        (call_streams left input out (E.state err.new))) }
+        (call_streams (F.state files.old) left input out (E.state err.old))
+        (call_streams (F.state files.new) left input out (E.state err.new)) }
     ensures settled { (out : ℕ) → LeavesSettled result (pending_bytes out (E.pending err.old))
         (pending_bytes out (E.pending err.new)) }
 {
@@ -270,27 +253,24 @@ fn link_answer<F: Files, I: Source, O: Sink, E: Sink>(
     ensures done { (words : List (List ℕ))
         → ComeTo words (Asks (Link (texts names.now) (option_map (λ name. name.now) image.entry)
         (option_map run_seen run.entry)))
-        → IfSome (F.held files.old) (λ held. IsDone words held result
-        (call_objects
-        (files_state (F.held files.old) (F.faults files.old) (F.wants files.old) (F.absences files.old))
-        (call_streams (I.left input.old) (I.counts input.old) (O.state out.old) (E.state err.old)))
-        (call_objects
-        (files_state (F.held files.new) (F.faults files.new) (F.wants files.new) (F.absences files.new))
-        (call_streams (I.left input.new) (I.counts input.new) (O.state out.new) (E.state err.new)))) }
+        → IfSome (F.state files.old).held (λ held. IsDone words held result
+        (call_streams (F.state files.old) (I.left input.old) (I.counts input.old) (O.state out.old)
+        (E.state err.old))
+        (call_streams (F.state files.new) (I.left input.new) (I.counts input.new) (O.state out.new)
+        (E.state err.new))) }
     ensures reported { Reports usage [] (E.state err.old) (E.state err.new) result }
-    ensures links { IfSome (F.held files.old)
+    ensures links { IfSome (F.state files.old).held
         (λ held. (members : List Member) → Load held (files_named (texts names.now)) (Ok members)
-        → IsFault result ⊎ IsTold (Rose (F.absences files.old) (F.absences files.new)) members) }
-    ensures missed { TellsLink result (F.absences files.old) (F.absences files.new) }
+        → IsFault result ⊎ IsTold
+        (Rose (F.state files.old).counts.absences (F.state files.new).counts.absences) members) }
+    ensures missed { TellsLink result (F.state files.old).counts.absences (F.state files.new).counts.absences }
     ensures command { IsCommand result → ⊥ }
-    ensures untouched { IsRefusal result → F.held files.new ≡ F.held files.old }
+    ensures untouched { IsRefusal result → (F.state files.new).held ≡ (F.state files.old).held }
     ensures leaves { LeavesOutside result
-        (call_objects
-        (files_state (F.held files.old) (F.faults files.old) (F.wants files.old) (F.absences files.old))
-        (call_streams (I.left input.old) (I.counts input.old) (O.state out.old) (E.state err.old)))
-        (call_objects
-        (files_state (F.held files.new) (F.faults files.new) (F.wants files.new) (F.absences files.new))
-        (call_streams (I.left input.new) (I.counts input.new) (O.state out.new) (E.state err.new))) }
+        (call_streams (F.state files.old) (I.left input.old) (I.counts input.old) (O.state out.old)
+        (E.state err.old))
+        (call_streams (F.state files.new) (I.left input.new) (I.counts input.new) (O.state out.new)
+        (E.state err.new)) }
     ensures settled { LeavesSettled result (pending_bytes (O.pending out.old) (E.pending err.old))
         (pending_bytes (O.pending out.new) (E.pending err.new)) }
 {
@@ -318,23 +298,19 @@ fn generate_answer<F: Files, I: Source, O: Sink, E: Sink>(
     err: &mut E,
 ) -> Answer
     ensures done { (words : List (List ℕ)) → ComeTo words (Asks (Generate number turns))
-        → IfSome (F.held files.old) (λ held. IsDone words held result
-        (call_objects
-        (files_state (F.held files.old) (F.faults files.old) (F.wants files.old) (F.absences files.old))
-        (call_streams (I.left input.old) (I.counts input.old) (O.state out.old) (E.state err.old)))
-        (call_objects
-        (files_state (F.held files.new) (F.faults files.new) (F.wants files.new) (F.absences files.new))
-        (call_streams (I.left input.new) (I.counts input.new) (O.state out.new) (E.state err.new)))) }
+        → IfSome (F.state files.old).held (λ held. IsDone words held result
+        (call_streams (F.state files.old) (I.left input.old) (I.counts input.old) (O.state out.old)
+        (E.state err.old))
+        (call_streams (F.state files.new) (I.left input.new) (I.counts input.new) (O.state out.new)
+        (E.state err.new))) }
     ensures reported { Reports usage [] (E.state err.old) (E.state err.new) result }
     ensures command { IsCommand result → ⊥ }
-    ensures untouched { IsRefusal result → F.held files.new ≡ F.held files.old }
+    ensures untouched { IsRefusal result → (F.state files.new).held ≡ (F.state files.old).held }
     ensures leaves { LeavesOutside result
-        (call_objects
-        (files_state (F.held files.old) (F.faults files.old) (F.wants files.old) (F.absences files.old))
-        (call_streams (I.left input.old) (I.counts input.old) (O.state out.old) (E.state err.old)))
-        (call_objects
-        (files_state (F.held files.new) (F.faults files.new) (F.wants files.new) (F.absences files.new))
-        (call_streams (I.left input.new) (I.counts input.new) (O.state out.new) (E.state err.new))) }
+        (call_streams (F.state files.old) (I.left input.old) (I.counts input.old) (O.state out.old)
+        (E.state err.old))
+        (call_streams (F.state files.new) (I.left input.new) (I.counts input.new) (O.state out.new)
+        (E.state err.new)) }
     ensures settled { LeavesSettled result (pending_bytes (O.pending out.old) (E.pending err.old))
         (pending_bytes (O.pending out.new) (E.pending err.new)) }
 {
@@ -366,22 +342,18 @@ fn image_answer<F: Files, I: Source, O: Sink, E: Sink>(
 ) -> Answer
     ensures done { (words : List (List ℕ)) (held : FileMap) (members : List Member)
         → IsReadyProgram words held members plan.entry program.now
-        → F.held files.old ≡ Some held → IsDone words held result
-        (call_objects
-        (files_state (F.held files.old) (F.faults files.old) (F.wants files.old) (F.absences files.old))
-        (call_streams (I.left input.old) (I.counts input.old) (O.state out.old) (E.state err.old)))
-        (call_objects
-        (files_state (F.held files.new) (F.faults files.new) (F.wants files.new) (F.absences files.new))
-        (call_streams (I.left input.new) (I.counts input.new) (O.state out.new) (E.state err.new))) }
+        → (F.state files.old).held ≡ Some held → IsDone words held result
+        (call_streams (F.state files.old) (I.left input.old) (I.counts input.old) (O.state out.old)
+        (E.state err.old))
+        (call_streams (F.state files.new) (I.left input.new) (I.counts input.new) (O.state out.new)
+        (E.state err.new)) }
     ensures reported { Reports usage [] (E.state err.old) (E.state err.new) result }
     ensures no_refusal { IsRefusal result → ⊥ }
     ensures leaves { LeavesOutside result
-        (call_objects
-        (files_state (F.held files.old) (F.faults files.old) (F.wants files.old) (F.absences files.old))
-        (call_streams (I.left input.old) (I.counts input.old) (O.state out.old) (E.state err.old)))
-        (call_objects
-        (files_state (F.held files.new) (F.faults files.new) (F.wants files.new) (F.absences files.new))
-        (call_streams (I.left input.new) (I.counts input.new) (O.state out.new) (E.state err.new))) }
+        (call_streams (F.state files.old) (I.left input.old) (I.counts input.old) (O.state out.old)
+        (E.state err.old))
+        (call_streams (F.state files.new) (I.left input.new) (I.counts input.new) (O.state out.new)
+        (E.state err.new)) }
     ensures settled { LeavesSettled result (pending_bytes (O.pending out.old) (E.pending err.old))
         (pending_bytes (O.pending out.new) (E.pending err.new)) }
 {
@@ -395,6 +367,7 @@ fn image_answer<F: Files, I: Source, O: Sink, E: Sink>(
                 &program.made.code,
                 asked,
                 plan.number,
+                files,
                 input,
                 out,
                 err,
@@ -406,31 +379,47 @@ fn image_answer<F: Files, I: Source, O: Sink, E: Sink>(
 }
 
 // Runs the code of a program, and puts the line of the sizes behind it, where it is the program of a number and was done.
-fn ran_answer<I: Source, O: Sink, E: Sink>(
+fn ran_answer<F: Files, I: Source, O: Sink, E: Sink>(
     alloc: Global,
     code: &Verified,
     run: Run,
     number: Option<u16>,
+    files: &mut F,
     input: &mut I,
     out: &mut O,
     err: &mut E,
 ) -> Answer
-    ensures ran { IfSome (I.left input.old)
-        (λ left. HasRun (tables_of code.now.code) (run_launch (run_seen run.entry) left) number result
-        (call_streams (I.left input.old) (I.counts input.old) (O.state out.old) (E.state err.old))
-        (call_streams (I.left input.new) (I.counts input.new) (O.state out.new) (E.state err.new))) }
-    ensures over { IsOver (tables_of code.now.code) (run_launch (run_seen run.entry) []) number result
-        (call_streams (I.left input.old) (I.counts input.old) (O.state out.old) (E.state err.old))
-        (call_streams (I.left input.new) (I.counts input.new) (O.state out.new) (E.state err.new)) }
+    ensures ran { (left : List ℕ) (held : FileMap) → TellsOutside
+        (call_streams (F.state files.old) (I.left input.old) (I.counts input.old) (O.state out.old)
+        (E.state err.old))
+        (outside_of left held)
+        → HasRun (tables_of code.now.code) (run_launch (run_seen run.entry) left held) number result
+        (call_streams (F.state files.old) (I.left input.old) (I.counts input.old) (O.state out.old)
+        (E.state err.old))
+        (call_streams (F.state files.new) (I.left input.new) (I.counts input.new) (O.state out.new)
+        (E.state err.new)) }
+    ensures over { (held : FileMap)
+        → IsOver (tables_of code.now.code) (run_launch (run_seen run.entry) [] held) number result
+        (call_streams (F.state files.old) (I.left input.old) (I.counts input.old) (O.state out.old)
+        (E.state err.old))
+        (call_streams (F.state files.new) (I.left input.new) (I.counts input.new) (O.state out.new)
+        (E.state err.new)) }
+    ensures taken { TakesSome
+        (call_streams (F.state files.old) (I.left input.old) (I.counts input.old) (O.state out.old)
+        (E.state err.old))
+        (call_streams (F.state files.new) (I.left input.new) (I.counts input.new) (O.state out.new)
+        (E.state err.new)) }
     ensures reported { Reports usage [] (E.state err.old) (E.state err.new) result }
     ensures others { IsOfRun result }
     ensures causes { RunEndsAtFirst result
-        (call_streams (I.left input.old) (I.counts input.old) (O.state out.old) (E.state err.old))
-        (call_streams (I.left input.new) (I.counts input.new) (O.state out.new) (E.state err.new)) }
+        (call_streams (F.state files.old) (I.left input.old) (I.counts input.old) (O.state out.old)
+        (E.state err.old))
+        (call_streams (F.state files.new) (I.left input.new) (I.counts input.new) (O.state out.new)
+        (E.state err.new)) }
     ensures settled { LeavesSettled result (pending_bytes (O.pending out.old) (E.pending err.old))
         (pending_bytes (O.pending out.new) (E.pending err.new)) }
 {
-    let answer = run_answer(alloc, code, run, input, out, err);
+    let answer = run_answer(alloc, code, run, files, input, out, err);
     match number {
         Some(number) => {
             if is_done(&answer) {
@@ -444,26 +433,42 @@ fn ran_answer<I: Source, O: Sink, E: Sink>(
 }
 
 // Runs the code of a program, under its bound of turns and the other limits that stand where none are said.
-fn run_answer<I: Source, O: Sink, E: Sink>(
+fn run_answer<F: Files, I: Source, O: Sink, E: Sink>(
     alloc: Global,
     code: &Verified,
     asked: Run,
+    files: &mut F,
     input: &mut I,
     out: &mut O,
     err: &mut E,
 ) -> Answer
-    ensures ran { IfSome (I.left input.old)
-        (λ left. IsRanOrBroken (tables_of code.now.code) (run_launch (run_seen asked.entry) left) result
-        (call_streams (I.left input.old) (I.counts input.old) (O.state out.old) (E.state err.old))
-        (call_streams (I.left input.new) (I.counts input.new) (O.state out.new) (E.state err.new))) }
-    ensures over { IsOver (tables_of code.now.code) (run_launch (run_seen asked.entry) []) None result
-        (call_streams (I.left input.old) (I.counts input.old) (O.state out.old) (E.state err.old))
-        (call_streams (I.left input.new) (I.counts input.new) (O.state out.new) (E.state err.new)) }
+    ensures ran { (left : List ℕ) (held : FileMap) → TellsOutside
+        (call_streams (F.state files.old) (I.left input.old) (I.counts input.old) (O.state out.old)
+        (E.state err.old))
+        (outside_of left held)
+        → IsRanOrBroken (tables_of code.now.code) (run_launch (run_seen asked.entry) left held) result
+        (call_streams (F.state files.old) (I.left input.old) (I.counts input.old) (O.state out.old)
+        (E.state err.old))
+        (call_streams (F.state files.new) (I.left input.new) (I.counts input.new) (O.state out.new)
+        (E.state err.new)) }
+    ensures over { (held : FileMap)
+        → IsOver (tables_of code.now.code) (run_launch (run_seen asked.entry) [] held) None result
+        (call_streams (F.state files.old) (I.left input.old) (I.counts input.old) (O.state out.old)
+        (E.state err.old))
+        (call_streams (F.state files.new) (I.left input.new) (I.counts input.new) (O.state out.new)
+        (E.state err.new)) }
+    ensures taken { TakesSome
+        (call_streams (F.state files.old) (I.left input.old) (I.counts input.old) (O.state out.old)
+        (E.state err.old))
+        (call_streams (F.state files.new) (I.left input.new) (I.counts input.new) (O.state out.new)
+        (E.state err.new)) }
     ensures reported { Reports usage [] (E.state err.old) (E.state err.new) result }
     ensures others { IsOfRun result }
     ensures causes { RunEndsAtFirst result
-        (call_streams (I.left input.old) (I.counts input.old) (O.state out.old) (E.state err.old))
-        (call_streams (I.left input.new) (I.counts input.new) (O.state out.new) (E.state err.new)) }
+        (call_streams (F.state files.old) (I.left input.old) (I.counts input.old) (O.state out.old)
+        (E.state err.old))
+        (call_streams (F.state files.new) (I.left input.new) (I.counts input.new) (O.state out.new)
+        (E.state err.new)) }
     ensures settled { LeavesSettled result (pending_bytes (O.pending out.old) (E.pending err.old))
         (pending_bytes (O.pending out.new) (E.pending err.new)) }
 {
@@ -474,7 +479,16 @@ fn run_answer<I: Source, O: Sink, E: Sink>(
         cells: standard.cells,
         levels: standard.levels,
     };
-    match run::<RawStack<Cell>, I, O, E>(alloc, code, asked.arguments, limits, input, out, err) {
+    match run::<RawStack<Cell>, F, I, O, E>(
+        alloc,
+        code,
+        asked.arguments,
+        limits,
+        files,
+        input,
+        out,
+        err,
+    ) {
         Ok(ending) => Answer::Ran(ending),
         Err(fault) => broken_answer(fault, out, err),
     }

@@ -78,11 +78,15 @@ fn push_texts(
 ///
 /// The store's, at the first text that could not be written whole: those before it were.
 pub fn write_all<F: Files>(files: &mut F, texts: &[FileToWrite]) -> Result<(), Fault>
-    ensures all { OnOk result (WritesAll (F.held files.old) (F.held files.new) (texts_seen texts.now)) }
-    ensures part { OnErr result (WritesPart (F.held files.old) (F.held files.new) (texts_seen texts.now)) }
-    ensures cause { CountsOnce (F.faults files.old) (F.faults files.new) (IsErrOf result Fault.Failed) }
-    ensures want { CountsOnce (F.wants files.old) (F.wants files.new) (IsErrOf result Fault.NoMemory) }
-    ensures absences { F.absences files.new ≡ F.absences files.old }
+    ensures all { OnOk result
+        (WritesAll (F.state files.old).held (F.state files.new).held (texts_seen texts.now)) }
+    ensures part { OnErr result
+        (WritesPart (F.state files.old).held (F.state files.new).held (texts_seen texts.now)) }
+    ensures cause { CountsOnce (F.state files.old).counts.faults (F.state files.new).counts.faults
+        (IsErrOf result Fault.Failed) }
+    ensures want { CountsOnce (F.state files.old).counts.wants (F.state files.new).counts.wants
+        (IsErrOf result Fault.NoMemory) }
+    ensures absences { (F.state files.new).counts.absences ≡ (F.state files.old).counts.absences }
 {
     let mut rest = texts;
     while let Some((text, others)) = rest.split_first() {

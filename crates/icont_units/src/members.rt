@@ -5,7 +5,7 @@ ghost use Rattle.icont_units.specs.FetchedFiles.{file_seen, files_seen, IsOfLoad
 ghost use Rattle.icont_units.specs.Files.{source, ucode};
 ghost use Rattle.icont_units.specs.Loading.{AreSought, IsCome, IsLoaded, IsRead, AreSoundMembers, HoldsMembers, kept_of, with_source, with_ucode};
 ghost use Rattle.icn_answer.specs.Answers.{IsErrOfAbsence};
-ghost use Rattle.icn_answer.specs.FilesRead.{ReadsFiles, files_state};
+ghost use Rattle.icn_answer.specs.FilesRead.{ReadsFiles};
 ghost use Rattle.icont_units.specs.Units.{Member};
 
 use crate::files::{CommandFile, FileKind};
@@ -38,14 +38,13 @@ pub fn load<F: Files>(
     named: &[CommandFile<'_>],
     files: &mut F,
 ) -> Result<Members, Answer>
-    ensures loaded { IfSome (F.held files.old) (λ held. IsLoaded held (files_seen named.now) result) }
+    ensures loaded { IfSome (F.state files.old).held (λ held. IsLoaded held (files_seen named.now) result) }
     ensures sound { IfOk result AreSoundMembers }
     ensures absent { IfOk result
-        (λ members. AreSought (F.absences files.old) (F.absences files.new) (kept_of members).units) }
+        (λ members. AreSought (F.state files.old).counts.absences (F.state files.new).counts.absences
+        (kept_of members).units) }
     ensures others { IfErr result IsOfLoading }
-    ensures reads { ReadsFiles result (IsErrOfAbsence result)
-        (files_state (F.held files.old) (F.faults files.old) (F.wants files.old) (F.absences files.old))
-        (files_state (F.held files.new) (F.faults files.new) (F.wants files.new) (F.absences files.new)) }
+    ensures reads { ReadsFiles result (IsErrOfAbsence result) (F.state files.old) (F.state files.new) }
 {
     let mut members = load_named(alloc, named, files)?;
     gather(alloc, &mut members, files)?;
@@ -62,12 +61,10 @@ pub fn load_named<F: Files>(
     named: &[CommandFile<'_>],
     files: &mut F,
 ) -> Result<Members, Answer>
-    ensures come { IfSome (F.held files.old) (λ held. IsCome held (files_seen named.now) result) }
+    ensures come { IfSome (F.state files.old).held (λ held. IsCome held (files_seen named.now) result) }
     ensures sound { IfOk result AreSoundMembers }
     ensures others { IfErr result IsOfLoading }
-    ensures reads { ReadsFiles result (IsErrOfAbsence result)
-        (files_state (F.held files.old) (F.faults files.old) (F.wants files.old) (F.absences files.old))
-        (files_state (F.held files.new) (F.faults files.new) (F.wants files.new) (F.absences files.new)) }
+    ensures reads { ReadsFiles result (IsErrOfAbsence result) (F.state files.old) (F.state files.new) }
 {
     let mut members = Members {
         units: Vec::new(alloc),
@@ -86,13 +83,12 @@ fn add_file<F: Files>(
     members: &mut Members,
     files: &mut F,
 ) -> Result<(), Answer>
-    ensures read { IfSome (F.held files.old) (λ held. (before : List Member) → HoldsMembers members.old before
+    ensures read { IfSome (F.state files.old).held
+        (λ held. (before : List Member) → HoldsMembers members.old before
         → IsRead held (file_seen file.now) before members.new result) }
     ensures sound { AreSoundMembers members.old → OnOk result (AreSoundMembers members.new) }
     ensures others { IfErr result IsOfLoading }
-    ensures reads { ReadsFiles result (IsErrOfAbsence result)
-        (files_state (F.held files.old) (F.faults files.old) (F.wants files.old) (F.absences files.old))
-        (files_state (F.held files.new) (F.faults files.new) (F.wants files.new) (F.absences files.new)) }
+    ensures reads { ReadsFiles result (IsErrOfAbsence result) (F.state files.old) (F.state files.new) }
 {
     match file.kind {
         FileKind::Source => add_source(alloc, file.base, members, files),
@@ -107,13 +103,12 @@ fn add_source<F: Files>(
     members: &mut Members,
     files: &mut F,
 ) -> Result<(), Answer>
-    ensures read { IfSome (F.held files.old) (λ held. (before : List Member) → HoldsMembers members.old before
+    ensures read { IfSome (F.state files.old).held
+        (λ held. (before : List Member) → HoldsMembers members.old before
         → IsRead held (source base.now) before members.new result) }
     ensures sound { AreSoundMembers members.old → OnOk result (AreSoundMembers members.new) }
     ensures others { IfErr result IsOfLoading }
-    ensures reads { ReadsFiles result (IsErrOfAbsence result)
-        (files_state (F.held files.old) (F.faults files.old) (F.wants files.old) (F.absences files.old))
-        (files_state (F.held files.new) (F.faults files.new) (F.wants files.new) (F.absences files.new)) }
+    ensures reads { ReadsFiles result (IsErrOfAbsence result) (F.state files.old) (F.state files.new) }
 {
     let checked = checked_source(alloc, base, files)?;
     match unit(alloc, base.as_bytes(), &checked) {
@@ -129,13 +124,12 @@ fn add_named<F: Files>(
     members: &mut Members,
     files: &mut F,
 ) -> Result<(), Answer>
-    ensures read { IfSome (F.held files.old) (λ held. (before : List Member) → HoldsMembers members.old before
+    ensures read { IfSome (F.state files.old).held
+        (λ held. (before : List Member) → HoldsMembers members.old before
         → IsRead held (ucode base.now) before members.new result) }
     ensures sound { AreSoundMembers members.old → OnOk result (AreSoundMembers members.new) }
     ensures others { IfErr result IsOfLoading }
-    ensures reads { ReadsFiles result (IsErrOfAbsence result)
-        (files_state (F.held files.old) (F.faults files.old) (F.wants files.old) (F.absences files.old))
-        (files_state (F.held files.new) (F.faults files.new) (F.wants files.new) (F.absences files.new)) }
+    ensures reads { ReadsFiles result (IsErrOfAbsence result) (F.state files.old) (F.state files.new) }
 {
     let unit = named_unit(alloc, base, files)?;
     push_ucode(members, unit)

@@ -6,7 +6,7 @@ ghost use Rattle.icn_unit.specs.UnitViews.{decl_seen};
 ghost use Rattle.icn_link.specs.FirstMentions.{with_text, with_texts};
 ghost use Rattle.icn_link.specs.LinkFaults.{base_of, unit_names};
 ghost use Rattle.icn_link.specs.Units.{units_seen};
-ghost use Rattle.icn_answer.specs.FilesRead.{ReadsFiles, files_state};
+ghost use Rattle.icn_answer.specs.FilesRead.{ReadsFiles};
 ghost use Rattle.icont_units.specs.FetchedFiles.{IsOfLinked};
 ghost use Rattle.icont_units.specs.Loading.{AreSought, MembersGrow, IsGathered, IsSought, AreSoundMembers, Knows, HoldsMembers, kept_of, texts_in, links_at};
 ghost use Rattle.icont_units.specs.Units.{IsAbsent, Member, link_in, links_in};
@@ -27,16 +27,15 @@ use std::alloc::{AllocError, Global};
 ///
 /// `BadUcode` with the first rule that the texts of a unit break, `FileFault` where the store failed, `NoMemory`.
 pub fn gather<F: Files>(alloc: Global, members: &mut Members, files: &mut F) -> Result<(), Answer>
-    ensures gathered { IfSome (F.held files.old)
+    ensures gathered { IfSome (F.state files.old).held
         (λ held. (before : List Member) → HoldsMembers members.old before
         → IsGathered held before (links_in before) members.new result) }
     ensures sound { AreSoundMembers members.old → OnOk result (AreSoundMembers members.new) }
     ensures absent { OnOk result
-        (AreSought (F.absences files.old) (F.absences files.new) (kept_of members.new).units) }
+        (AreSought (F.state files.old).counts.absences (F.state files.new).counts.absences
+        (kept_of members.new).units) }
     ensures others { IfErr result IsOfLinked }
-    ensures reads { ReadsFiles result ⊥
-        (files_state (F.held files.old) (F.faults files.old) (F.wants files.old) (F.absences files.old))
-        (files_state (F.held files.new) (F.faults files.new) (F.wants files.new) (F.absences files.new)) }
+    ensures reads { ReadsFiles result ⊥ (F.state files.old) (F.state files.new) }
 {
     let Ok(mut known) = names_of(alloc, &members.units) else {
         return Err(Answer::NoMemory);
@@ -80,17 +79,16 @@ fn gather_unit<F: Files>(
     files: &mut F,
 ) -> Result<(), Answer>
     requires { place < vec_len members.old.units }
-    ensures sought { IfSome (F.held files.old)
+    ensures sought { IfSome (F.state files.old).held
         (λ held. Knows (IsAbsent held) (kept_of members.old).units (texts_in known.old.keys)
         → IsSought held members.old members.new (links_at (kept_of members.old).units place)
         (texts_in known.new.keys) result) }
     ensures grows { OnOk result
-        (MembersGrow (F.absences files.old) (F.absences files.new) members.old members.new
+        (MembersGrow (F.state files.old).counts.absences (F.state files.new).counts.absences members.old
+        members.new
         (texts_in known.old.keys) (texts_in known.new.keys) (links_at (kept_of members.old).units place)) }
     ensures others { IfErr result IsOfLinked }
-    ensures reads { ReadsFiles result ⊥
-        (files_state (F.held files.old) (F.faults files.old) (F.wants files.old) (F.absences files.old))
-        (files_state (F.held files.new) (F.faults files.new) (F.wants files.new) (F.absences files.new)) }
+    ensures reads { ReadsFiles result ⊥ (F.state files.old) (F.state files.new) }
 {
     let Ok(bases) = linked_bases(alloc, &members.units[place].decls) else {
         return Err(Answer::NoMemory);
@@ -136,16 +134,15 @@ fn gather_bases<F: Files>(
     known: &mut IndexSet<Vec<u8>>,
     files: &mut F,
 ) -> Result<(), Answer>
-    ensures sought { IfSome (F.held files.old)
+    ensures sought { IfSome (F.state files.old).held
         (λ held. Knows (IsAbsent held) (kept_of members.old).units (texts_in known.old.keys)
         → IsSought held members.old members.new (texts_in bases.now) (texts_in known.new.keys) result) }
     ensures grows { OnOk result
-        (MembersGrow (F.absences files.old) (F.absences files.new) members.old members.new
+        (MembersGrow (F.state files.old).counts.absences (F.state files.new).counts.absences members.old
+        members.new
         (texts_in known.old.keys) (texts_in known.new.keys) (texts_in bases.now)) }
     ensures others { IfErr result IsOfLinked }
-    ensures reads { ReadsFiles result ⊥
-        (files_state (F.held files.old) (F.faults files.old) (F.wants files.old) (F.absences files.old))
-        (files_state (F.held files.new) (F.faults files.new) (F.wants files.new) (F.absences files.new)) }
+    ensures reads { ReadsFiles result ⊥ (F.state files.old) (F.state files.new) }
 {
     for base in bases {
         gather_base(alloc, base, members, known, files)?;
@@ -161,16 +158,15 @@ fn gather_base<F: Files>(
     known: &mut IndexSet<Vec<u8>>,
     files: &mut F,
 ) -> Result<(), Answer>
-    ensures sought { IfSome (F.held files.old)
+    ensures sought { IfSome (F.state files.old).held
         (λ held. Knows (IsAbsent held) (kept_of members.old).units (texts_in known.old.keys)
         → IsSought held members.old members.new (base.now ∷ []) (texts_in known.new.keys) result) }
     ensures grows { OnOk result
-        (MembersGrow (F.absences files.old) (F.absences files.new) members.old members.new
+        (MembersGrow (F.state files.old).counts.absences (F.state files.new).counts.absences members.old
+        members.new
         (texts_in known.old.keys) (texts_in known.new.keys) (base.now ∷ [])) }
     ensures others { IfErr result IsOfLinked }
-    ensures reads { ReadsFiles result ⊥
-        (files_state (F.held files.old) (F.faults files.old) (F.wants files.old) (F.absences files.old))
-        (files_state (F.held files.new) (F.faults files.new) (F.wants files.new) (F.absences files.new)) }
+    ensures reads { ReadsFiles result ⊥ (F.state files.old) (F.state files.new) }
 {
     match enter(alloc, known, base) {
         Ok(true) => add_linked(alloc, base, members, files),
@@ -186,17 +182,17 @@ fn add_linked<F: Files>(
     members: &mut Members,
     files: &mut F,
 ) -> Result<(), Answer>
-    ensures sought { IfSome (F.held files.old)
+    ensures sought { IfSome (F.state files.old).held
         (λ held. (known : List (List ℕ)) → list_any (bytes_eq base.now) known ≡ false
         → Knows (IsAbsent held) (kept_of members.old).units known
         → IsSought held members.old members.new (base.now ∷ []) (known ++ base.now ∷ []) result) }
     ensures grows { (known : List (List ℕ)) → list_any (bytes_eq base.now) known ≡ false
-        → OnOk result (MembersGrow (F.absences files.old) (F.absences files.new) members.old members.new
+        → OnOk result
+        (MembersGrow (F.state files.old).counts.absences (F.state files.new).counts.absences members.old
+        members.new
         known (known ++ base.now ∷ []) (base.now ∷ [])) }
     ensures others { IfErr result IsOfLinked }
-    ensures reads { ReadsFiles result ⊥
-        (files_state (F.held files.old) (F.faults files.old) (F.wants files.old) (F.absences files.old))
-        (files_state (F.held files.new) (F.faults files.new) (F.wants files.new) (F.absences files.new)) }
+    ensures reads { ReadsFiles result ⊥ (F.state files.old) (F.state files.new) }
 {
     match linked_unit(alloc, base, files)? {
         Some(unit) => push_ucode(members, unit),

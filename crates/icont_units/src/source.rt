@@ -4,7 +4,7 @@ ghost use Rattle.icn_tree.specs.Tokens.{tokens_of};
 ghost use Rattle.icn_decls.specs.CheckedTexts.{AreScanned};
 ghost use Rattle.icn_answer.specs.declared.answer.Answer.TheVariants.{Missing};
 ghost use Rattle.icn_answer.specs.Answers.{IsErrOfAbsence};
-ghost use Rattle.icn_answer.specs.FilesRead.{ReadsFiles, files_state};
+ghost use Rattle.icn_answer.specs.FilesRead.{ReadsFiles};
 ghost use Rattle.icont_units.specs.FetchedFiles.{AreFile, IsSource};
 ghost use Rattle.icont_units.specs.Sources.{name_at, refused_at, tokens_read, fault_answer, scan_of, source_read, IsRead, IsOfRead, IsOfTokens};
 
@@ -35,11 +35,9 @@ pub struct SourceTokens {
 /// `Missing` where it is not there, `Refused` with the first rule that it breaks, stage by stage, `FileFault` where the store failed,
 /// `NoMemory` where memory ran out.
 pub fn checked_source<F: Files>(alloc: Global, base: &str, files: &mut F) -> Result<Checked, Answer>
-    ensures comes { IfSome (F.held files.old) (λ held. IsSource held base.now result) }
+    ensures comes { IfSome (F.state files.old).held (λ held. IsSource held base.now result) }
     ensures others { IfErr result IsOfRead }
-    ensures reads { ReadsFiles result (IsErrOfAbsence result)
-        (files_state (F.held files.old) (F.faults files.old) (F.wants files.old) (F.absences files.old))
-        (files_state (F.held files.new) (F.faults files.new) (F.wants files.new) (F.absences files.new)) }
+    ensures reads { ReadsFiles result (IsErrOfAbsence result) (F.state files.old) (F.state files.new) }
 {
     let Ok(name) = name_with(alloc, base, ".icn") else {
         return Err(Answer::NoMemory);
@@ -73,12 +71,10 @@ pub fn source_tokens<F: Files>(
     name: &str,
     files: &mut F,
 ) -> Result<SourceTokens, Answer>
-    ensures read { IfSome (F.held files.old) (λ held. IsRead (source_read held name.now) result) }
+    ensures read { IfSome (F.state files.old).held (λ held. IsRead (source_read held name.now) result) }
     ensures scanned { IfOk result (λ source. AreScanned source.tokens.items) }
     ensures others { IfErr result IsOfRead }
-    ensures reads { ReadsFiles result (IsErrOfAbsence result)
-        (files_state (F.held files.old) (F.faults files.old) (F.wants files.old) (F.absences files.old))
-        (files_state (F.held files.new) (F.faults files.new) (F.wants files.new) (F.absences files.new)) }
+    ensures reads { ReadsFiles result (IsErrOfAbsence result) (F.state files.old) (F.state files.new) }
 {
     match preprocess(alloc, name, files) {
         Ok(lines) => line_tokens(alloc, lines),

@@ -3,7 +3,7 @@ ghost use Rattle.std.specs.Prelude.{◌≡◌, ◌⊎◌, ◌++◌, IfSome, IfEr
 ghost use Rattle.icn_answer.specs.declared.answer.Answer.TheVariants.{BadUcode};
 ghost use Rattle.icont_units.specs.FetchedFiles.{AreTexts, IsJudged, IsLinkedUnit, IsLost, IsNamedUnit, IsOfJudged, IsOfLinked, IsOfNamed, IsOfTexts, IsText, IsUnitOf, IsUnitOfSome};
 ghost use Rattle.icn_answer.specs.Answers.{IsErrOfAbsence};
-ghost use Rattle.icn_answer.specs.FilesRead.{ReadsFiles, files_state};
+ghost use Rattle.icn_answer.specs.FilesRead.{ReadsFiles};
 ghost use Rattle.icont_units.specs.Units.{faulty_name, is_too_long, texts_held};
 
 use crate::files::name_with;
@@ -32,12 +32,10 @@ pub struct UnitTexts {
 /// `Missing` with the name of the first text that is not there, `BadUcode` with that of the first that breaks a rule, `FileFault`
 /// where the store failed, `NoMemory` where memory ran out.
 pub fn named_unit<F: Files>(alloc: Global, base: &str, files: &mut F) -> Result<Unit, Answer>
-    ensures comes { IfSome (F.held files.old) (λ held. IsNamedUnit held base.now result) }
+    ensures comes { IfSome (F.state files.old).held (λ held. IsNamedUnit held base.now result) }
     ensures name { IsUnitOf base.now result }
     ensures others { IfErr result IsOfNamed }
-    ensures reads { ReadsFiles result (IsErrOfAbsence result)
-        (files_state (F.held files.old) (F.faults files.old) (F.wants files.old) (F.absences files.old))
-        (files_state (F.held files.new) (F.faults files.new) (F.wants files.new) (F.absences files.new)) }
+    ensures reads { ReadsFiles result (IsErrOfAbsence result) (F.state files.old) (F.state files.new) }
 {
     match both_texts(alloc, base, files) {
         Ok(texts) => unit_read(alloc, base, &texts),
@@ -55,12 +53,10 @@ pub fn linked_unit<F: Files>(
     base: &[u8],
     files: &mut F,
 ) -> Result<Option<Unit>, Answer>
-    ensures links { IfSome (F.held files.old) (λ held. IsLinkedUnit held base.now result) }
+    ensures links { IfSome (F.state files.old).held (λ held. IsLinkedUnit held base.now result) }
     ensures name { IsUnitOfSome base.now result }
     ensures others { IfErr result IsOfLinked }
-    ensures reads { ReadsFiles result (IsLost base.now result)
-        (files_state (F.held files.old) (F.faults files.old) (F.wants files.old) (F.absences files.old))
-        (files_state (F.held files.new) (F.faults files.new) (F.wants files.new) (F.absences files.new)) }
+    ensures reads { ReadsFiles result (IsLost base.now result) (F.state files.old) (F.state files.new) }
 {
     let Ok(base) = str::from_utf8(base) else {
         return Ok(None);
@@ -116,11 +112,9 @@ fn bad_ucode(alloc: Global, base: &str, second: bool, rule: Rule) -> Answer
 
 // Both texts of the unit of this base name, or the answer that the first that is not there has.
 fn both_texts<F: Files>(alloc: Global, base: &str, files: &mut F) -> Result<UnitTexts, Answer>
-    ensures texts { IfSome (F.held files.old) (λ held. AreTexts (texts_held held base.now) result) }
+    ensures texts { IfSome (F.state files.old).held (λ held. AreTexts (texts_held held base.now) result) }
     ensures others { IfErr result IsOfTexts }
-    ensures reads { ReadsFiles result (IsErrOfAbsence result)
-        (files_state (F.held files.old) (F.faults files.old) (F.wants files.old) (F.absences files.old))
-        (files_state (F.held files.new) (F.faults files.new) (F.wants files.new) (F.absences files.new)) }
+    ensures reads { ReadsFiles result (IsErrOfAbsence result) (F.state files.old) (F.state files.new) }
 {
     let first = text(alloc, base, ".u1", files)?;
     let second = text(alloc, base, ".u2", files)?;
@@ -129,12 +123,10 @@ fn both_texts<F: Files>(alloc: Global, base: &str, files: &mut F) -> Result<Unit
 
 // The text of this base name and this suffix.
 fn text<F: Files>(alloc: Global, base: &str, suffix: &str, files: &mut F) -> Result<Vec<u8>, Answer>
-    ensures text { IfSome (F.held files.old)
+    ensures text { IfSome (F.state files.old).held
         (λ held. IsText (held (base.now ++ suffix.now)) (base.now ++ suffix.now) result) }
     ensures others { IfErr result IsOfTexts }
-    ensures reads { ReadsFiles result (IsErrOfAbsence result)
-        (files_state (F.held files.old) (F.faults files.old) (F.wants files.old) (F.absences files.old))
-        (files_state (F.held files.new) (F.faults files.new) (F.wants files.new) (F.absences files.new)) }
+    ensures reads { ReadsFiles result (IsErrOfAbsence result) (F.state files.old) (F.state files.new) }
 {
     let Ok(name) = name_with(alloc, base, suffix) else {
         return Err(Answer::NoMemory);

@@ -34,6 +34,7 @@ pub run_answered : {words : List (List ℕ)} {files : FileMap} (bounds : Bounds)
     → words_reading words ≡ Asks bounds name arguments → IsLoaded (files name) name (Ok verified) → IsOfRun answer
     → IsAnswered words files answer
 run_answered bounds name arguments verified (Ran ending) e is o = ran bounds name is.0 arguments (tables_of verified.code) ending e is.1.0 is.1.1
+run_answered bounds name arguments verified FileFault e is o = fault FileFault refl
 run_answered bounds name arguments verified ReadFault e is o = fault ReadFault refl
 run_answered bounds name arguments verified WriteFault e is o = fault WriteFault refl
 run_answered bounds name arguments verified NoMemory e is o = fault NoMemory refl

@@ -1,23 +1,24 @@
 -- The run that words and files ask for.
-use Rattle.std.proofs.Common.{◌≡◌, ◌∙◌, ℕ, List, [], Ok, refl, subst, sym}
-use Rattle.icn_host.specs.FileMaps.{FileMap}
+use Rattle.std.proofs.Common.{◌≡◌, ◌∙◌, ℕ, List, [], Option, Ok, refl, subst, sym}
+use Rattle.icn_host.specs.FileMaps.{FileMap, StoreState}
 use Rattle.icn_host.specs.Sinks.{SinkState}
+use Rattle.icn_host.specs.Sources.{SourceCounts}
 use Rattle.icn_value.specs.Store.{outside_of}
 use Rattle.icn_code.specs.CodeTables.{tables_of}
 use Rattle.icn_defs.specs.Running.{Launch}
 use Rattle.icn_defs.specs.declared.ending.Ending.{Ending}
 use Rattle.icn_verify.specs.declared.verified.Verified.{Verified}
-use Rattle.icn_streams.specs.Handed.{CallStreams}
+use Rattle.icn_streams.specs.Handed.{CallStreams, call_streams}
 use Rattle.icn_running.specs.Reported.{ending_seen}
 use Rattle.icn_running.specs.Runs.{RunsOver}
 use Rattle.icn_running.specs.declared.fault.RunFault.{RunFault}
 use Rattle.icn_running.specs.declared.fault.RunFault.TheVariants as Runs
 use Rattle.icn_answer.specs.declared.answer.Answer.{Answer}
 use Rattle.icn_answer.specs.declared.answer.Answer.TheVariants.{Wrote, Ran, Refused, Command, Missing, BadUcode, BadImage, FileFault, ReadFault, WriteFault, NoMemory}
-use Rattle.icn_answer.specs.Answers.{IsFault}
+use Rattle.icn_answer.specs.Answers.{IsFault, IsRefusal}
 use Rattle.icn_answer.specs.Refusing.{PutsItsLine, put, own, write_fault, want}
 use Rattle.icn_answer.proofs.NoFaults.{ran_no_fault}
-use Rattle.icn_run_answer.specs.FaultAnswers.{of_run}
+use Rattle.icn_run_answer.specs.FaultAnswers.{IsOfRun, of_run}
 use Rattle.iconx_top.specs.Answered.{IsAnswered, fault, wrong_words, missing, bad, ran, writes, grows}
 use Rattle.iconx_top.specs.Loading.{IsLoaded}
 use Rattle.iconx_top.specs.Outcomes.{RunsAsAsked}
@@ -26,7 +27,7 @@ use Rattle.iconx_top.proofs.CallOutcomes.{run_asked}
 
 -- a run that ended
 pub run_asks : {words : List (List ℕ)} {files : FileMap} {before after : CallStreams} (launch : Launch) (name : List ℕ) (verified : Verified) (ending : Ending)
-    → words_reading words ≡ Asks launch.bounds name launch.words → launch.outside ≡ outside_of [] → IsLoaded (files name) name (Ok verified)
+    → words_reading words ≡ Asks launch.bounds name launch.words → launch.outside ≡ outside_of [] files → IsLoaded (files name) name (Ok verified)
     → RunsOver (tables_of verified.code) launch (ending_seen ending) before after → RunsAsAsked words files (Ran ending) before after
 run_asks launch name verified ending asks input loaded over =
     (tables_of verified.code, (launch, (run_asked [] launch name verified asks input loaded, over)))
@@ -36,7 +37,34 @@ pub runs_broken : (words : List (List ℕ)) (files : FileMap) (before after : Ca
     → RunsAsAsked words files (of_run stopped) before after
 runs_broken words files before after Runs.ReadFault = tt
 runs_broken words files before after Runs.WriteFault = tt
+runs_broken words files before after Runs.FileFault = tt
 runs_broken words files before after Runs.NoMemory = tt
+
+-- a refusal is an answer of no run
+pub refusal_unrun : (answer : Answer) → IsRefusal answer → IsOfRun answer → ⊥
+refusal_unrun (Ran ending) is o = is
+refusal_unrun FileFault is o = is
+refusal_unrun ReadFault is o = is
+refusal_unrun WriteFault is o = is
+refusal_unrun NoMemory is o = is
+refusal_unrun _ is o = o
+
+-- how a run was over is said of both outputs and the calls of the input alone
+pub ran_before : (words : List (List ℕ)) (files : FileMap) (was now : StoreState) (told : Option (List ℕ)) (input : SourceCounts)
+    (out errors : SinkState) (after : CallStreams) (answer : Answer) → RunsAsAsked words files answer (call_streams now told input out errors) after
+    → RunsAsAsked words files answer (call_streams was told input out errors) after
+ran_before words files was now told input out errors after (Ran ending) (tables, (launch, (asked, over))) =
+    (tables, (launch, (asked, record { report = over.report; calls = over.calls; output = over.output })))
+ran_before words files was now told input out errors after Wrote asked = tt
+ran_before words files was now told input out errors after (Refused file line rule) asked = tt
+ran_before words files was now told input out errors after (Command kind) asked = tt
+ran_before words files was now told input out errors after (Missing name) asked = tt
+ran_before words files was now told input out errors after (BadUcode name rule) asked = tt
+ran_before words files was now told input out errors after (BadImage rule) asked = tt
+ran_before words files was now told input out errors after FileFault asked = tt
+ran_before words files was now told input out errors after ReadFault asked = tt
+ran_before words files was now told input out errors after WriteFault asked = tt
+ran_before words files was now told input out errors after NoMemory asked = tt
 
 -- no run
 pub runs_unless : (words : List (List ℕ)) (files : FileMap) (before after : CallStreams) (answer : Answer) → ((ending : Ending) → answer ≡ Ran ending → ⊥)

@@ -1,6 +1,6 @@
 -- What the words and the files ask for, and what became of it.
 use Rattle.std.proofs.Common.{◌≡◌, ◌⊎◌, inl, inr, ℕ, List, [], Option, Some, Ok, Err, refl, sym, ap, ◌∙◌, subst}
-use Rattle.icn_host.specs.FileMaps.{FileMap, Follows}
+use Rattle.icn_host.specs.FileMaps.{FileMap, Follows, StoreState}
 use Rattle.icn_host.proofs.SinkSteps.{gains_nothing}
 use Rattle.icn_host.specs.Sinks.{SinkState}
 use Rattle.icn_host.specs.Sources.{SourceCounts}
@@ -8,6 +8,7 @@ use Rattle.icn_host.specs.declared.fault.Fault.TheVariants.{NoMemory as Wants}
 use Rattle.icn_host.proofs.ToldPuts.{puts_nothing}
 use Rattle.icn_host.specs.Puts.{all, LeadsBy}
 use Rattle.icn_value.specs.Store.{outside_of}
+use Rattle.icn_defs.specs.Interruptions.{TellsMap}
 use Rattle.icn_defs.specs.Running.{Launch}
 use Rattle.icn_streams.specs.Handed.{CallStreams, call_streams}
 use Rattle.icn_code.specs.Codes.{Tables}
@@ -20,13 +21,11 @@ use Rattle.icn_running.specs.Runs.{EndsAtFirst as RunEnds, IsBrokenOff, RunsTo}
 use Rattle.icn_answer.specs.declared.answer.Answer.{Answer}
 use Rattle.icn_answer.specs.declared.answer.Answer.TheVariants.{Wrote, Ran, Refused, Command, Missing, BadUcode, BadImage, FileFault, ReadFault, WriteFault, NoMemory}
 use Rattle.icn_answer.specs.Answers.{IsFault, IsAbsence}
-use Rattle.icn_answer.specs.FilesRead.{FilesState, files_state}
 use Rattle.icn_run_answer.specs.CountCauses.{EndsAtFirst, EndsBehind}
 use Rattle.icn_answer.specs.Endings.{ending_held}
 use Rattle.icn_run_answer.specs.FaultAnswers.{of_run}
 use Rattle.icn_answer.specs.Lines.{line_of}
 use Rattle.icn_answer.specs.Refusing.{PutsItsLine, own, put, want, write_fault}
-use Rattle.icn_run_answer.specs.ToldObjects.{call_objects}
 use Rattle.icn_answer.proofs.FaultCounts.{no_cause, unmoved, unwanted}
 use Rattle.icn_run_answer.proofs.CountCauses.{absence_of, broken_first, refused_ends}
 use Rattle.icn_run_answer.proofs.Endings.{held_seen}
@@ -71,10 +70,10 @@ files_stay files e e' = rw (e, e') (files, refl, λ name. refl)
 
 -- nothing was done but to put a line
 pub refused : {words : List (List ℕ)} {files : FileMap} {left : List ℕ} (name : List ℕ) (answer given : Answer)
-    (held held' : FilesState) (left' : Option (List ℕ)) (input : SourceCounts) (out before after : SinkState)
+    (held held' : StoreState) (left' : Option (List ℕ)) (input : SourceCounts) (out before after : SinkState)
     → Asked words files left name answer → (answer ≡ WriteFault → ⊥) → (answer ≡ ReadFault → ⊥) → held'.held ≡ held.held → held.held ≡ Some files
     → left' ≡ Some left → PutsItsLine usage name answer before after given
-    → AnswersCommand words files left given (call_objects held (call_streams left' input out before)) (call_objects held' (call_streams left' input out after))
+    → AnswersCommand words files left given (call_streams held left' input out before) (call_streams held' left' input out after)
 refused name answer given held held' left' input out before after (inl f) no_write no_read same e d (put n h) = absurd (n f)
 refused {files = files} {left} name answer given held held' left' input out before after (inr is) no_write no_read same e d (put n h) =
     done (refusal files left name answer) is (record {
@@ -132,21 +131,24 @@ asked_load name FileFault e is = inl refl
 asked_load name NoMemory e is = inl refl
 asked_load name _ e is = absurd is
 
--- the run of what was loaded, over this input
+-- a store that tells tells what it holds
+pub tells_all : {held : Option FileMap} {files : FileMap} → held ≡ Some files → TellsMap held files
+tells_all {files = files} e = record { told = files; is = e; same = λ name. refl }
+
+-- the run of what was loaded, over this input and these files
 pub run_asked : {words : List (List ℕ)} {files : FileMap} (left : List ℕ) (launch : Launch) (name : List ℕ) (verified : Verified)
     → words_reading words ≡ Asks launch.bounds name launch.words
-    → launch.outside ≡ outside_of left → IsLoaded (files name) name (Ok verified) → IsRun words files left (tables_of verified.code) launch
-run_asked left launch name verified e input is = record { name = name; bytes = is.0; asks = e; there = is.1.0; judged = is.1.1; input = input }
+    → launch.outside ≡ outside_of left files → IsLoaded (files name) name (Ok verified) → IsRun words files left (tables_of verified.code) launch
+run_asked left launch name verified e outside is = record { name = name; bytes = is.0; asks = e; there = is.1.0; judged = is.1.1; outside = outside }
 
 pub ran_outcome : {words : List (List ℕ)} {files : FileMap} {left : List ℕ} {before after : CallStreams} (tables : Tables) (launch : Launch) (ending : Ending)
-    (held held' : FilesState) → held.held ≡ Some files → held'.held ≡ held.held → IsRun words files left tables launch
-    → RunsTo tables launch (ending_seen ending) before after
-    → AnswersCommand words files left (Ran ending) (call_objects held before) (call_objects held' after)
-ran_outcome {files = files} tables launch ending held held' e same is (seen, (ended, (runs, ends))) =
-    done (observation files seen) (ran tables launch seen is runs)
+    → IsRun words files left tables launch → RunsTo tables launch (ending_seen ending) before after
+    → AnswersCommand words files left (Ran ending) before after
+ran_outcome tables launch ending is (seen, (ended, (runs, ends))) =
+    done (observation seen) (ran tables launch seen is runs)
     (record {
       answered = ap (λ x. Ran x) (sym (held_seen ending) ∙ ap ending_held (sym ended));
-      files = files_stay files e (same ∙ e);
+      files = ends.files.follows;
       left = ends.left;
       calls = ends.calls;
       output = ends.output;
@@ -154,10 +156,10 @@ ran_outcome {files = files} tables launch ending held held' e same is (seen, (en
     })
 
 pub broke_outcome : {words : List (List ℕ)} {files : FileMap} {left : List ℕ} {before between after : CallStreams} (tables : Tables) (launch : Launch)
-    (stopped : RunFault) (held held' : FilesState) → held'.held ≡ held.held → IsRun words files left tables launch
+    (stopped : RunFault) → IsRun words files left tables launch
     → RunEnds {A = Ending} (Err stopped) before between → IsBrokenOff tables launch stopped before between → EndsBehind (of_run stopped) between after
-    → AnswersCommand words files left (of_run stopped) (call_objects held before) (call_objects held' after)
-broke_outcome {before = before} {between} tables launch stopped held held' same is first broken behind =
+    → AnswersCommand words files left (of_run stopped) before after
+broke_outcome {before = before} {between} tables launch stopped is first broken behind =
     fault (is_run_fault stopped) (broke (record {
       stopped = stopped;
       between = between;
@@ -165,7 +167,6 @@ broke_outcome {before = before} {between} tables launch stopped held held' same 
       launch = launch;
       answered = refl;
       asked = is;
-      files_stay = same;
       first = broken_first before between stopped first;
       broken = broken;
       line = behind;
@@ -190,10 +191,9 @@ command_no_read kind e = cc
 command_no_file : (kind : ℕ) → Command kind ≡ FileFault → ⊥
 command_no_file kind e = cc
 
-pub command_ends : {held : Option FileMap} {faults wants absences : ℕ} {input : SourceCounts} {left : Option (List ℕ)} {out before after : SinkState}
+pub command_ends : {held : StoreState} {input : SourceCounts} {left : Option (List ℕ)} {out before after : SinkState}
     (kind : ℕ) (given : Answer) → PutsItsLine usage [] (Command kind) before after given
-    → EndsAtFirst given (IsAbsence given) (call_objects (files_state held faults wants absences) (call_streams left input out before))
-    (call_objects (files_state held faults wants absences) (call_streams left input out after))
+    → EndsAtFirst given (IsAbsence given) (call_streams held left input out before) (call_streams held left input out after)
 command_ends kind given refuses =
     refused_ends (Command kind) given (command_no_write kind) (command_no_read kind) (unmoved (command_no_file kind)) unwanted
     (no_cause (λ (a : IsAbsence (Command kind)). a)) (absence_of (Command kind) given refuses) refuses

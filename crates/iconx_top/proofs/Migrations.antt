@@ -4,7 +4,7 @@ use Rattle.std.specs.Str.{bytes_eq}
 use Rattle.std.specs.Map.{update}
 use Rattle.icn_host.proofs.SinkSteps.{gains_nothing}
 use Rattle.icn_host.specs.Counts.{CountsOnce}
-use Rattle.icn_host.specs.FileMaps.{FileMap, Follows, SetsFile, SetsPart}
+use Rattle.icn_host.specs.FileMaps.{FileMap, Follows, SetsFile, SetsPart, StoreState}
 use Rattle.icn_host.specs.Sinks.{SinkState}
 use Rattle.icn_host.specs.Sources.{SourceCounts}
 use Rattle.icn_host.specs.declared.fault.Fault.{Fault}
@@ -17,13 +17,19 @@ use Rattle.icn_verify.specs.declared.verified.Verified.{Verified}
 use Rattle.icn_answer.specs.declared.answer.Answer.{Answer}
 use Rattle.icn_answer.specs.declared.answer.Answer.TheVariants.{Wrote, BadImage, FileFault, NoMemory}
 use Rattle.icn_answer.specs.Answers.{IsAbsence}
-use Rattle.icn_answer.specs.FilesRead.{FilesState}
 use Rattle.icn_answer.specs.Refusing.{PutsItsLine, PutsOwn, own, put, want, write_fault}
 use Rattle.icn_answer.proofs.NoFaults.{wrote_no_fault}
 use Rattle.icn_answer.proofs.TornAnswers.{OnlyRead, is_torn, torn_fault, torn_since}
 use Rattle.icn_run_answer.proofs.Reports.{puts_own}
-use Rattle.icn_run_answer.specs.ToldObjects.{CallObjects, call_objects}
-use Rattle.icn_streams.specs.Handed.{CallStreams, call_streams}
+use Rattle.icn_streams.specs.Handed.{CallStreams, call_streams, streams_of}
+use Rattle.icn_defs.specs.Interruptions.{Breaks, BreaksBetween, BreaksFiles, BreaksReading}
+use Rattle.icn_defs.specs.Running.{Launch}
+use Rattle.icn_running.specs.declared.fault.RunFault.{RunFault}
+use Rattle.icn_running.specs.declared.fault.RunFault.TheVariants as RunFaults
+use Rattle.icn_running.specs.Runs.{IsBrokenOff, LeavesBy}
+use Rattle.icn_run_answer.specs.FaultAnswers.{IsOfRun}
+use Rattle.icn_run_answer.proofs.CountCauses.{first_behind_files}
+use Rattle.icn_run_answer.proofs.OutsideLeft.{read_kept}
 use Rattle.iconx_top.specs.declared.words.CommandAsked.{CommandAsked}
 use Rattle.iconx_top.specs.declared.words.CommandAsked.TheVariants.{Run, Migration}
 use Rattle.iconx_top.specs.declared.words.MigrationAsked.{MigrationAsked}
@@ -32,7 +38,7 @@ use Rattle.iconx_top.specs.Answered.{IsAnswered, fault as answered_fault, wrong_
 use Rattle.iconx_top.specs.Asking.{migration_reading, reading_of, run_reading}
 use Rattle.iconx_top.specs.Job.{IsJob, IsMigration, IsShort, Job, grows, migration_job, refusal, writes}
 use Rattle.iconx_top.specs.Loading.{IsLoaded, IsNoSecondImage, IsOfImage, IsOfLoading}
-use Rattle.iconx_top.specs.Outcomes.{AnswersCommand, Completes, EndsBroken, EndsByFault, EndsIdle, EndsTorn, HoldsMigration, LeavesFiles, all_written, broke, done, fault, idle, left_alone, part_written, torn}
+use Rattle.iconx_top.specs.Outcomes.{AnswersCommand, Completes, EndsBroken, EndsByFault, EndsIdle, EndsTorn, HoldsMigration, LeavesFiles, all_written, broke, by_run, done, fault, idle, left_alone, part_written, torn}
 use Rattle.iconx_top.specs.Words.{AsksToWrite, WordsReading, words_reading}
 use Rattle.iconx_top.proofs.CallOutcomes.{Asked}
 
@@ -90,9 +96,16 @@ of_image_no_absence _ is a = is
 
 -- What is told
 
-module _ (words : List (List ℕ)) (files : FileMap) (left : List ℕ) (was now : FilesState) (read : OnlyRead was now) (answer : Answer)
-    (streams : CallStreams) (after : CallObjects) where
-  completes_since : (job : Job) → Completes job answer (call_objects now streams) after → Completes job answer (call_objects was streams) after
+-- Files that were read alone, where only a new image is written behind that: what the call comes to is said of what they held before.
+module _ (words : List (List ℕ)) (files : FileMap) (left : List ℕ) (was now : StoreState) (read : OnlyRead was now) (answer : Answer)
+    (told : Option (List ℕ)) (input : SourceCounts) (out errors : SinkState) (after : CallStreams) where
+  abbrev Was : CallStreams
+  Was = call_streams was told input out errors
+
+  abbrev Now : CallStreams
+  Now = call_streams now told input out errors
+
+  completes_since : (job : Job) → Completes job answer Now after → Completes job answer Was after
   completes_since job ends = record {
     answered = ends.answered;
     files = subst (λ (held : Option FileMap). Follows held after.files.held (λ old new. (name : List ℕ) → new name ≡ job.files name)) read.held ends.files;
@@ -102,7 +115,7 @@ module _ (words : List (List ℕ)) (files : FileMap) (left : List ℕ) (was now 
     errors = ends.errors;
   }
 
-  idle_since : EndsIdle words files left answer (call_objects now streams) after → EndsIdle words files left answer (call_objects was streams) after
+  idle_since : EndsIdle words files left answer Now after → EndsIdle words files left answer Was after
   idle_since ends = record {
     between = ends.between;
     files_stay = ends.files_stay ∙ read.held;
@@ -113,7 +126,7 @@ module _ (words : List (List ℕ)) (files : FileMap) (left : List ℕ) (was now 
     line = ends.line;
   }
 
-  part_since : EndsTorn words files left answer (call_objects now streams) after → EndsTorn words files left answer (call_objects was streams) after
+  part_since : EndsTorn words files left answer Now after → EndsTorn words files left answer Was after
   part_since ends = record {
     new = ends.new;
     tables = ends.tables;
@@ -127,7 +140,26 @@ module _ (words : List (List ℕ)) (files : FileMap) (left : List ℕ) (was now 
     line = ends.line;
   }
 
-  broken_since : EndsBroken words files left answer (call_objects now streams) after → EndsBroken words files left answer (call_objects was streams) after
+  -- what broke a run off is said of what each name held, which stays
+  broken_by : (tables : Tables) (launch : Launch) (wrong : RunFault) (between : CallStreams) → IsBrokenOff tables launch wrong Now between
+      → IsBrokenOff tables launch wrong Was between
+  broken_by tables launch wrong between off = (off.0, (off.1.0, by_fault wrong off.1.1))
+    where
+      by_fault : (wrong : RunFault) → LeavesBy wrong launch.outside off.0 Now between → LeavesBy wrong launch.outside off.0 Was between
+      by_fault RunFaults.ReadFault leaves =
+          subst (λ (held : Option FileMap). BreaksReading launch.outside off.0.outside (record (streams_of Now) { files = held }) (streams_of between))
+          read.held leaves
+      by_fault RunFaults.WriteFault leaves =
+          subst (λ (held : Option FileMap). BreaksBetween launch.outside off.0.outside (record (streams_of Now) { files = held }) (streams_of between))
+          read.held leaves
+      by_fault RunFaults.FileFault leaves =
+          subst (λ (held : Option FileMap). BreaksFiles launch.outside off.0.outside (record (streams_of Now) { files = held }) (streams_of between))
+          read.held leaves
+      by_fault RunFaults.NoMemory leaves =
+          subst (λ (held : Option FileMap). Breaks launch.outside off.0.outside (record (streams_of Now) { files = held }) (streams_of between))
+          read.held leaves
+
+  broken_since : EndsBroken words files left answer Now after → EndsBroken words files left answer Was after
   broken_since ends = record {
     stopped = ends.stopped;
     between = ends.between;
@@ -135,49 +167,51 @@ module _ (words : List (List ℕ)) (files : FileMap) (left : List ℕ) (was now 
     launch = ends.launch;
     answered = ends.answered;
     asked = ends.asked;
-    files_stay = ends.files_stay ∙ read.held;
-    first = ends.first;
-    broken = ends.broken;
+    first = first_behind_files told input out errors ends.between answer (read_kept read) ends.first;
+    broken = broken_by ends.tables ends.launch ends.stopped ends.between ends.broken;
     line = ends.line;
   }
 
-  fault_since : EndsByFault words files left answer (call_objects now streams) after → EndsByFault words files left answer (call_objects was streams) after
+  fault_since : EndsByFault words files left answer Now after → EndsByFault words files left answer Was after
   fault_since (idle ends) = idle (idle_since ends)
   fault_since (torn ends) = torn (part_since ends)
   fault_since (broke ends) = broke (broken_since ends)
 
-  outcome_since : AnswersCommand words files left answer (call_objects now streams) after
-      → AnswersCommand words files left answer (call_objects was streams) after
+  outcome_since : AnswersCommand words files left answer Now after → AnswersCommand words files left answer Was after
   outcome_since (done job is ends) = done job is (completes_since job ends)
   outcome_since (fault is ends) = fault is (fault_since ends)
 
 -- the files that were told before they were read
-pub held_before : {words : List (List ℕ)} {files : FileMap} {left : List ℕ} {answer : Answer} {before : CallStreams} {after : CallObjects}
-    (was now : FilesState) → OnlyRead was now
-    → AnswersCommand words files left answer (call_objects now before) after → AnswersCommand words files left answer (call_objects was before) after
-held_before {answer = answer} {before} {after} was now read outcome = outcome_since _ _ _ was now read answer before after outcome
+pub held_before : {words : List (List ℕ)} {files : FileMap} {left : List ℕ} {answer : Answer} {told : Option (List ℕ)} {input : SourceCounts}
+    {out errors : SinkState} {after : CallStreams} (was now : StoreState) → OnlyRead was now
+    → AnswersCommand words files left answer (call_streams now told input out errors) after
+    → AnswersCommand words files left answer (call_streams was told input out errors) after
+held_before {answer = answer} {told} {input} {out} {errors} {after} was now read outcome =
+    outcome_since _ _ _ was now read answer told input out errors after outcome
 
-pub leaves_before : {words : List (List ℕ)} {files : FileMap} {answer : Answer} {after : FilesState} (was now : FilesState) → OnlyRead was now
+pub leaves_before : {words : List (List ℕ)} {files : FileMap} {answer : Answer} {after : StoreState} (was now : StoreState) → OnlyRead was now
     → LeavesFiles words files answer now after → LeavesFiles words files answer was after
 leaves_before was now read (left_alone none same) = left_alone none (same ∙ read.held)
 leaves_before was now read (all_written wrote holds) = all_written wrote holds
+leaves_before was now read (by_run left tables launch is asked) = by_run left tables launch is asked
 leaves_before {answer = answer} {after} was now read (part_written new tables tears asked short part) =
     part_written new tables (torn_since was now after answer read tears) asked short
     (subst (λ (held : Option FileMap). SetsPart held after.held new (image_of tables)) read.held part)
 
 -- of all that may become of the files, that the new image was written
-pub written_of : {words : List (List ℕ)} {files : FileMap} {answer : Answer} {before after : FilesState}
+pub written_of : {words : List (List ℕ)} {files : FileMap} {answer : Answer} {before after : StoreState}
     → LeavesFiles words files answer before after → answer ≡ Wrote → HoldsMigration words files after.held
 written_of (left_alone none same) e = absurd (none e)
 written_of (all_written wrote holds) e = holds
+written_of (by_run left tables launch is asked) e = absurd (subst IsOfRun e is)
 written_of (part_written new tables broken asked short part) e = absurd (rw e at broken)
 
 -- an input that tells what it has left, and stays as it is
-pub told_input : {words : List (List ℕ)} {files : FileMap} {left : List ℕ} {answer : Answer} {held held' : FilesState} {input : SourceCounts}
+pub told_input : {words : List (List ℕ)} {files : FileMap} {left : List ℕ} {answer : Answer} {held held' : StoreState} {input : SourceCounts}
     {out before after : SinkState} (told : Option (List ℕ)) → told ≡ Some left
-    → AnswersCommand words files left answer (call_objects held (call_streams (Some left) input out before))
-    (call_objects held' (call_streams (Some left) input out after))
-    → AnswersCommand words files left answer (call_objects held (call_streams told input out before)) (call_objects held' (call_streams told input out after))
+    → AnswersCommand words files left answer (call_streams held (Some left) input out before)
+    (call_streams held' (Some left) input out after)
+    → AnswersCommand words files left answer (call_streams held told input out before) (call_streams held' told input out after)
 told_input told e outcome = rw e outcome
 
 -- New images
@@ -203,11 +237,11 @@ written_files : (files : FileMap) (held held' : Option FileMap) (name image : Li
     → Follows held held' (λ old new. (q : List ℕ) → new q ≡ update bytes_eq files name (Some image) q)
 written_files files held held' name image e sets = rw e sets.follows
 
-pub image_done : {words : List (List ℕ)} {files : FileMap} {left : List ℕ} (new : List ℕ) (tables : Tables) (held held' : FilesState)
+pub image_done : {words : List (List ℕ)} {files : FileMap} {left : List ℕ} (new : List ℕ) (tables : Tables) (held held' : StoreState)
     (input : SourceCounts) (out errors : SinkState) → IsMigration words files new tables → IsShort tables → held.held ≡ Some files
     → SetsFile (Some files) held'.held new (image_of tables)
-    → AnswersCommand words files left Wrote (call_objects held (call_streams (Some left) input out errors))
-    (call_objects held' (call_streams (Some left) input out errors))
+    → AnswersCommand words files left Wrote (call_streams held (Some left) input out errors)
+    (call_streams held' (Some left) input out errors)
 image_done {files = files} {left} new tables held held' input out errors asked short e sets =
     done (migration_job files left new tables) (writes new tables asked short) (record {
       answered = refl;
@@ -219,13 +253,13 @@ image_done {files = files} {left} new tables held held' input out errors asked s
     })
 
 pub image_torn : {A : Type 0} {words : List (List ℕ)} {files : FileMap} {left : List ℕ} (new : List ℕ) (tables : Tables) (stopped : Fault)
-    (answer : Answer) (held held' : FilesState) (input : SourceCounts) (out before after : SinkState) → IsMigration words files new tables
+    (answer : Answer) (held held' : StoreState) (input : SourceCounts) (out before after : SinkState) → IsMigration words files new tables
     → IsShort tables → SetsPart held.held held'.held new (image_of tables) → (answer ≡ FileFault) ↔ (stopped ≡ Faults.Failed)
     → (answer ≡ NoMemory) ↔ (stopped ≡ Faults.NoMemory) → (answer ≡ FileFault) ⊎ (answer ≡ NoMemory)
-    → CountsOnce held.faults held'.faults (IsErrOf {T = A} (Err stopped) Faults.Failed)
-    → CountsOnce held.wants held'.wants (IsErrOf {T = A} (Err stopped) Faults.NoMemory) → PutsOwn answer before after
-    → AnswersCommand words files left answer (call_objects held (call_streams (Some left) input out before))
-    (call_objects held' (call_streams (Some left) input out after))
+    → CountsOnce held.counts.faults held'.counts.faults (IsErrOf {T = A} (Err stopped) Faults.Failed)
+    → CountsOnce held.counts.wants held'.counts.wants (IsErrOf {T = A} (Err stopped) Faults.NoMemory) → PutsOwn answer before after
+    → AnswersCommand words files left answer (call_streams held (Some left) input out before)
+    (call_streams held' (Some left) input out after)
 image_torn new tables stopped answer held held' input out before after asked short part failed wanted is cause memory puts =
     fault (is_torn answer is) (torn (record {
       new = new;
@@ -242,10 +276,10 @@ image_torn new tables stopped answer held held' input out before after asked sho
 
 -- what that leaves of the files
 pub part_leaves : {A : Type 0} {words : List (List ℕ)} {files : FileMap} (new : List ℕ) (tables : Tables) (stopped : Fault) (answer : Answer)
-    (held held' : FilesState) → IsMigration words files new tables → IsShort tables → SetsPart held.held held'.held new (image_of tables)
+    (held held' : StoreState) → IsMigration words files new tables → IsShort tables → SetsPart held.held held'.held new (image_of tables)
     → (answer ≡ FileFault) ↔ (stopped ≡ Faults.Failed) → (answer ≡ NoMemory) ↔ (stopped ≡ Faults.NoMemory)
-    → (answer ≡ FileFault) ⊎ (answer ≡ NoMemory) → CountsOnce held.faults held'.faults (IsErrOf {T = A} (Err stopped) Faults.Failed)
-    → CountsOnce held.wants held'.wants (IsErrOf {T = A} (Err stopped) Faults.NoMemory) → LeavesFiles words files answer held held'
+    → (answer ≡ FileFault) ⊎ (answer ≡ NoMemory) → CountsOnce held.counts.faults held'.counts.faults (IsErrOf {T = A} (Err stopped) Faults.Failed)
+    → CountsOnce held.counts.wants held'.counts.wants (IsErrOf {T = A} (Err stopped) Faults.NoMemory) → LeavesFiles words files answer held held'
 part_leaves new tables stopped answer held held' asked short part failed wanted is cause memory =
     part_written new tables (torn_fault held held' stopped answer failed wanted is cause memory) asked short part
 

@@ -1,7 +1,7 @@
 -- A new image comes to the code that it was made of.
-use Rattle.std.proofs.Common.{◌≡◌, ℕ, ◌<◌, All, List, true, Some, Ok}
+use Rattle.std.proofs.Common.{◌≡◌, ℕ, ◌<◌, All, List, true, Some, Ok, refl}
 use Rattle.icn_host.specs.FileMaps.{FileMap, HoldBytes}
-use Rattle.icn_defs.specs.Running.{Launch}
+use Rattle.icn_defs.specs.Running.{Launch, launch_of}
 use Rattle.icn_code.specs.Codes.{Tables}
 use Rattle.icn_code.specs.Rules.{keeps_rules}
 use Rattle.icn_image.specs.Reading.{image_read}
@@ -28,12 +28,13 @@ new_judged kept back words files new tables hold asked short =
 pub runs_alike : Kept → ReadBack → (migration : List (List ℕ)) (files after : FileMap) (new : List ℕ) (tables : Tables) → HoldBytes files
     → (asked : IsMigration migration files new tables) → IsShort tables → after new ≡ Some (image_of tables)
     → (first second : List (List ℕ)) (left : List ℕ) (launch : Launch) → words_reading first ≡ Asks launch.bounds asked.name launch.words
-    → words_reading second ≡ Asks launch.bounds new launch.words → IsRun first files left tables launch → IsRun second after left tables launch
+    → words_reading second ≡ Asks launch.bounds new launch.words → IsRun first files left tables launch
+    → IsRun second after left tables (launch_of launch.words launch.bounds left after)
 runs_alike kept back migration files after new tables hold asked short there first second left launch of_first of_second is = record {
   name = new;
   bytes = image_of tables;
   asks = of_second;
   there = there;
   judged = new_judged kept back migration files new tables hold asked short;
-  input = is.input;
+  outside = refl;
 }

@@ -162,7 +162,7 @@ module _ (one : HaveOneFault) (none : HaveNoFault) where
 
     launched_once : (s t : Tables) (a b : Launch) → IsRun words held left s a → IsRun words held left t b → a ≡ b
     launched_once s t a b x y = same_launch a b (same_arguments a.bounds b.bounds x.name y.name a.words b.words (words_reading words) x.asks y.asks)
-        (same_bounds a.bounds b.bounds x.name y.name a.words b.words (words_reading words) x.asks y.asks) (x.input ∙ sym y.input)
+        (same_bounds a.bounds b.bounds x.name y.name a.words b.words (words_reading words) x.asks y.asks) (x.outside ∙ sym y.outside)
 
     observed_once : (s t : Tables) (a b : Launch) (p q : Observation) → IsRun words held left s a → IsRun words held left t b → Runs s a p → Runs t b q → p ≡ q
     observed_once s t a b p q x y = seen_once s t a b p q (same_tables s t a b x y) (launched_once s t a b x y)
@@ -180,7 +180,8 @@ module _ (one : HaveOneFault) (none : HaveNoFault) where
 
     missing_run : (name : List ℕ) (tables : Tables) (launch : Launch)
         → image_named (words_reading words) ≡ Some name → held name ≡ None → IsRun words held left tables launch → ⊥
-    missing_run name tables launch e f x = some_none held x.name name x.bytes (same_name x.name name (words_reading words) (run_named tables launch x) e) x.there f
+    missing_run name tables launch e f x =
+        some_none held x.name name x.bytes (same_name x.name name (words_reading words) (run_named tables launch x) e) x.there f
 
     missing_new : (name new : List ℕ) (tables : Tables)
         → image_named (words_reading words) ≡ Some name → held name ≡ None → IsMigration words held new tables → ⊥
@@ -200,12 +201,18 @@ module _ (one : HaveOneFault) (none : HaveNoFault) where
   one_job words files left _ _ (missing n f _) (wrong_words k e) = absurd (named_faulty n k (words_reading words) f e)
   one_job words files left _ _ (wrong_words k e) (bad n _ _ f _ _) = absurd (named_faulty n k (words_reading words) f e)
   one_job words files left _ _ (bad n _ _ f _ _) (wrong_words k e) = absurd (named_faulty n k (words_reading words) f e)
-  one_job words files left _ _ (wrong_words k e) (ran t launch _ is _) = absurd (named_faulty is.name k (words_reading words) (run_named words files left t launch is) e)
-  one_job words files left _ _ (ran t launch _ is _) (wrong_words k e) = absurd (named_faulty is.name k (words_reading words) (run_named words files left t launch is) e)
-  one_job words files left _ _ (wrong_words k e) (writes new t is _) = absurd (named_faulty is.name k (words_reading words) (new_named words files left new t is) e)
-  one_job words files left _ _ (writes new t is _) (wrong_words k e) = absurd (named_faulty is.name k (words_reading words) (new_named words files left new t is) e)
-  one_job words files left _ _ (wrong_words k e) (grows new t is _) = absurd (named_faulty is.name k (words_reading words) (new_named words files left new t is) e)
-  one_job words files left _ _ (grows new t is _) (wrong_words k e) = absurd (named_faulty is.name k (words_reading words) (new_named words files left new t is) e)
+  one_job words files left _ _ (wrong_words k e) (ran t launch _ is _) =
+      absurd (named_faulty is.name k (words_reading words) (run_named words files left t launch is) e)
+  one_job words files left _ _ (ran t launch _ is _) (wrong_words k e) =
+      absurd (named_faulty is.name k (words_reading words) (run_named words files left t launch is) e)
+  one_job words files left _ _ (wrong_words k e) (writes new t is _) =
+      absurd (named_faulty is.name k (words_reading words) (new_named words files left new t is) e)
+  one_job words files left _ _ (writes new t is _) (wrong_words k e) =
+      absurd (named_faulty is.name k (words_reading words) (new_named words files left new t is) e)
+  one_job words files left _ _ (wrong_words k e) (grows new t is _) =
+      absurd (named_faulty is.name k (words_reading words) (new_named words files left new t is) e)
+  one_job words files left _ _ (grows new t is _) (wrong_words k e) =
+      absurd (named_faulty is.name k (words_reading words) (new_named words files left new t is) e)
   one_job words files left _ _ (missing n e _) (missing m f _) =
       ap (λ name. refusal files left name (Missing name)) (same_name n m (words_reading words) e f)
   one_job words files left _ _ (missing n e h) (bad m z _ f g _) = absurd (some_none files m n z (same_name m n (words_reading words) f e) g h)
@@ -227,7 +234,7 @@ module _ (one : HaveOneFault) (none : HaveNoFault) where
   one_job words files left _ _ (bad n u r e g p) (grows new t is _) = absurd (refused_new words files left n u r new t e g p is)
   one_job words files left _ _ (grows new t is _) (bad n u r e g p) = absurd (refused_new words files left n u r new t e g p is)
   one_job words files left _ _ (ran s a v x p) (ran t b w y q) =
-      ap (λ observed. observation files observed) (observed_once words files left s t a b v w x y p q)
+      ap (λ (seen : Observation). observation seen) (observed_once words files left s t a b v w x y p q)
   one_job words files left _ _ (ran s a _ x _) (writes new t y _) = absurd (run_or_new words files left s t a new x y)
   one_job words files left _ _ (writes new t y _) (ran s a _ x _) = absurd (run_or_new words files left s t a new x y)
   one_job words files left _ _ (ran s a _ x _) (grows new t y _) = absurd (run_or_new words files left s t a new x y)

@@ -54,7 +54,7 @@ module _ (laws : Laws) where
   module _ (words : List (List ℕ)) (files : FileMap) (left : List ℕ) (hold : HoldBytes files) where
     observed_job : (tables : Tables) (launch : Launch) → IsRun words files left tables launch → (seen : Observation) × Runs tables launch seen
         → (job : Job) × IsJob words files left job
-    observed_job tables launch is seen = (observation files seen.0, ran tables launch seen.0 is seen.1)
+    observed_job tables launch is seen = (observation seen.0, ran tables launch seen.0 is seen.1)
 
     refused_job : (name bytes : List ℕ) (rule : Rule) → image_named (words_reading words) ≡ Some name → files name ≡ Some bytes
         → IsJudged bytes (Err rule) → (job : Job) × IsJob words files left job
@@ -65,8 +65,8 @@ module _ (laws : Laws) where
         → Judges bytes → (job : Job) × IsJob words files left job
     judged_run bounds name bytes arguments asks there (refuses rule is) = refused_job name bytes rule (ap image_named asks) there is
     judged_run bounds name bytes arguments asks there (runs_as tables is kept sound) =
-        let launch : Launch = record { words = arguments; bounds = bounds; outside = outside_of left } in
-        let named : IsRun words files left tables launch = record { name = name; bytes = bytes; asks = asks; there = there; judged = is; input = refl } in
+        let launch : Launch = record { words = arguments; bounds = bounds; outside = outside_of left files } in
+        let named : IsRun words files left tables launch = record { name = name; bytes = bytes; asks = asks; there = there; judged = is; outside = refl } in
         observed_job tables launch named ((laws.ends tables kept sound).flat launch)
 
     written_job : (new : List ℕ) (tables : Tables) → IsMigration words files new tables

@@ -40,10 +40,10 @@ refusal files left name answer = record {
 }
 
 -- a run was observed
-abbrev pub observation : FileMap → Observation → Job
-observation files observed = record {
+abbrev pub observation : Observation → Job
+observation observed = record {
   answer = Ran (ending_held observed.ending);
-  files = files;
+  files = observed.outside.files;
   left = observed.outside.left;
   readings = readings_in observed.outside.history;
   output = output_in observed.outside.history;
@@ -58,7 +58,7 @@ pub record IsRun (words : List (List ℕ)) (files : FileMap) (left : List ℕ) (
   pub asks : words_reading words ≡ Asks launch.bounds name launch.words
   pub there : files name ≡ Some bytes
   pub judged : IsJudged bytes (Ok tables)
-  pub input : launch.outside ≡ outside_of left
+  pub outside : launch.outside ≡ outside_of left files
 
 -- the code of the image that the words name, which is to be written in the second version under this name
 pub record IsMigration (words : List (List ℕ)) (files : FileMap) (new : List ℕ)
@@ -95,7 +95,7 @@ pub data IsJob (words : List (List ℕ)) (files : FileMap) (left : List ℕ) : J
       → IsJob words files left (refusal files left name (BadImage rule))
   ran : (tables : Tables) (launch : Launch) (observed : Observation) → IsRun words files left tables launch
       → Runs tables launch observed
-      → IsJob words files left (observation files observed)
+      → IsJob words files left (observation observed)
   writes : (new : List ℕ) (tables : Tables) → IsMigration words files new tables → IsShort tables
       → IsJob words files left (migration_job files left new tables)
   grows : (new : List ℕ) (tables : Tables) (asked : IsMigration words files new tables)

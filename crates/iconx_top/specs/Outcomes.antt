@@ -1,7 +1,7 @@
 -- What a call comes to, where the objects tell their content.
 use Rattle.std.specs.Prelude.{◌≡◌, ◌⊎◌, ℕ, List, [], Option, Some, ⊤}
 use Rattle.icn_host.specs.Counts.{raised_count}
-use Rattle.icn_host.specs.FileMaps.{FileMap, Follows, SetsFile, SetsPart}
+use Rattle.icn_host.specs.FileMaps.{FileMap, Follows, SetsFile, SetsPart, StoreState}
 use Rattle.icn_host.specs.Sinks.{Gains, SinkState}
 use Rattle.icn_host.specs.Puts.{FailsPutting, Puts, RunsShort}
 use Rattle.icn_defs.specs.Running.{Launch}
@@ -14,24 +14,22 @@ use Rattle.icn_running.specs.Runs.{IsBrokenOff, RunsOver}
 use Rattle.icn_answer.specs.declared.answer.Answer.{Answer}
 use Rattle.icn_answer.specs.declared.answer.Answer.TheVariants.{Wrote, Ran, Refused, Command, Missing, BadUcode, BadImage, FileFault, ReadFault, WriteFault, NoMemory}
 use Rattle.icn_answer.specs.Answers.{IsFault}
-use Rattle.icn_answer.specs.FilesRead.{FilesState}
 use Rattle.icn_answer.specs.TornFiles.{IsTornFault}
 use Rattle.icn_run_answer.specs.CountCauses.{EndsBehind, IsFirstFaultOf}
-use Rattle.icn_run_answer.specs.FaultAnswers.{of_run}
+use Rattle.icn_run_answer.specs.FaultAnswers.{IsOfRun, of_run}
 use Rattle.icn_answer.specs.Lines.{fault_line, line_of}
-use Rattle.icn_run_answer.specs.ToldObjects.{CallObjects}
 use Rattle.iconx_top.specs.Job.{Job, IsJob, IsMigration, IsRun, IsShort, refusal}
 use Rattle.iconx_top.specs.Usage.{usage}
 
 -- the job was done
-pub record Completes (job : Job) (answer : Answer) (before after : CallObjects) : Type 0 where
+pub record Completes (job : Job) (answer : Answer) (before after : CallStreams) : Type 0 where
   pub answered : answer ≡ job.answer
   pub files : Follows before.files.held after.files.held
       (λ old new. (name : List ℕ) → new name ≡ job.files name)
-  pub left : after.streams.left ≡ Some job.left
-  pub calls : after.streams.counts.calls ≡ raised_count before.streams.counts.calls job.readings
-  pub output : Gains before.streams.output.held after.streams.output.held job.output
-  pub errors : Gains before.streams.errors.held after.streams.errors.held job.errors
+  pub left : after.left ≡ Some job.left
+  pub calls : after.counts.calls ≡ raised_count before.counts.calls job.readings
+  pub output : Gains before.output.held after.output.held job.output
+  pub errors : Gains before.errors.held after.errors.held job.errors
 
 -- a refusal, of which some part of the line was put in this way
 abbrev pub PutsPartOfRefusal : (List ℕ → Answer → Type 0) → (List ℕ → Type 0) → Type 0
@@ -60,55 +58,54 @@ AsksForRefusal words files left name refused = IsJob words files left (refusal f
 
 -- nothing was done: the outside failed, or memory was wanting, before anything was
 pub record EndsIdle (words : List (List ℕ)) (files : FileMap) (left : List ℕ) (answer : Answer)
-    (before after : CallObjects) : Type 0 where
+    (before after : CallStreams) : Type 0 where
   pub between : SinkState
   pub files_stay : after.files.held ≡ before.files.held
-  pub input_stays : after.streams.left ≡ before.streams.left
-  pub counts_stay : after.streams.counts ≡ before.streams.counts
-  pub output_stays : after.streams.output ≡ before.streams.output
-  pub cause : IsIdleFault (AsksForRefusal words files left) answer before.streams.errors between
-  pub line : Puts between after.streams.errors (fault_line answer)
+  pub input_stays : after.left ≡ before.left
+  pub counts_stay : after.counts ≡ before.counts
+  pub output_stays : after.output ≡ before.output
+  pub cause : IsIdleFault (AsksForRefusal words files left) answer before.errors between
+  pub line : Puts between after.errors (fault_line answer)
 
 -- the new image could not be written whole, since the store failed or wanted memory
 pub record EndsTorn (words : List (List ℕ)) (files : FileMap) (left : List ℕ) (answer : Answer)
-    (before after : CallObjects) : Type 0 where
+    (before after : CallStreams) : Type 0 where
   pub new : List ℕ
   pub tables : Tables
   pub cause : IsTornFault answer before.files after.files
   pub asked : IsMigration words files new tables
   pub short : IsShort tables
   pub part : SetsPart before.files.held after.files.held new (image_of tables)
-  pub input_stays : after.streams.left ≡ before.streams.left
-  pub counts_stay : after.streams.counts ≡ before.streams.counts
-  pub output_stays : after.streams.output ≡ before.streams.output
-  pub line : Puts before.streams.errors after.streams.errors (fault_line answer)
+  pub input_stays : after.left ≡ before.left
+  pub counts_stay : after.counts ≡ before.counts
+  pub output_stays : after.output ≡ before.output
+  pub line : Puts before.errors after.errors (fault_line answer)
 
 -- the run broke off
 pub record EndsBroken (words : List (List ℕ)) (files : FileMap) (left : List ℕ) (answer : Answer)
-    (before after : CallObjects) : Type 0 where
+    (before after : CallStreams) : Type 0 where
   pub stopped : RunFault
   pub between : CallStreams
   pub tables : Tables
   pub launch : Launch
   pub answered : answer ≡ of_run stopped
   pub asked : IsRun words files left tables launch
-  pub files_stay : after.files.held ≡ before.files.held
-  pub first : IsFirstFaultOf answer before.streams between
-  pub broken : IsBrokenOff tables launch stopped before.streams between
-  pub line : EndsBehind answer between after.streams
+  pub first : IsFirstFaultOf answer before between
+  pub broken : IsBrokenOff tables launch stopped before between
+  pub line : EndsBehind answer between after
 
 -- A fault, told apart by the answer: nothing was done but that a refusal's line may be begun; or the new image could not be written whole; or
 -- the run of the image that the words name was broken off, by the first failure. The fault's own line comes behind, as far as the error
 -- output took it.
 pub data EndsByFault (words : List (List ℕ)) (files : FileMap) (left : List ℕ) (answer : Answer)
-    (before after : CallObjects) : Type 0 where
+    (before after : CallStreams) : Type 0 where
   idle : EndsIdle words files left answer before after → EndsByFault words files left answer before after
   torn : EndsTorn words files left answer before after → EndsByFault words files left answer before after
   broke : EndsBroken words files left answer before after → EndsByFault words files left answer before after
 
 -- the job was done, or a fault is answered
 pub data AnswersCommand (words : List (List ℕ)) (files : FileMap) (left : List ℕ) (answer : Answer)
-    (before after : CallObjects) : Type 0 where
+    (before after : CallStreams) : Type 0 where
   done : (job : Job) → IsJob words files left job → Completes job answer before after
       → AnswersCommand words files left answer before after
   fault : IsFault answer → EndsByFault words files left answer before after
@@ -124,10 +121,13 @@ pub record HoldsMigration (words : List (List ℕ)) (files : FileMap) (after : O
   pub written : SetsFile (Some files) after new (image_of tables)
 
 -- What a call leaves of the files, whatever the input tells, told apart by the answer: they are as they were; or the new image was written; or a
--- part of it may have been, since the store failed or wanted memory.
+-- part of it may have been, since the store failed or wanted memory; or a run was asked for, which may write files of its own: what it writes is
+-- said where the input tells too.
 pub data LeavesFiles (words : List (List ℕ)) (files : FileMap) (answer : Answer)
-    (before after : FilesState) : Type 0 where
+    (before after : StoreState) : Type 0 where
   left_alone : (answer ≡ Wrote → ⊥) → after.held ≡ before.held → LeavesFiles words files answer before after
+  by_run : (left : List ℕ) (tables : Tables) (launch : Launch) → IsOfRun answer
+      → IsRun words files left tables launch → LeavesFiles words files answer before after
   all_written : answer ≡ Wrote → HoldsMigration words files after.held
       → LeavesFiles words files answer before after
   part_written : (new : List ℕ) (tables : Tables) → IsTornFault answer before after

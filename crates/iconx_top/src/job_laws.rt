@@ -2,7 +2,7 @@
 ghost use Rattle.std.specs.Prelude.{◌≡◌, ℕ, List, Ok, Some};
 ghost use Rattle.icn_host.specs.FileMaps.{FileMap, HoldBytes};
 ghost use Rattle.icn_answer.specs.Answers.{IsFault};
-ghost use Rattle.icn_defs.specs.Running.{Launch};
+ghost use Rattle.icn_defs.specs.Running.{Launch, launch_of};
 ghost use Rattle.icn_code.specs.Codes.{Tables};
 ghost use Rattle.icn_image.specs.Spelling.{image_of};
 ghost use Rattle.iconx_top.specs.Job.{IsJob, IsMigration, IsRun, IsShort, Job};
@@ -28,7 +28,8 @@ pub fn one_job()
 }
 
 /// A new image runs as the image that it was made of: words that name it in place of that one, under the same limits and with the same
-/// arguments, ask for a run of the same code with the same launch, which has one observation (`one_observation` of `icn_run`).
+/// arguments, ask for a run of the same code with the same input, over the files that are there then. Where that one is run over these
+/// files too, both have the same launch, and so one observation (`one_observation` of `icn_run`).
 pub fn migration_keeps_runs()
     ensures judged { (words : List (List ℕ)) (files : FileMap) (new : List ℕ) (tables : Tables)
         → HoldBytes files → IsMigration words files new tables → IsShort tables
@@ -39,7 +40,8 @@ pub fn migration_keeps_runs()
         → (first second : List (List ℕ)) (left : List ℕ) (launch : Launch)
         → words_reading first ≡ Asks launch.bounds asked.name launch.words
         → words_reading second ≡ Asks launch.bounds new launch.words
-        → IsRun first files left tables launch → IsRun second after left tables launch }
+        → IsRun first files left tables launch
+        → IsRun second after left tables (launch_of launch.words launch.bounds left after) }
 {
     one_spelling();
 }

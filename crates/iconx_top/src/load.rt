@@ -1,7 +1,7 @@
 // The image that is to run.
 ghost use Rattle.std.specs.Prelude.{◌≡◌, ◌⊎◌, ℕ, List, IfSome, IfErr};
 ghost use Rattle.icn_answer.specs.Answers.{IsErrOfAbsence};
-ghost use Rattle.icn_answer.specs.FilesRead.{ReadsFiles, files_state};
+ghost use Rattle.icn_answer.specs.FilesRead.{ReadsFiles};
 ghost use Rattle.icn_code.specs.CodeTables.{tables_of};
 ghost use Rattle.iconx_top.specs.Loading.{AbsencesOf, IsChecked, IsJudgement, IsLoaded, IsOfImage, IsOfLoading, IsSecondImage, Takes, of_image};
 
@@ -20,12 +20,11 @@ const LONGEST: u64 = MOST_BYTES_OF_IMAGE;
 /// The code of the image of this name, or the answer where there is none. That is `Missing` where the file is not there,
 /// `BadImage` with the rule that it breaks, `FileFault` where the files failed, or `NoMemory`.
 pub fn load<F: Files>(alloc: Global, name: &str, files: &mut F) -> Result<Verified, Answer>
-    ensures loaded { IfSome (F.held files.old) (λ held. IsLoaded (held name.now) name.now result) }
+    ensures loaded { IfSome (F.state files.old).held (λ held. IsLoaded (held name.now) name.now result) }
     ensures others { IfErr result IsOfLoading }
-    ensures absences { AbsencesOf result (F.absences files.old) (F.absences files.new) }
-    ensures reads { ReadsFiles result (IsErrOfAbsence result)
-        (files_state (F.held files.old) (F.faults files.old) (F.wants files.old) (F.absences files.old))
-        (files_state (F.held files.new) (F.faults files.new) (F.wants files.new) (F.absences files.new)) }
+    ensures absences { AbsencesOf result (F.state files.old).counts.absences
+        (F.state files.new).counts.absences }
+    ensures reads { ReadsFiles result (IsErrOfAbsence result) (F.state files.old) (F.state files.new) }
 {
     let mut bytes = Vec::new(alloc);
     match files.read(name, LONGEST, &mut bytes) {

@@ -6,9 +6,7 @@ ghost use Rattle.icn_streams.specs.Handed.{call_streams};
 ghost use Rattle.icn_answer.specs.declared.answer.Answer.TheVariants.{NoMemory};
 ghost use Rattle.icn_answer.specs.Answers.{status_of};
 ghost use Rattle.icn_answer.specs.Lines.{fault_line};
-ghost use Rattle.icn_answer.specs.FilesRead.{files_state};
 ghost use Rattle.icn_run_answer.specs.PendingBytes.{pending_bytes};
-ghost use Rattle.icn_run_answer.specs.ToldObjects.{call_objects};
 ghost use Rattle.iconx_top.specs.WholeCall.{EndsBy};
 
 use crate::top::iconx_main;
@@ -28,21 +26,18 @@ pub fn program_status<F: Files, I: Source, O: Sink, E: Sink>(
     err: &mut E,
 ) -> ExitCode
     // The status is that of an answer, of which all is so that `iconx_main` says.
-    ensures status { IfOk words
-        (λ words. EndsBy (map string_bytes words.items)
-        (call_objects
-        (files_state (F.held files.old) (F.faults files.old) (F.wants files.old) (F.absences files.old))
-        (call_streams (I.left input.old) (I.counts input.old) (O.state out.old) (E.state err.old)))
-        (call_objects
-        (files_state (F.held files.new) (F.faults files.new) (F.wants files.new) (F.absences files.new))
-        (call_streams (I.left input.new) (I.counts input.new) (O.state out.new) (E.state err.new)))
+    ensures status { IfOk words (λ words. EndsBy (map string_bytes words.items)
+        (call_streams (F.state files.old) (I.left input.old) (I.counts input.old) (O.state out.old)
+        (E.state err.old))
+        (call_streams (F.state files.new) (I.left input.new) (I.counts input.new) (O.state out.new)
+        (E.state err.new))
         (pending_bytes (O.pending out.old) (E.pending err.old))
         (pending_bytes (O.pending out.new) (E.pending err.new)) result) }
 
     // Without words, want of memory is answered, and its line put; all else stays as it was.
     ensures wordless { OnErr words (exit_status result ≡ status_of NoMemory) }
     ensures wordless_line { OnErr words (Puts (E.state err.old) (E.state err.new) (fault_line NoMemory)) }
-    ensures wordless_files { OnErr words (F.held files.new ≡ F.held files.old) }
+    ensures wordless_files { OnErr words ((F.state files.new).held ≡ (F.state files.old).held) }
     ensures wordless_input { OnErr words (I.left input.new ≡ I.left input.old) }
     ensures wordless_output { OnErr words (O.state out.new ≡ O.state out.old) }
 {
@@ -62,12 +57,10 @@ fn call_status<F: Files, I: Source, O: Sink, E: Sink>(
     err: &mut E,
 ) -> ExitCode
     ensures { EndsBy (map string_bytes words.now)
-        (call_objects
-        (files_state (F.held files.old) (F.faults files.old) (F.wants files.old) (F.absences files.old))
-        (call_streams (I.left input.old) (I.counts input.old) (O.state out.old) (E.state err.old)))
-        (call_objects
-        (files_state (F.held files.new) (F.faults files.new) (F.wants files.new) (F.absences files.new))
-        (call_streams (I.left input.new) (I.counts input.new) (O.state out.new) (E.state err.new)))
+        (call_streams (F.state files.old) (I.left input.old) (I.counts input.old) (O.state out.old)
+        (E.state err.old))
+        (call_streams (F.state files.new) (I.left input.new) (I.counts input.new) (O.state out.new)
+        (E.state err.new))
         (pending_bytes (O.pending out.old) (E.pending err.old))
         (pending_bytes (O.pending out.new) (E.pending err.new)) result }
 {

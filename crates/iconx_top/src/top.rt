@@ -7,14 +7,12 @@ ghost use Rattle.icn_host.specs.Sinks.{SinkState};
 ghost use Rattle.icn_host.specs.Sources.{SourceCounts};
 ghost use Rattle.icn_code.specs.CodeTables.{tables_of};
 ghost use Rattle.icn_answer.specs.Answers.{IsAbsence, IsCommand, IsFault, IsRefusal};
-ghost use Rattle.icn_answer.specs.FilesRead.{FilesState, files_state};
 ghost use Rattle.icn_run_answer.specs.CountCauses.{EndsAtFirst, RunEndsAtFirst};
 ghost use Rattle.icn_run_answer.specs.FaultAnswers.{IsOfRun};
 ghost use Rattle.icn_run_answer.specs.InputLeft.{LosesSome};
 ghost use Rattle.icn_run_answer.specs.OutsideLeft.{LeavesOutside};
 ghost use Rattle.icn_run_answer.specs.PendingBytes.{LeavesSettled, pending_bytes};
 ghost use Rattle.icn_run_answer.specs.Reporting.{LineStands, Reports};
-ghost use Rattle.icn_run_answer.specs.ToldObjects.{call_objects};
 ghost use Rattle.iconx_top.specs.Answered.{IsAnswered};
 ghost use Rattle.iconx_top.specs.Asking.{migration_reading, run_reading};
 ghost use Rattle.iconx_top.specs.Commanded.{IsCommanded};
@@ -50,17 +48,15 @@ pub fn iconx_main<F: Files, I: Source, O: Sink, E: Sink>(
     err: &mut E,
 ) -> Answer
     // Where the files and the input tell their content, the job was done, or a fault is answered and leaves a part of it.
-    ensures outcome { IfSome (F.held files.old)
+    ensures outcome { IfSome (F.state files.old).held
         (λ held.
         IfSome (I.left input.old) (λ left. AnswersCommand (map string_bytes words.now) held left result
-        (call_objects
-        (files_state (F.held files.old) (F.faults files.old) (F.wants files.old) (F.absences files.old))
-        (call_streams (I.left input.old) (I.counts input.old) (O.state out.old) (E.state err.old)))
-        (call_objects
-        (files_state (F.held files.new) (F.faults files.new) (F.wants files.new) (F.absences files.new))
-        (call_streams (I.left input.new) (I.counts input.new) (O.state out.new) (E.state err.new))))) }
+        (call_streams (F.state files.old) (I.left input.old) (I.counts input.old) (O.state out.old)
+        (E.state err.old))
+        (call_streams (F.state files.new) (I.left input.new) (I.counts input.new) (O.state out.new)
+        (E.state err.new)))) }
     // Where no count of faults rose, no fault is answered but want of memory.
-    ensures faultless { ¬ Rose (F.faults files.old) (F.faults files.new)
+    ensures faultless { ¬ Rose (F.state files.old).counts.faults (F.state files.new).counts.faults
         → ¬ Rose (I.counts input.old).faults (I.counts input.new).faults
         → ¬ Rose (O.state out.old).faults (O.state out.new).faults
         → ¬ Rose (E.state err.old).faults (E.state err.new).faults
@@ -77,7 +73,7 @@ pub fn iconx_main<F: Files, I: Source, O: Sink, E: Sink>(
         (E.state err.old) (E.state err.new) result }
 
     // Where the files tell their content, the answer is the one that the words and the files ask for, or a fault.
-    ensures answered { IfSome (F.held files.old)
+    ensures answered { IfSome (F.state files.old).held
         (λ held. IsAnswered (map string_bytes words.now) held result) }
 
     // The words are faulty exactly where they name no run of an image, in that way.
@@ -91,42 +87,44 @@ pub fn iconx_main<F: Files, I: Source, O: Sink, E: Sink>(
     ensures unread { (IsOfRun result → ⊥) → I.left input.new ≡ I.left input.old }
     ensures uncalled { (IsOfRun result → ⊥) → I.counts input.new ≡ I.counts input.old }
 
-    // The files stay as they were where the words do not ask for a new image, and where the answer is a refusal.
-    ensures files { (AsksToWrite (read (map string_bytes words.now)) → ⊥)
-        → F.held files.new ≡ F.held files.old }
-    ensures unwritten { IsRefusal result → F.held files.new ≡ F.held files.old }
+    // The files stay as they were where the words do not ask for a new image and the answer is not one that a run may give, and where
+    // it is a refusal.
+    ensures files { (AsksToWrite (read (map string_bytes words.now)) → ⊥) → (IsOfRun result → ⊥)
+        → (F.state files.new).held ≡ (F.state files.old).held }
+    ensures unwritten { IsRefusal result → (F.state files.new).held ≡ (F.state files.old).held }
 
     // Where the files tell their content, and an image was written, its name holds the second version of the code that was read.
-    ensures written { IfSome (F.held files.old)
+    ensures written { IfSome (F.state files.old).held
         (λ held. result ≡ Answer.Wrote
-        → HoldsMigration (map string_bytes words.now) held (F.held files.new)) }
+        → HoldsMigration (map string_bytes words.now) held (F.state files.new).held) }
 
     // Where the files tell their content, it is said what became of them, whatever the input tells; the new image is in part only
     // where the store failed or wanted memory.
-    ensures leaves { IfSome (F.held files.old)
-        (λ held. LeavesFiles (map string_bytes words.now) held result
-        (files_state (F.held files.old) (F.faults files.old) (F.wants files.old) (F.absences files.old))
-        (files_state (F.held files.new) (F.faults files.new) (F.wants files.new) (F.absences files.new))) }
+    ensures leaves { IfSome (F.state files.old).held
+        (λ held. LeavesFiles (map string_bytes words.now) held result (F.state files.old)
+        (F.state files.new)) }
 
     // The first fault ends the call: its object's count rose once, and no other count did but of the output as it is settled at
     // want of memory, and at the put of the fault's own line. An absence is answered only where that count rose. The store wanted
     // memory once at most, and only where that is answered and nothing else was counted.
     ensures causes { EndsAtFirst result (IsAbsence result)
-        (call_objects
-        (files_state (F.held files.old) (F.faults files.old) (F.wants files.old) (F.absences files.old))
-        (call_streams (I.left input.old) (I.counts input.old) (O.state out.old) (E.state err.old)))
-        (call_objects
-        (files_state (F.held files.new) (F.faults files.new) (F.wants files.new) (F.absences files.new))
-        (call_streams (I.left input.new) (I.counts input.new) (O.state out.new) (E.state err.new))) }
+        (call_streams (F.state files.old) (I.left input.old) (I.counts input.old) (O.state out.old)
+        (E.state err.old))
+        (call_streams (F.state files.new) (I.left input.new) (I.counts input.new) (O.state out.new)
+        (E.state err.new)) }
 
-    // The count of absences rose, once, exactly where the image is not there; that is answered, or a fault.
-    ensures absences { CountsAbsence result (F.absences files.old) (F.absences files.new) }
+    // The count of absences rose, once, exactly where the image is not there; that is answered, or a fault. A run may miss files of its
+    // own.
+    ensures absences { (IsOfRun result → ⊥)
+        → CountsAbsence result (F.state files.old).counts.absences (F.state files.new).counts.absences }
 
     // Where the files tell their content, and a run is answered, it is the run that words and files ask for, whatever the input tells.
-    ensures ran { IfSome (F.held files.old)
+    ensures ran { IfSome (F.state files.old).held
         (λ held. RunsAsAsked (map string_bytes words.now) held result
-        (call_streams (I.left input.old) (I.counts input.old) (O.state out.old) (E.state err.old))
-        (call_streams (I.left input.new) (I.counts input.new) (O.state out.new) (E.state err.new))) }
+        (call_streams (F.state files.old) (I.left input.old) (I.counts input.old) (O.state out.old)
+        (E.state err.old))
+        (call_streams (F.state files.new) (I.left input.new) (I.counts input.new) (O.state out.new)
+        (E.state err.new))) }
 
     // Where nothing was pending on the outputs before, and no fault is answered, nothing is pending behind.
     ensures settled { LeavesSettled result (pending_bytes (O.pending out.old) (E.pending err.old))
@@ -149,36 +147,38 @@ fn image_answer<F: Files, I: Source, O: Sink, E: Sink>(
     err: &mut E,
 ) -> Answer
     ensures outcome { (words : List (List ℕ)) → read words ≡ run_reading run.entry
-        → IfSome (F.held files.old)
+        → IfSome (F.state files.old).held
         (λ held. IfSome (I.left input.old) (λ left. AnswersCommand words held left result
-        (call_objects
-        (files_state (F.held files.old) (F.faults files.old) (F.wants files.old) (F.absences files.old))
-        (call_streams (I.left input.old) (I.counts input.old) (O.state out.old) (E.state err.old)))
-        (call_objects
-        (files_state (F.held files.new) (F.faults files.new) (F.wants files.new) (F.absences files.new))
-        (call_streams (I.left input.new) (I.counts input.new) (O.state out.new) (E.state err.new))))) }
+        (call_streams (F.state files.old) (I.left input.old) (I.counts input.old) (O.state out.old)
+        (E.state err.old))
+        (call_streams (F.state files.new) (I.left input.new) (I.counts input.new) (O.state out.new)
+        (E.state err.new)))) }
     ensures ran { (words : List (List ℕ)) → read words ≡ run_reading run.entry
-        → IfSome (F.held files.old) (λ held. RunsAsAsked words held result
-        (call_streams (I.left input.old) (I.counts input.old) (O.state out.old) (E.state err.old))
-        (call_streams (I.left input.new) (I.counts input.new) (O.state out.new) (E.state err.new))) }
+        → IfSome (F.state files.old).held (λ held. RunsAsAsked words held result
+        (call_streams (F.state files.old) (I.left input.old) (I.counts input.old) (O.state out.old)
+        (E.state err.old))
+        (call_streams (F.state files.new) (I.left input.new) (I.counts input.new) (O.state out.new)
+        (E.state err.new))) }
     ensures reported { Reports usage run.entry.image.now (E.state err.old) (E.state err.new) result }
     ensures answered { (words : List (List ℕ)) → read words ≡ run_reading run.entry
-        → IfSome (F.held files.old) (λ held. IsAnswered words held result) }
+        → IfSome (F.state files.old).held (λ held. IsAnswered words held result) }
     ensures command { IsCommand result → ⊥ }
-    ensures files { F.held files.new ≡ F.held files.old }
-    ensures absences { CountsAbsence result (F.absences files.old) (F.absences files.new) }
+    ensures files { (IsOfRun result → ⊥) → (F.state files.new).held ≡ (F.state files.old).held }
+    ensures absences { (IsOfRun result → ⊥)
+        → CountsAbsence result (F.state files.old).counts.absences (F.state files.new).counts.absences }
+    ensures written { (words : List (List ℕ)) → read words ≡ run_reading run.entry
+        → IfSome (F.state files.old).held
+        (λ held. LeavesFiles words held result (F.state files.old) (F.state files.new)) }
     ensures leaves { LeavesOutside result
-        (call_objects
-        (files_state (F.held files.old) (F.faults files.old) (F.wants files.old) (F.absences files.old))
-        (call_streams (I.left input.old) (I.counts input.old) (O.state out.old) (E.state err.old)))
-        (call_objects
-        (files_state (F.held files.new) (F.faults files.new) (F.wants files.new) (F.absences files.new))
-        (call_streams (I.left input.new) (I.counts input.new) (O.state out.new) (E.state err.new))) }
+        (call_streams (F.state files.old) (I.left input.old) (I.counts input.old) (O.state out.old)
+        (E.state err.old))
+        (call_streams (F.state files.new) (I.left input.new) (I.counts input.new) (O.state out.new)
+        (E.state err.new)) }
     ensures settled { LeavesSettled result (pending_bytes (O.pending out.old) (E.pending err.old))
         (pending_bytes (O.pending out.new) (E.pending err.new)) }
 {
     match load(alloc, run.image, files) {
-        Ok(verified) => run_answer(alloc, &verified, run, input, out, err),
+        Ok(verified) => run_answer(alloc, &verified, run, files, input, out, err),
         Err(answer) => refuse(alloc, USAGE, run.image, answer, err),
     }
 }
@@ -192,32 +192,23 @@ fn migration_answer<F: Files, E: Sink>(
 ) -> Answer
     ensures outcome { (words : List (List ℕ)) (left : List ℕ) (input : SourceCounts) (out : SinkState)
         → read words ≡ migration_reading asked.entry
-        → IfSome (F.held files.old) (λ held. AnswersCommand words held left result
-        (call_objects
-        (files_state (F.held files.old) (F.faults files.old) (F.wants files.old) (F.absences files.old))
-        (call_streams (Some left) input out (E.state err.old)))
-        (call_objects
-        (files_state (F.held files.new) (F.faults files.new) (F.wants files.new) (F.absences files.new))
-        (call_streams (Some left) input out (E.state err.new)))) }
+        → IfSome (F.state files.old).held (λ held. AnswersCommand words held left result
+        (call_streams (F.state files.old) (Some left) input out (E.state err.old))
+        (call_streams (F.state files.new) (Some left) input out (E.state err.new))) }
     ensures leaves { (words : List (List ℕ)) → read words ≡ migration_reading asked.entry
-        → IfSome (F.held files.old)
-        (λ held. LeavesFiles words held result
-        (files_state (F.held files.old) (F.faults files.old) (F.wants files.old) (F.absences files.old))
-        (files_state (F.held files.new) (F.faults files.new) (F.wants files.new) (F.absences files.new))) }
+        → IfSome (F.state files.old).held
+        (λ held. LeavesFiles words held result (F.state files.old) (F.state files.new)) }
     ensures reported { Reports usage asked.entry.image.now (E.state err.old) (E.state err.new) result }
     ensures answered { (words : List (List ℕ)) → read words ≡ migration_reading asked.entry
-        → IfSome (F.held files.old) (λ held. IsAnswered words held result) }
+        → IfSome (F.state files.old).held (λ held. IsAnswered words held result) }
     ensures command { IsCommand result → ⊥ }
-    ensures unwritten { IsRefusal result → F.held files.new ≡ F.held files.old }
+    ensures unwritten { IsRefusal result → (F.state files.new).held ≡ (F.state files.old).held }
     ensures causes { (left : Option (List ℕ)) (input : SourceCounts) (out : SinkState)
         → EndsAtFirst result (IsAbsence result)
-        (call_objects
-        (files_state (F.held files.old) (F.faults files.old) (F.wants files.old) (F.absences files.old))
-        (call_streams left input out (E.state err.old)))
-        (call_objects
-        (files_state (F.held files.new) (F.faults files.new) (F.wants files.new) (F.absences files.new))
-        (call_streams left input out (E.state err.new))) }
-    ensures absences { CountsAbsence result (F.absences files.old) (F.absences files.new) }
+        (call_streams (F.state files.old) left input out (E.state err.old))
+        (call_streams (F.state files.new) left input out (E.state err.new)) }
+    ensures absences { CountsAbsence result (F.state files.old).counts.absences
+        (F.state files.new).counts.absences }
     ensures settled { (out : ℕ) → LeavesSettled result (pending_bytes out (E.pending err.old))
         (pending_bytes out (E.pending err.new)) }
 {
@@ -238,35 +229,25 @@ fn new_image_answer<F: Files, E: Sink>(
     ensures outcome { (words : List (List ℕ)) (held : FileMap) (left : List ℕ)
         (input : SourceCounts) (out : SinkState)
         → (is : IsMigration words held asked.entry.new_name.now (tables_of code.now.code))
-        → is.name ≡ asked.entry.image.now → F.held files.old ≡ Some held
+        → is.name ≡ asked.entry.image.now → (F.state files.old).held ≡ Some held
         → AnswersCommand words held left result
-        (call_objects
-        (files_state (F.held files.old) (F.faults files.old) (F.wants files.old) (F.absences files.old))
-        (call_streams (Some left) input out (E.state err.old)))
-        (call_objects
-        (files_state (F.held files.new) (F.faults files.new) (F.wants files.new) (F.absences files.new))
-        (call_streams (Some left) input out (E.state err.new))) }
+        (call_streams (F.state files.old) (Some left) input out (E.state err.old))
+        (call_streams (F.state files.new) (Some left) input out (E.state err.new)) }
     ensures leaves { (words : List (List ℕ)) (held : FileMap)
         → IsMigration words held asked.entry.new_name.now (tables_of code.now.code)
-        → F.held files.old ≡ Some held
-        → LeavesFiles words held result
-        (files_state (F.held files.old) (F.faults files.old) (F.wants files.old) (F.absences files.old))
-        (files_state (F.held files.new) (F.faults files.new) (F.wants files.new) (F.absences files.new)) }
+        → (F.state files.old).held ≡ Some held
+        → LeavesFiles words held result (F.state files.old) (F.state files.new) }
     ensures reported { Reports usage asked.entry.image.now (E.state err.old) (E.state err.new) result }
     ensures answered { (words : List (List ℕ)) (held : FileMap)
         → IsMigration words held asked.entry.new_name.now (tables_of code.now.code)
-        → F.held files.old ≡ Some held → IsAnswered words held result }
+        → (F.state files.old).held ≡ Some held → IsAnswered words held result }
     ensures command { IsCommand result → ⊥ }
-    ensures unwritten { IsRefusal result → F.held files.new ≡ F.held files.old }
+    ensures unwritten { IsRefusal result → (F.state files.new).held ≡ (F.state files.old).held }
     ensures causes { (left : Option (List ℕ)) (input : SourceCounts) (out : SinkState)
         → EndsAtFirst result (IsAbsence result)
-        (call_objects
-        (files_state (F.held files.old) (F.faults files.old) (F.wants files.old) (F.absences files.old))
-        (call_streams left input out (E.state err.old)))
-        (call_objects
-        (files_state (F.held files.new) (F.faults files.new) (F.wants files.new) (F.absences files.new))
-        (call_streams left input out (E.state err.new))) }
-    ensures absences { F.absences files.new ≡ F.absences files.old }
+        (call_streams (F.state files.old) left input out (E.state err.old))
+        (call_streams (F.state files.new) left input out (E.state err.new)) }
+    ensures absences { (F.state files.new).counts.absences ≡ (F.state files.old).counts.absences }
     ensures present { IsAbsence result → ⊥ }
     ensures settled { (out : ℕ) → LeavesSettled result (pending_bytes out (E.pending err.old))
         (pending_bytes out (E.pending err.new)) }
@@ -281,43 +262,48 @@ fn new_image_answer<F: Files, E: Sink>(
 }
 
 // Runs the code of an image.
-fn run_answer<I: Source, O: Sink, E: Sink>(
+fn run_answer<F: Files, I: Source, O: Sink, E: Sink>(
     alloc: Global,
     code: &Verified,
     asked: RunAsked,
+    files: &mut F,
     input: &mut I,
     out: &mut O,
     err: &mut E,
 ) -> Answer
-    ensures outcome { (words : List (List ℕ)) (held : FileMap) (before after : FilesState)
-        → read words ≡ run_reading asked.entry
+    ensures outcome { (words : List (List ℕ)) (held : FileMap) → read words ≡ run_reading asked.entry
         → IsLoaded (held asked.entry.image.now) asked.entry.image.now (Ok code.now)
-        → before.held ≡ Some held → after.held ≡ before.held
+        → (F.state files.old).held ≡ Some held
         → IfSome (I.left input.old) (λ left. AnswersCommand words held left result
-        (call_objects before
-        (call_streams (I.left input.old) (I.counts input.old) (O.state out.old) (E.state err.old)))
-        (call_objects after
-        (call_streams (I.left input.new) (I.counts input.new) (O.state out.new) (E.state err.new)))) }
+        (call_streams (F.state files.old) (I.left input.old) (I.counts input.old) (O.state out.old)
+        (E.state err.old))
+        (call_streams (F.state files.new) (I.left input.new) (I.counts input.new) (O.state out.new)
+        (E.state err.new))) }
     ensures ran { (words : List (List ℕ)) (held : FileMap) → read words ≡ run_reading asked.entry
         → IsLoaded (held asked.entry.image.now) asked.entry.image.now (Ok code.now)
         → RunsAsAsked words held result
-        (call_streams (I.left input.old) (I.counts input.old) (O.state out.old) (E.state err.old))
-        (call_streams (I.left input.new) (I.counts input.new) (O.state out.new) (E.state err.new)) }
+        (call_streams (F.state files.old) (I.left input.old) (I.counts input.old) (O.state out.old)
+        (E.state err.old))
+        (call_streams (F.state files.new) (I.left input.new) (I.counts input.new) (O.state out.new)
+        (E.state err.new)) }
     ensures reported { (name : List ℕ)
         → Reports usage name (E.state err.old) (E.state err.new) result }
     ensures input { IfSome (I.left input.old) (λ left. LosesSome left (I.left input.new)) }
     ensures others { IsOfRun result }
     ensures causes { RunEndsAtFirst result
-        (call_streams (I.left input.old) (I.counts input.old) (O.state out.old) (E.state err.old))
-        (call_streams (I.left input.new) (I.counts input.new) (O.state out.new) (E.state err.new)) }
+        (call_streams (F.state files.old) (I.left input.old) (I.counts input.old) (O.state out.old)
+        (E.state err.old))
+        (call_streams (F.state files.new) (I.left input.new) (I.counts input.new) (O.state out.new)
+        (E.state err.new)) }
     ensures settled { LeavesSettled result (pending_bytes (O.pending out.old) (E.pending err.old))
         (pending_bytes (O.pending out.new) (E.pending err.new)) }
 {
-    match run::<RawStack<Cell>, I, O, E>(
+    match run::<RawStack<Cell>, F, I, O, E>(
         alloc,
         code,
         asked.arguments,
         asked.limits,
+        files,
         input,
         out,
         err,

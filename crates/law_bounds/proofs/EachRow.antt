@@ -6,16 +6,15 @@ use Rattle.icn_text.specs.declared.op.Op.{Op}
 use Rattle.icn_text.specs.declared.op.Op.TheVariants as Ops
 use Rattle.icn_text.specs.declared.func.Func.{Func}
 use Rattle.icn_text.specs.declared.func.Func.TheVariants as Funcs
-use Rattle.icn_value.specs.Values.{Value, Integer, Text, File, Variable, Item}
+use Rattle.icn_value.specs.Values.{Value, Integer, Text, Variable, Item}
 use Rattle.icn_value.specs.Store.{Heap, Names, Record, Table, list_at, record_at, set_at, table_at}
 use Rattle.icn_defs.specs.Applying.{again, function_of, function_row, operand, operation_on, operation_row}
 use Rattle.icn_defs.specs.Arguments.{Keeper, SetKeeper, TableKeeper, arg, keeper_of}
 use Rattle.icn_defs.specs.Arithmetic.{count_from}
 use Rattle.icn_defs.specs.Conversions.{ValueGroup, Textual, Listed, Collected, Tabled, Recorded, Filed, Activated, Single, group_of}
 use Rattle.icn_defs.specs.Elements.{elements_of, picks, random_by, random_number, random_of, text_elements, text_variable}
-use Rattle.icn_defs.specs.InputOutput.{WriteArgument, puts_line}
 use Rattle.icn_defs.specs.Operations.{new_set_of, sets_or_csets, size_row}
-use Rattle.icn_defs.specs.Rows.{Row, Residual, TextBytes, VariableBytes, ListItems, SetMembers, TableValues, TableKeys, RecordFields, InputLines, UndoAssign, UndoExchange, UndoPosition, Counting, Sequence, Balanced, Found, Among, builds, fails_unless, gives_list, gives_value, present}
+use Rattle.icn_defs.specs.Rows.{Row, Residual, TextBytes, VariableBytes, ListItems, SetMembers, TableValues, TableKeys, RecordFields, FileLines, UndoAssign, UndoExchange, UndoPosition, Counting, Sequence, Balanced, Found, Among, builds, fails_unless, gives_list, gives_value, present}
 use Rattle.icn_defs.specs.Running.{words_row}
 use Rattle.icn_defs.specs.Scanning.{SearchedText, ends_of, region_from, tabs_to}
 use Rattle.icn_defs.specs.StepRows.{coexpression_row, list_row, record_row, text_row, value_row}
@@ -62,9 +61,6 @@ module _ (b : ℕ) where
 
   w_tabs : (place : ℕ) → Overlooks b (tabs_to place)
   w_tabs place = search words depth 12
-
-  w_puts : (newline : List ℕ) (file : File) (ps : List WriteArgument) (next : Row) → Overlooks b next → Overlooks b (puts_line newline file ps next)
-  w_puts newline file ps next f = search (words, f) depth 12
 
   w_inserts : (c : Keeper) (key value : Value) (next : Row) → Overlooks b next → Overlooks b (inserts c key value next)
   w_inserts (SetKeeper id) key value next f = w_here b _ (λ a. refl) (λ a. w_unless b _ _ (w_heap b _ _ (λ h. refl) f))
@@ -203,7 +199,6 @@ ruleset rows = (
   w_region,
   w_ends,
   w_tabs,
-  w_puts,
   w_inserts,
   w_size,
   w_image,
@@ -321,6 +316,8 @@ module _ (b : ℕ) where
   each_function names Funcs.Write vs = search rows depth 18
   each_function names Funcs.Writes vs = search rows depth 18
   each_function names Funcs.ErrorClear vs = search rows depth 18
+  each_function names Funcs.Open vs = search rows depth 18
+  each_function names Funcs.Close vs = search rows depth 18
 
   pub resumed_overlooks : (r : Residual) → Overlooks b (again r)
   resumed_overlooks (TextBytes text k) = search rows depth 14
@@ -330,7 +327,7 @@ module _ (b : ℕ) where
   resumed_overlooks (TableValues id k) = search rows depth 14
   resumed_overlooks (TableKeys id k) = search rows depth 14
   resumed_overlooks (RecordFields id k) = search rows depth 14
-  resumed_overlooks InputLines = search rows depth 14
+  resumed_overlooks (FileLines file) = search rows depth 14
   resumed_overlooks (UndoAssign x old) = search rows depth 14
   resumed_overlooks (UndoExchange m x y v w) = search rows depth 14
   resumed_overlooks (UndoPosition old) = search rows depth 14

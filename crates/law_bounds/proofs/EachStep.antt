@@ -15,7 +15,7 @@ use Rattle.icn_defs.specs.Conversions.{integer_of}
 use Rattle.icn_defs.specs.Errors.{ended_or_failed, ends_run}
 use Rattle.icn_defs.specs.Keywords.{keyword_item}
 use Rattle.icn_defs.specs.Rows.{Row, Outcome, Fails, Gives, Suspends, Error, Ends}
-use Rattle.icn_defs.specs.Running.{AtBound, Done, Errored, Pair, bound_report, number_of, with_errors, words_row}
+use Rattle.icn_defs.specs.Running.{AtBound, Done, Errored, Pair, bound_report, files_written, number_of, with_errors, words_row}
 use Rattle.icn_defs.specs.StepRows.{coexpression_row, list_row, record_row, text_row, value_row}
 use Rattle.icn_run.specs.Calls.{Why, Alt, Op as Operating, Scan, Escan, Proc, MarkDrop, NoMark, Goes, Repeats, Outside as WithoutLabel, Calls}
 use Rattle.icn_run.specs.Step as S
@@ -57,8 +57,8 @@ module _ {H M : Type 0} (C : Calls H M) (P : Program) (b : ℕ) where
 
   -- Ends and rows
 
-  ended_with : ℕ → Outside → List ℕ → State H M
-  ended_with n outside text = over (Errored n) (with_errors text outside)
+  ended_with : ℕ → Store H → List ℕ → State H M
+  ended_with n st text = over (Errored n) (files_written st.world.heap (with_errors text st.outside))
 
   errs : (n : ℕ) (v : Option Value) (m : M) (st : Store H) → S.errs n v m (R st) ≡ U (S.errs n v m st)
   unfolding ended_with
@@ -66,7 +66,7 @@ module _ {H M : Type 0} (C : Calls H M) (P : Program) (b : ℕ) where
     where
       by : (t : Bool) → ended_or_failed t n v (world_under b st.world) (S.ended_by n v (R st)) (λ world. failing m (S.with_world world (R st)))
           ≡ U (ended_or_failed t n v st.world (S.ended_by n v st) (λ world. failing m (S.with_world world st)))
-      by true = ap (ended_with n st.outside) (report_alike b st.names st.world.heap n v)
+      by true = ap (ended_with n st) (report_alike b st.names st.world.heap n v)
       by false = refl
 
   valued : (o : Outcome) (m : M) (st : Store H) (go' go : Value → State H M) → ((v : Value) → go' v ≡ U (go v))
@@ -272,7 +272,7 @@ module _ {H M : Type 0} (C : Calls H M) (P : Program) (b : ℕ) where
   returned : (o : Option M) (go : M → Store H → State H M) (st : Store H) → ((m : M) (s : Store H) → go m (R s) ≡ U (go m s))
       → S.return_to o go (R st) ≡ U (S.return_to o go st)
   returned (Some m) go st f = f m st
-  returned None go st f = either (S.is_main st.active) (over Done st.outside) (over Done st.outside) stuck stuck refl refl
+  returned None go st f = either (S.is_main st.active) (S.over_with Done (world_under b st.world) st.outside) (S.over_with Done st.world st.outside) stuck stuck refl refl
 
   proc_fails : (m : M) (st : Store H) → S.proc_fails C m (R st) ≡ U (S.proc_fails C m st)
   proc_fails m st = ap (λ (s : Store H). S.return_to (C.leave m) failing s) (all_left m st)

@@ -3,12 +3,14 @@ use Rattle.std.proofs.Common.{◌≡◌, ℕ, zero, suc, List, [], ◌∷◌, Op
 use Rattle.std.specs.Prelude.{ℤ, pos, negsuc, ◌++◌, codes, decimal}
 use Rattle.std.specs.Ordering.{is_lt, ordering_then}
 use Rattle.std.specs.declared.cmp.Ordering.{Ordering}
-use Rattle.icn_value.specs.Values.{Value, Null, Integer, Text, Chars, Std, Procedure, ARecord, AList, ASet, ATable, ACoexp, Root, Global, Static, Local, Element, Field, Key, Keyword, Subject, Position, Random, ErrorCount}
+use Rattle.icn_value.specs.Values.{Value, Null, Integer, Text, Chars, Std, Procedure, ARecord, AList, ASet, ATable, ACoexp, File, Input, Output, Errout, Opened, Root, Global, Static, Local, Element, Field, Key, Keyword, Subject, Position, Random, ErrorCount}
 use Rattle.icn_value.specs.Store.{Heap, Names, Setting}
 use Rattle.icn_defs.specs.Arguments.{Keeper, SetKeeper, TableKeeper}
 use Rattle.icn_defs.specs.Conversions.{ValueRank, shape_cmp, sorted_in, sorted_onto, sort_list, ValueGroup, Textual, Listed, Collected, Tabled, Recorded, Filed, Activated, Single, group_of, size_in, size_of}
 use Rattle.icn_defs.specs.Errors.{error_report, error_text, offending_line}
-use Rattle.icn_defs.specs.Images.{image, type_name, sorted_shape, value_cmp}
+use Rattle.icn_defs.specs.Images.{file_image, image, type_name, sorted_shape, value_cmp}
+use Rattle.icn_defs.specs.InputOutput.{WriteArgument, Puts, Selects, takes_output}
+use Rattle.icn_defs.specs.OpenFiles.{is_writable, readable_of}
 use Rattle.icn_defs.specs.ReadAndAssign.{root_value}
 use Rattle.icn_defs.specs.Structures.{key_cmp, entry_cmp, gives_pair_lists, gives_pairs, has_key, table_sorted, without_key}
 use Rattle.law_bounds.specs.BoundedTurns.{heap_under, setting_under}
@@ -27,13 +29,38 @@ module _ {A : Type 0} (f g : A → A → Ordering) (same : (x y : A) → f x y �
   pub sort_alike : (items : List A) → sort_list f items ≡ sort_list g items
   sort_alike items = placed_alike [] items
 
+-- Opened files
+
+module _ (bound : ℕ) (heap : Heap) where
+  file_alike : (file : File) → file_image (heap_under bound heap) file ≡ file_image heap file
+  file_alike Input = refl
+  file_alike Output = refl
+  file_alike Errout = refl
+  file_alike (Opened number) = refl
+
+  pub readable_alike : (file : File) → readable_of (heap_under bound heap) file ≡ readable_of heap file
+  readable_alike Input = refl
+  readable_alike Output = refl
+  readable_alike Errout = refl
+  readable_alike (Opened number) = refl
+
+  writable_alike : (file : File) → is_writable (heap_under bound heap) file ≡ is_writable heap file
+  writable_alike Input = refl
+  writable_alike Output = refl
+  writable_alike Errout = refl
+  writable_alike (Opened number) = refl
+
+  pub takes_alike : (part : WriteArgument) → takes_output (heap_under bound heap) part ≡ takes_output heap part
+  takes_alike (Puts text) = refl
+  takes_alike (Selects file) = writable_alike file
+
 module _ (bound : ℕ) (names : Names) (heap : Heap) where
   pub image_alike : (v : Value) → image names (heap_under bound heap) v ≡ image names heap v
   image_alike Null = refl
   image_alike (Integer n) = refl
   image_alike (Text bytes) = refl
   image_alike (Chars bytes) = refl
-  image_alike (Std file) = refl
+  image_alike (Std file) = file_alike bound heap file
   image_alike (Procedure number) = refl
   image_alike (ARecord id) = refl
   image_alike (AList id) = refl

@@ -1,16 +1,20 @@
 -- The words that rows are made of do not look at the bound of turns.
 use Rattle.std.proofs.Common.{◌≡◌, ℕ, Bool, true, false, List, [], ◌∷◌, length, Option, Some, None, refl, ap, ◌∙◌}
-use Rattle.std.specs.Prelude.{ℤ, pos, negsuc, Result, Ok, Err}
+use Rattle.std.specs.Prelude.{ℤ, pos, negsuc, Result, Ok, Err, if◌then◌else◌}
 use Rattle.icn_text.specs.declared.arithmetic.Arith.{Arith}
-use Rattle.icn_value.specs.Values.{Value, Text, Root, Global, Static, Local, Element, Field, Key, Keyword, KeywordVariable, Subject, Position, Random, ErrorCount, Variable, Whole, Part, Item, Val, Var}
-use Rattle.icn_value.specs.Store.{Heap, Setting, having_heap, having_position, having_subject}
+use Rattle.icn_value.specs.Values.{Value, Text, File, Input, Output, Errout, Opened, Root, Global, Static, Local, Element, Field, Key, Keyword, KeywordVariable, Subject, Position, Random, ErrorCount, Variable, Whole, Part, Item, Val, Var}
+use Rattle.icn_value.specs.Store.{Heap, OpenedFile, Setting, having_heap, having_position, having_subject}
+use Rattle.icn_value.specs.declared.mode.FileMode.{FileMode}
+use Rattle.icn_value.specs.declared.mode.FileMode.TheVariants.{ToRead, ToWrite, ToAdd}
 use Rattle.icn_defs.specs.Conversions.{integer_of, position_of, form_of, text_made, text_of}
-use Rattle.icn_defs.specs.InputOutput.{WriteArgument, pieces}
-use Rattle.icn_defs.specs.Lines.{lines_again, next_bytes, next_line}
+use Rattle.icn_defs.specs.Files.{content_by, new_file_of}
+use Rattle.icn_defs.specs.InputOutput.{WriteArgument, Puts, Selects, line_put, piece_of, pieces, put_on, put_pieces, puts_line, takes_output}
+use Rattle.icn_defs.specs.Lines.{bytes_from, line_from, next_bytes, next_line, next_opened_bytes, next_opened_line}
+use Rattle.icn_defs.specs.OpenFiles.{Readable, FromInput, FromOpened, closed_in, readable}
 use Rattle.icn_defs.specs.ReadAndAssign.{assigns_both, assigns_keyword, assigns_or, assigns_root, costs_unless, move_part, moved_by_left, moved_by_right, reads, reads_root, reads_text, stores, the_value, the_values, the_variable}
-use Rattle.icn_defs.specs.Rows.{Row, InputLines, Mover, Neither, Left, Right, Residual, builds, changes, changes_heap, check, costs_bytes, costs_cells, costs_made, costs_text, costs_texts, ends, fails, fails_unless, gives, gives_list, gives_value, here, natural, new_list_of, number_or_error, present, suspends, thing_or_failure, wrong}
+use Rattle.icn_defs.specs.Rows.{Row, Mover, Neither, Left, Right, Residual, builds, changes, changes_heap, check, costs_bytes, costs_cells, costs_made, costs_text, costs_texts, ends, fails, fails_unless, gives, gives_list, gives_value, here, natural, new_list_of, number_or_error, present, suspends, thing_or_failure, wrong}
 use Rattle.law_bounds.specs.BoundedTurns.{OverlooksBound, heap_under, outcome_under, setting_under}
-use Rattle.law_bounds.proofs.HeapViews.{root_alike}
+use Rattle.law_bounds.proofs.HeapViews.{readable_alike, root_alike, takes_alike}
 
 module _ (bound : ℕ) where
   abbrev pub Overlooks : Row → Type 0
@@ -235,13 +239,105 @@ module _ (bound : ℕ) where
   pub w_some_bytes : (count : ℕ) (next : List ℕ → Row) → ((bytes : List ℕ) → Overlooks bound (next bytes)) → Overlooks bound (next_bytes count next)
   w_some_bytes count next f = search (charges, f) depth 14
 
-  pub w_lines_again : Overlooks bound lines_again
-  w_lines_again = w_line _ (λ line. o_suspends bound (Val (Text line)) InputLines)
+  w_opened_line : (number : ℕ) (next : List ℕ → Row) → ((line : List ℕ) → Overlooks bound (next line)) → Overlooks bound (next_opened_line number next)
+  w_opened_line number next f = search (charges, f) depth 14
 
-  pub w_pieces : (vs : List Value) (next : List WriteArgument → Row) → ((ps : List WriteArgument) → Overlooks bound (next ps))
-      → Overlooks bound (pieces vs next)
-  w_pieces [] next f = f []
-  w_pieces (v ∷ vs) next f = search (charges, w_pieces vs, f) depth 12
+  w_opened_bytes : (number count : ℕ) (next : List ℕ → Row) → ((bytes : List ℕ) → Overlooks bound (next bytes))
+      → Overlooks bound (next_opened_bytes number count next)
+  w_opened_bytes number count next f = search (charges, f) depth 14
+
+  pub w_readable : (file : File) (named : Value) (next : Readable → Row) → ((from : Readable) → Overlooks bound (next from))
+      → Overlooks bound (readable file named next)
+  w_readable file named next f = w_here bound _ (λ a. ap (λ (o : Option Readable). present o 212 (Some named) next) (readable_alike bound a.world.heap file))
+      (λ a. w_present bound _ _ _ _ f)
+
+  pub w_line_from : (from : Readable) (next : List ℕ → Row) → ((line : List ℕ) → Overlooks bound (next line)) → Overlooks bound (line_from from next)
+  w_line_from FromInput next f = w_line next f
+  w_line_from (FromOpened number) next f = w_opened_line number next f
+
+  pub w_bytes_from : (count : ℕ) (from : Readable) (next : List ℕ → Row) → ((bytes : List ℕ) → Overlooks bound (next bytes))
+      → Overlooks bound (bytes_from count from next)
+  w_bytes_from count FromInput next f = w_some_bytes count next f
+  w_bytes_from count (FromOpened number) next f = w_opened_bytes number count next f
+
+  -- what is put goes where it goes
+  puts_alike : (file : File) (text : List ℕ) (a : Setting) → put_on file text (setting_under bound a) ≡ setting_under bound (put_on file text a)
+  puts_alike Input text a = refl
+  puts_alike Output text a = refl
+  puts_alike Errout text a = refl
+  puts_alike (Opened number) text a = refl
+
+  -- the same pieces are put, and the last of them in the same place
+  record PutsAlike (newline : List ℕ) (is_first : Bool) (parts : List WriteArgument) (file : File) (a : Setting) : Type 0 where
+    same : put_pieces newline is_first parts file (setting_under bound a)
+        ≡ ((put_pieces newline is_first parts file a).0, setting_under bound (put_pieces newline is_first parts file a).1)
+
+  pieces_alike : (newline : List ℕ) (is_first : Bool) (parts : List WriteArgument) (file : File) (a : Setting) → PutsAlike newline is_first parts file a
+  pieces_alike newline is_first [] file a = record { same = refl }
+  pieces_alike newline is_first (Puts text ∷ parts) file a = record {
+    same = ap (λ (s : Setting). put_pieces newline false parts file s) (puts_alike file text a)
+        ∙ (pieces_alike newline false parts file (put_on file text a)).same;
+  }
+  pieces_alike newline is_first (Selects other ∷ parts) file a =
+      let text = if is_first then [] else newline in
+      record {
+        same = ap (λ (s : Setting). put_pieces newline false parts other s) (puts_alike file text a)
+            ∙ (pieces_alike newline false parts other (put_on file text a)).same;
+      }
+
+  line_alike : (newline : List ℕ) (is_first : Bool) (parts : List WriteArgument) (file : File) (a : Setting)
+      → line_put newline is_first parts file (setting_under bound a) ≡ setting_under bound (line_put newline is_first parts file a)
+  line_alike newline is_first parts file a =
+      let end = put_pieces newline is_first parts file a in
+      ap (λ (p : File × Setting). put_on p.0 newline p.1) (pieces_alike newline is_first parts file a).same ∙ puts_alike end.0 newline end.1
+
+  -- the arguments are checked alike
+  checked_alike : (t : Bool) (v : Value) (next next' : Row) (a : Setting) → next' (setting_under bound a) ≡ outcome_under bound (next a)
+      → check t 213 (Some v) next' (setting_under bound a) ≡ outcome_under bound (check t 213 (Some v) next a)
+  checked_alike true v next next' a e = e
+  checked_alike false v next next' a e = refl
+
+  piece_alike : (heap : Heap) (v : Value) (o : Option WriteArgument) (next next' : WriteArgument → Row) (a : Setting)
+      → ((p : WriteArgument) → next' p (setting_under bound a) ≡ outcome_under bound (next p a))
+      → present o 109 (Some v) (λ p. check (takes_output (heap_under bound heap) p) 213 (Some v) (next' p)) (setting_under bound a)
+      ≡ outcome_under bound (present o 109 (Some v) (λ p. check (takes_output heap p) 213 (Some v) (next p)) a)
+  piece_alike heap v None next next' a f = refl
+  piece_alike heap v (Some p) next next' a f =
+      ap (λ (t : Bool). check t 213 (Some v) (next' p) (setting_under bound a)) (takes_alike bound heap p)
+      ∙ checked_alike (takes_output heap p) v (next p) (next' p) a (f p)
+
+  pieces_checked : (heap : Heap) (vs : List Value) (next : List WriteArgument → Row) → ((ps : List WriteArgument) → Overlooks bound (next ps))
+      → (a : Setting) → pieces (heap_under bound heap) vs next (setting_under bound a) ≡ outcome_under bound (pieces heap vs next a)
+  pieces_checked heap [] next f a = (f []).same a
+  pieces_checked heap (v ∷ vs) next f a = piece_alike heap v (piece_of v) (λ p. pieces heap vs (λ ps. next (p ∷ ps)))
+      (λ p. pieces (heap_under bound heap) vs (λ ps. next (p ∷ ps))) a
+      (λ p. pieces_checked heap vs (λ ps. next (p ∷ ps)) (λ ps. f (p ∷ ps)) a)
+
+  pub w_puts : (newline : List ℕ) (file : File) (vs : List Value) (next : Row) → Overlooks bound next → Overlooks bound (puts_line newline file vs next)
+  w_puts newline file vs next f = record {
+    same = λ a. pieces_checked a.world.heap vs (λ ps. changes (line_put newline true ps file) next)
+        (λ ps. w_changes bound _ _ (line_alike newline true ps file) f) a;
+  }
+
+  -- Opening and closing
+
+  pub w_content : (mode : FileMode) (name : List ℕ) (next : List ℕ → Row) → ((content : List ℕ) → Overlooks bound (next content))
+      → Overlooks bound (content_by mode name next)
+  w_content ToRead name next f = search (charges, f) depth 14
+  w_content ToWrite name next f = f []
+  w_content ToAdd name next f = search (charges, f) depth 14
+
+  pub w_new_file : (file : OpenedFile) (next : Value → Row) → ((v : Value) → Overlooks bound (next v)) → Overlooks bound (new_file_of file next)
+  w_new_file file next f = search (charges, f) depth 12
+
+  closed_alike : (file : File) (a : Setting) → closed_in file (setting_under bound a) ≡ setting_under bound (closed_in file a)
+  closed_alike Input a = refl
+  closed_alike Output a = refl
+  closed_alike Errout a = refl
+  closed_alike (Opened number) a = refl
+
+  pub w_closes : (file : File) (next : Row) → Overlooks bound next → Overlooks bound (changes (closed_in file) next)
+  w_closes file next f = w_changes bound _ _ (closed_alike file) f
 
 pub ruleset words = (
   charges,
@@ -254,8 +350,11 @@ pub ruleset words = (
   w_stores,
   w_assigns,
   w_both,
-  w_line,
-  w_some_bytes,
-  w_lines_again,
-  w_pieces,
+  w_readable,
+  w_line_from,
+  w_bytes_from,
+  w_puts,
+  w_content,
+  w_new_file,
+  w_closes,
 )

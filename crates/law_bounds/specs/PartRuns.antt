@@ -9,7 +9,8 @@ abbrev pub ended_at_bound : Outside → Observation
 ended_at_bound done = record { ending = AtBound; outside = with_errors bound_report done }
 
 -- The first run is observed as the second; or it ended at its bound of turns, and what it had done until then is a
--- first part of what the second did: of what it put on both outputs, and of what it took of the input.
+-- first part of what the second did: of what it put on both outputs, of what it took of the input, and of the files
+-- that it read and wrote.
 pub data IsPartOf (part whole : Observation) : Type 0 where
   is_whole : part ≡ whole → IsPartOf part whole
   is_cut : (done : Outside) → part ≡ ended_at_bound done → ExtendsOutside done whole.outside

@@ -16,8 +16,8 @@ ghost use Rattle.law_bounds.specs.PartRuns.{IsPartOf};
 use law_simulation::same_ends;
 
 /// A smaller bound of turns cuts a run short, and changes nothing else. No operation, function or resumption looks at the bound. Of two
-/// runs that differ in it alone, the one under the smaller bound is observed as the other; or it ended at its bound, and what it put
-/// and took until then is a first part of what the other did. So it is of any code, and of what source files mean.
+/// runs that differ in it alone, the one under the smaller bound is observed as the other; or it ended at its bound, and what it put,
+/// took and wrote until then is a first part of what the other did. So it is of any code, and of what source files mean.
 pub fn bounds_cut_runs()
     ensures operations { (bound : ℕ) (op : Op) (items : List Item)
         → OverlooksBound bound (operation_row op items) }

@@ -2,11 +2,10 @@
 use Rattle.std.proofs.Common.{◌≡◌, ℕ, suc, ◌+◌, Bool, true, false, List, [], ◌∷◌, ◌++◌, length, Option, Some, None, replicate, refl, sym, ap, subst, ◌∙◌, append_assoc, pos, if◌then◌else◌, arith}
 use Rattle.icn_text.specs.declared.keyword.Keyword.{Keyword as KeywordNamed}
 use Rattle.icn_text.specs.declared.op.Op.TheVariants as O
-use Rattle.icn_tree.specs.declared.tree.Place.{Place}
 use Rattle.icn_tree.specs.declared.tree.Infix.TheVariants.{Plain, Augmented}
 use Rattle.icn_tree.specs.declared.tree.LoopKind.TheVariants.{While, Until, Every}
 use Rattle.icn_tree.specs.Trees.{Tree, MaybeTree, Trees, Clause, Clauses, Empty, Constant, Identifier, Keyword, Parentheses, Listing, Compound, Call, CoCall, Subscript, Section, Field, Prefix, Not, Binary, To, If, Case, Loop, Repeat, Create, Next, Fail, Break, Return, Suspend, Absent, Present, NoTrees, More, Default, Guarded, NoClauses, MoreClauses}
-use Rattle.icn_decls.specs.Contexts.{BrokenRule, Context, create_context as created_context, enter_loop, leave_loop, others, break_by, next_by}
+use Rattle.icn_decls.specs.Contexts.{Context, create_context as created_context, enter_loop, leave_loop, others}
 use Rattle.icn_decls.specs.Faults.{faults, maybe_faults, all_faults, clauses_faults, clause_faults, is_default}
 use Rattle.icn_code.specs.declared.instr.Instr.{Instr}
 use Rattle.icn_code.specs.declared.instr.Instr.TheVariants as I
@@ -15,33 +14,19 @@ use Rattle.icn_unit.specs.declared.unit.UnitInstr.TheVariants as U
 use Rattle.icn_unit.specs.UnitOperands.{keyword_of}
 use Rattle.icn_translate.specs.Drafts.{Draft, ◌▹◌, put, aside, put_next, put_last}
 use Rattle.icn_translate.specs.Instructions.{literal_instr, keyword_instr, section_op, infix_form, update_form, prefix_form}
-use Rattle.icn_translate.specs.OpenMarks.{OpenMarks, Outermost, Marked, Looped, Each, unmarks_for_break, unmarks_for_next, around}
+use Rattle.icn_translate.specs.OpenMarks.{OpenMarks, Outermost, Marked, Looped, Controlled, Each, is_loopless, is_nextless, unmarks_for_break, unmarks_for_next, around}
 use Rattle.icn_translate.specs.Translation as T
 use Rattle.icn_translate.specs.Translation.{translate, operands, arguments, conjunction, compound, creations, other_creations, subscripts, to_step, looped_part, suspended_part, guarded_part, guarded_clause, default_part}
-use Rattle.icn_units.proofs.KeptByForms.{none_before, none_behind}
+use Rattle.icn_units.proofs.KeptByForms.{none_before, none_behind, break_inside, next_inside}
 use Rattle.icn_link.specs.Resolving.{Scope, resolved_one}
 use Rattle.law_simulation.specs.Translation as X
 use Rattle.law_link.proofs.CodeSteps.{Gives, no_facts, gives_nothing, gives_instruction, ◌⨾◌, given_as}
 use Rattle.law_link.proofs.CodeWays.{puts_next, puts_last, set_aside}
 use Rattle.law_link.proofs.CodeNames.{AgreeOn, puts_variable, keyword_is, keyword_same, literal_code_is}
 use Rattle.law_link.proofs.CodeParts.{bounded_gives, created_gives, not_gives, return_gives, branches_give, lone_label_gives}
-use Rattle.law_link.proofs.CodeOpen.{depths, loops_in, Within, around_depths, loops_around, unmarks_for_break_give, unmarks_for_next_give}
+use Rattle.law_link.proofs.CodeOpen.{depths, loops_in, flags_in, Within, loops_counted, opened_in, dropped_in, first_in, loop_is_open, MayPass, next_passes, next_size_is, next_code_is, break_size_is, break_code_is, around_depths, loops_around, flags_around, unmarks_for_break_give, unmarks_for_next_give}
 use Rattle.law_link.proofs.CodeOperators.{form_same, update_same, prefix_same, section_same, prefix_gives, plain_gives, augmented_gives}
 use Rattle.law_link.proofs.CodeLoops.{EndsAt, looped_gives, repeat_gives, while_gives, every_gives, until_gives, clause_gives, case_gives}
-
--- A loop is open where `break` and `next` break no rule
-
-some_fault : (b : Bool) (f g : BrokenRule) → (if b then f ∷ [] else g ∷ []) ≡ [] → ⊥
-some_fault true f g h = absurd (cc)
-some_fault false f g h = absurd (cc)
-
-break_inside : (b : Bool) (loops : List Bool) (place : Place) → break_by b loops place ≡ [] → length loops ≡ suc (length (others loops))
-break_inside b [] place h = absurd (some_fault b _ _ h)
-break_inside b (x ∷ loops) place h = refl
-
-next_inside : (b : Bool) (loops : List Bool) (place : Place) → next_by b loops place ≡ [] → length loops ≡ suc (length (others loops))
-next_inside b [] place h = absurd (some_fault b _ _ h)
-next_inside b (x ∷ loops) place h = refl
 
 -- Parts that stand in several forms
 
@@ -58,19 +43,40 @@ module _ {S : Scope} {F : List (List ℕ)} {W : List X.LoopExits} {E : List ℕ}
   plainly x e same = given_as x e (λ p f. (same p, tt))
 
 module _ {S : Scope} {F : List (List ℕ)} {E : List ℕ} where
-  next_gives : (o : OpenMarks) (n : ℕ) → loops_in o ≡ suc n → (V R : List X.LoopExits) → length V ≡ suc n
-      → Gives S F (V ++ R) E (λ d. d ▹ unmarks_for_next o ▹ put_next U.Goto) (X.dropped_by_next (depths o) + 1)
-      (λ p. replicate (X.dropped_by_next (depths o)) I.Unmark ++ I.Goto (X.next_way V) ∷ []) no_facts
-  next_gives o n h [] R e = absurd (omega arith)
-  next_gives o n h (w ∷ V) R e = plainly (unmarks_for_next_give o n h ⨾ puts_next U.Goto I.Goto (λ l. refl)) refl (λ p. refl)
+  -- `next` and `break` in a loop
+  next_inside_gives : (o : OpenMarks) (n : ℕ) → loops_in o ≡ suc n → (V R : List X.LoopExits) → length V ≡ suc n
+      → Gives S F (V ++ R) E (λ d. d ▹ unmarks_for_next o ▹ put_next U.Goto) (dropped_in (depths o) + 1)
+      (λ p. replicate (dropped_in (depths o)) I.Unmark ++ I.Goto (X.next_way V) ∷ []) no_facts
+  next_inside_gives o n h [] R e = absurd (omega arith)
+  next_inside_gives o n h (w ∷ V) R e =
+      plainly (unmarks_for_next_give o n h ⨾ puts_next U.Goto I.Goto (λ l. refl)) refl (λ p. refl)
 
-  break_gives : (o : OpenMarks) (n : ℕ) → loops_in o ≡ suc n → (V R : List X.LoopExits) → length V ≡ suc n → {s : Draft → Draft} {m : ℕ} {c : ℕ → List Instr}
-      → Gives S F (X.around V ++ R) E s m c no_facts
-      → Gives S F (V ++ R) E (λ d. d ▹ unmarks_for_break o ▹ aside s ▹ put_last U.Goto) (X.opened_in (depths o) + m + 1)
-      (λ p. replicate (X.opened_in (depths o)) I.Unmark ++ (c (p + X.opened_in (depths o)) ++ I.Goto (X.last_way V) ∷ [])) no_facts
-  break_gives o n h [] R e x = absurd (omega arith)
-  break_gives o n h (w ∷ V) R e x =
+  break_inside_gives : (o : OpenMarks) (n : ℕ) → loops_in o ≡ suc n → (V R : List X.LoopExits) → length V ≡ suc n
+      → {s : Draft → Draft} {m : ℕ} {c : ℕ → List Instr} → Gives S F (X.around V ++ R) E s m c no_facts
+      → Gives S F (V ++ R) E (λ d. d ▹ unmarks_for_break o ▹ aside s ▹ put_last U.Goto) (opened_in (depths o) + m + 1)
+      (λ p. replicate (opened_in (depths o)) I.Unmark ++ (c (p + opened_in (depths o)) ++ I.Goto (X.last_way V) ∷ [])) no_facts
+  break_inside_gives o n h [] R e x = absurd (omega arith)
+  break_inside_gives o n h (w ∷ V) R e x =
       plainly (unmarks_for_break_give o n h ⨾ set_aside x ⨾ puts_last U.Goto I.Goto (λ l. refl)) (omega arith) (λ p. refl)
+
+  next_gives : (o : OpenMarks) (n : ℕ) → loops_in o ≡ suc n → MayPass o → (V R : List X.LoopExits) → length V ≡ suc n
+      → Gives S F (V ++ R) E (T.next_code o) (X.next_size (depths o)) (λ p. X.next_code (depths o) (X.next_way V)) no_facts
+  next_gives o n h m V R e =
+      plainly (unless_gives (is_nextless o) (next_inside_gives o n h V R e))
+      (ap (λ b. if b then 0 else dropped_in (depths o) + 1) m.asks ∙ next_size_is (depths o) m.passes)
+      (λ p. ap (λ b. if b then [] else replicate (dropped_in (depths o)) I.Unmark ++ I.Goto (X.next_way V) ∷ []) m.asks
+      ∙ next_code_is (depths o) m.passes (X.next_way V))
+
+  break_gives : (o : OpenMarks) (n : ℕ) → loops_in o ≡ suc n → (V R : List X.LoopExits) → length V ≡ suc n
+      → {s : Draft → Draft} {m : ℕ} {c : ℕ → List Instr} → Gives S F (X.around V ++ R) E s m c no_facts
+      → Gives S F (V ++ R) E (T.break_code o s) (X.break_size (depths o) m) (λ p. X.break_code (depths o) (X.last_way V) c p) no_facts
+  break_gives o n h V R e {m = m} {c = c} x =
+      let k = opened_in (depths o) in
+      let first = first_in o n h in
+      plainly (unless_gives (is_loopless o) (break_inside_gives o n h V R e x))
+      (ap (λ b. if b then 0 else k + m + 1) (loop_is_open o n h) ∙ break_size_is (depths o) first m)
+      (λ p. ap (λ b. if b then [] else replicate k I.Unmark ++ (c (p + k) ++ I.Goto (X.last_way V) ∷ [])) (loop_is_open o n h)
+      ∙ break_code_is (depths o) first (X.last_way V) c p)
 
 -- What both translations ask of a tree
 
@@ -118,8 +124,8 @@ compound_code false n p bounded rest =
 
 -- in one more loop
 inside : (o : OpenMarks) (c : Context) (V : List X.LoopExits) (b : Bool) (v : X.LoopExits) → Within o c V
-    → (length (b ∷ c.loops) ≡ suc (loops_in o)) × (length (v ∷ V) ≡ suc (loops_in o))
-inside o c V b v w = (let h = w.0 in omega arith, let h = w.1 in omega arith)
+    → (b ∷ c.loops ≡ b ∷ flags_in o) × (length (v ∷ V) ≡ suc (loops_in o))
+inside o c V b v w = (ap (λ l. b ∷ l) w.0, let h = w.1 in omega arith)
 
 -- Forms
 
@@ -206,22 +212,21 @@ module _ {S : Scope} {N : X.SymbolTable} {F : List (List ℕ)} (agree : AgreeOn 
         until_gives (λ v. tree_gives (Marked (Looped o)) (enter_loop true c) e (none_before _ _ x) (v ∷ V) R (inside o c V true v w))
         (λ v. looped_part_gives (Marked (Looped o)) c b (none_behind _ _ x) v V R (inside o c V true v w)) (looped_ends N (depths (Marked (Looped o))) V b)
     tree_gives o c (Loop place Every e b) x V R w =
-        every_gives (λ v. tree_gives (Each o) (enter_loop false c) e (none_before _ _ x) (v ∷ V) R (inside o c V false v w))
+        every_gives (λ v. tree_gives (Controlled o) (enter_loop false c) e (none_before _ _ x) (v ∷ V) R (inside o c V false v w))
         (λ v. looped_part_gives (Marked (Each o)) c b (none_behind _ _ x) v V R (inside o c V true v w)) (looped_ends N (depths (Marked (Each o))) V b)
     tree_gives o c (Repeat place b) x V R w = repeat_gives (λ v. tree_gives (Marked (Looped o)) (enter_loop true c) b x (v ∷ V) R (inside o c V true v w))
     tree_gives o c (Create place e) x V R w = created_gives (tree_gives Outermost created_context e x [] (V ++ R) (refl, refl))
     tree_gives o c (Next place) x V R w =
         let n = length (others c.loops) in
-        let h = next_inside c.in_create c.loops place x in
-        next_gives o n (sym w.0 ∙ h) V R (w.1 ∙ sym w.0 ∙ h)
+        let h : loops_in o ≡ suc n = sym (loops_counted o c w.0) ∙ next_inside c.in_create c.loops place x in
+        next_gives o n h (next_passes o c place w.0 x) V R (w.1 ∙ h)
     tree_gives o c (Fail place) x V R w = gives_instruction U.Pfail refl
     tree_gives o c (Break place e) x V R w {E = E} =
         let n = length (others c.loops) in
-        let h = break_inside c.in_create c.loops place (none_before _ _ x) in
-        let around_open = loops_around o n (sym w.0 ∙ h) in
+        let h : loops_in o ≡ suc n = sym (loops_counted o c w.0) ∙ break_inside c.in_create c.loops place (none_before _ _ x) in
         let inner = tree_gives (around o) (leave_loop c) e (none_behind _ _ x) (X.around V) R
-        (sym around_open, around_ways V n (w.1 ∙ sym w.0 ∙ h) ∙ sym around_open) in
-        break_gives o n (sym w.0 ∙ h) V R (w.1 ∙ sym w.0 ∙ h)
+        (ap others w.0 ∙ flags_around o, around_ways V n (w.1 ∙ h) ∙ sym (loops_around o n h)) in
+        break_gives o n h V R (w.1 ∙ h)
         (subst (λ (D : List X.Depth). Gives S F (X.around V ++ R) E (translate (around o) e) (X.size D e) (λ p. X.code N D (X.around V) p e) no_facts)
         (sym (around_depths o)) inner)
     tree_gives o c (Return place e) x V R w = return_gives (tree_gives (Marked o) c e (none_behind _ _ x) V R w)

@@ -71,7 +71,7 @@ whole_code N (Initially place e) es =
     ∙ ap (λ q. I.Init n ∷ I.Mark n ∷ X.code N [] [] 2 e ++ I.Unmark ∷ X.body N q es) begins
 
 -- the faults of the trees of a procedure
-trees_faultless : (met : NameTest) (procedure : Procedure) → procedure_faults met procedure ≡ []
+pub trees_faultless : (met : NameTest) (procedure : Procedure) → procedure_faults met procedure ≡ []
     → (initial_faults procedure.initial ≡ []) × (all_faults outermost procedure.body ≡ [])
 trees_faultless met procedure x =
     let many = too_many (length (declared_names procedure)) procedure.name in

@@ -27,7 +27,7 @@ use Rattle.icn_translate.specs.declared.forms.PrefixForm.TheVariants.{Activation
 use Rattle.icn_translate.specs.Drafts.{Draft, ◌▹◌, put, next_label, with_label, with_number, put_variable, no_ways, in_loop, outside_loop, innermost, aside, put_next, put_last, case_end, in_case, outside_case, put_end}
 use Rattle.icn_translate.specs.Instructions.{literal_instr, keyword_instr, section_op, infix_form, update_form, prefix_form}
 use Rattle.icn_translate.specs.NumbersTaken.{numbers, all_numbers, maybe_numbers, clause_numbers, initial_numbers, procedure_numbers}
-use Rattle.icn_translate.specs.OpenMarks.{OpenMarks, Outermost, Marked, Looped, Each, unmarks_for_break, unmarks_for_next, around}
+use Rattle.icn_translate.specs.OpenMarks.{OpenMarks, Outermost, Marked, Looped, Controlled, Each, is_loopless, is_nextless, unmarks_for_break, unmarks_for_next, around}
 use Rattle.icn_translate.specs.ProcCodes.{first_draft, proc_code}
 use Rattle.icn_translate.specs.Translation.{count_of, is_empty, is_nothing, is_no_element, elements, bounded_code, create_code, if_mark, either_step, control_part, in_control, in_body, back, loop_end, keyword_code, prefix_by, plain_form, update, augmented_form, case_of, looped_body, translate, operands, arguments, conjunction, conjuncts, compound, creations, other_creations, subscripts, to_step, otherwise, looped_part, suspended_part, guarded_part, default_part, initially, body}
 use Rattle.icn_units.proofs.WrittenTrees.{and_intro, nat_le_of_le}
@@ -169,12 +169,14 @@ unmarks_for_break_always : (o : OpenMarks) → FitsAlways (unmarks_for_break o)
 unmarks_for_break_always Outermost = nothing
 unmarks_for_break_always (Marked o) = then_always (put_always I.Unmark refl) (unmarks_for_break_always o)
 unmarks_for_break_always (Looped o) = nothing
+unmarks_for_break_always (Controlled o) = put_always I.Unmark refl
 unmarks_for_break_always (Each o) = put_always I.Unmark refl
 
 unmarks_for_next_always : (o : OpenMarks) → FitsAlways (unmarks_for_next o)
 unmarks_for_next_always Outermost = nothing
 unmarks_for_next_always (Marked o) = then_always (put_always I.Unmark refl) (unmarks_for_next_always o)
 unmarks_for_next_always (Looped o) = nothing
+unmarks_for_next_always (Controlled o) = nothing
 unmarks_for_next_always (Each o) = nothing
 
 -- Literals and keywords
@@ -263,6 +265,13 @@ loop_always r = record { fit = λ d. from d ▸ label ▸ puts (I.Lab _) refl �
 aside_always : {s : Draft → Draft} → FitsAlways s → FitsAlways (aside s)
 aside_always r = record { fit = λ d. from d ▸ outer ▸ on r ▸ inner _ }
 
+next_always : (o : OpenMarks) → FitsAlways (λ d. d ▹ unmarks_for_next o ▹ put_next I.Goto)
+next_always o = let r = unmarks_for_next_always o in record { fit = λ d. from d ▸ on r ▸ next_put I.Goto (λ l. refl) }
+
+break_always : {s : Draft → Draft} (o : OpenMarks) → FitsAlways s → FitsAlways (λ d. d ▹ unmarks_for_break o ▹ aside s ▹ put_last I.Goto)
+break_always o r = let p = unmarks_for_break_always o in let q = aside_always r in
+    record { fit = λ d. from d ▸ on p ▸ on q ▸ last_put I.Goto (λ l. refl) }
+
 case_always : {g s : Draft → Draft} → FitsAlways g → FitsAlways s → FitsAlways (case_of g s)
 case_always r q = record {
   fit = λ d. from d ▸ case_inner None ▸ on r ▸ puts I.Pop refl ▸ on q ▸ end_put I.Lab (λ l. refl) ▸ case_outer;
@@ -306,10 +315,9 @@ mutual
       kinds_always kind (tree_fits (in_control kind o) e (omega (arith, h))) (looped_part_fits (Marked (in_body kind o)) b (omega (arith, h)))
   tree_fits o (Repeat place b) h = loop_always (looped (tree_fits (Marked (Looped o)) b (omega (arith, h))))
   tree_fits o (Create place e) h = created (tree_fits Outermost e (omega (arith, h)))
-  tree_fits o (Next place) h = let r = unmarks_for_next_always o in record { fit = λ d. from d ▸ on r ▸ next_put I.Goto (λ l. refl) }
+  tree_fits o (Next place) h = if_always (is_nextless o) (next_always o)
   tree_fits o (Fail place) h = put_always I.Pfail refl
-  tree_fits o (Break place e) h = let r = unmarks_for_break_always o in let q = aside_always (tree_fits (around o) e (omega (arith, h))) in
-      record { fit = λ d. from d ▸ on r ▸ on q ▸ last_put I.Goto (λ l. refl) }
+  tree_fits o (Break place e) h = if_always (is_loopless o) (break_always o (tree_fits (around o) e (omega (arith, h))))
   tree_fits o (Return place e) h = let r = tree_fits (Marked o) e (omega (arith, h)) in record {
     fit = λ d. from d ▸ labelled I.Mark (λ l. refl) ▸ on r ▸ puts I.Pret refl ▸ puts (I.Lab _) refl ▸ puts I.Pfail refl;
   }

@@ -63,7 +63,7 @@ module _ {A : Type 0} (S : Sort A) where
   code_told : (procedure : Procedure) → IsFit procedure
       → mentioned_in S.told (proc_code procedure) ≡ S.among (initial_mentions procedure.initial ++ all_mentions procedure.body)
   code_told procedure h = taken_told (draft_of procedure).instrs
-      ∙ ap S.among (code_adds procedure.initial procedure.body h.initial h.body (first_draft procedure)).mentions
+      ∙ ap S.among (code_adds h.met procedure h.faultless h.initial h.body (first_draft procedure)).mentions
 
   codes_told : (globals : List (List ℕ)) (first : ℕ) (procedures : List Procedure) → Fit procedures
       → mentioned_by S.told (map proc_code procedures) ≡ S.among (flat_map routine_mentions (routines_of globals first procedures))

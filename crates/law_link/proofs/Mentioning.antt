@@ -1,6 +1,7 @@
 -- What each form of a tree adds to a draft: what its instructions take from tables, and the names that it uses, in order.
-use Rattle.std.proofs.Common.{◌≡◌, ℕ, Bool, true, false, List, [], ◌∷◌, ◌++◌, Option, None, Some, refl, sym, ap, ◌∙◌, append_assoc, append-nil}
+use Rattle.std.proofs.Common.{◌≡◌, ℕ, suc, Bool, true, false, List, [], ◌∷◌, ◌++◌, length, Option, None, Some, refl, sym, ap, ◌∙◌, append_assoc, append-nil}
 use Rattle.std.specs.List.{flat_map}
+use Rattle.std.proofs.lemmas.Bool.{false≢true}
 use Rattle.std.proofs.lemmas.Grind.{flat_map-append}
 use Rattle.icn_text.specs.declared.keyword.Keyword.{Keyword as KeywordNamed}
 use Rattle.icn_text.specs.declared.keyword.Keyword.TheVariants as K
@@ -14,8 +15,11 @@ use Rattle.icn_tree.specs.declared.tree.Literal.TheVariants as Literals
 use Rattle.icn_tree.specs.declared.tree.LoopKind.{LoopKind}
 use Rattle.icn_tree.specs.declared.tree.LoopKind.TheVariants.{While, Until, Every}
 use Rattle.icn_tree.specs.declared.tree.Place.{Place}
+use Rattle.icn_tree.specs.NameSets.{NameTest}
 use Rattle.icn_tree.specs.TokenBounds.{is_augmented}
-use Rattle.icn_tree.specs.Trees.{Initial, NoInitial, Initially, Tree, MaybeTree, Trees, Clauses, Empty, Constant, Identifier, Keyword, Parentheses, Listing, Compound, Call, CoCall, Subscript, Section, Field, Prefix, Not, Binary, To, If, Case, Loop, Repeat, Create, Next, Fail, Break, Return, Suspend, Absent, Present, NoTrees, More, Default, Guarded, NoClauses, MoreClauses}
+use Rattle.icn_tree.specs.Trees.{Procedure, Initial, NoInitial, Initially, Tree, MaybeTree, Trees, Clauses, Empty, Constant, Identifier, Keyword, Parentheses, Listing, Compound, Call, CoCall, Subscript, Section, Field, Prefix, Not, Binary, To, If, Case, Loop, Repeat, Create, Next, Fail, Break, Return, Suspend, Absent, Present, NoTrees, More, Default, Guarded, NoClauses, MoreClauses}
+use Rattle.icn_decls.specs.Contexts.{Context, outermost, create_context, enter_loop, leave_loop, others}
+use Rattle.icn_decls.specs.Faults.{faults, maybe_faults, all_faults, clauses_faults, initial_faults, procedure_faults, next_in_control}
 use Rattle.icn_unit.specs.declared.unit.UnitInstr.{UnitInstr}
 use Rattle.icn_unit.specs.declared.unit.UnitInstr.TheVariants as I
 use Rattle.icn_unit.specs.UnitOperands.{keyword_of}
@@ -32,8 +36,11 @@ use Rattle.icn_translate.specs.declared.forms.PrefixForm.{PrefixForm}
 use Rattle.icn_translate.specs.declared.forms.PrefixForm.TheVariants.{Activation, Repetition, Operation}
 use Rattle.icn_translate.specs.Drafts.{Draft, ◌▹◌, put, next_label, with_label, with_number, with_name, with_names, put_variable, no_ways, in_loop, outside_loop, innermost, aside, put_next, put_last, case_end, in_case, outside_case, put_end}
 use Rattle.icn_translate.specs.Instructions.{literal_instr, keyword_instr, section_op, infix_form, update_form, prefix_form}
-use Rattle.icn_translate.specs.OpenMarks.{OpenMarks, Outermost, Marked, Looped, Each, unmarks_for_break, unmarks_for_next, around}
+use Rattle.icn_translate.specs.OpenMarks.{OpenMarks, Outermost, Marked, Looped, Controlled, Each, is_loopless, is_nextless, unmarks_for_break, unmarks_for_next, around}
 use Rattle.icn_translate.specs.Translation.{is_empty, is_nothing, is_no_element, elements, bounded_code, create_code, if_mark, unless_empty, either_step, control_part, in_control, in_body, back, loop_end, keyword_code, prefix_by, plain_form, update, augmented_form, case_of, looped_body, translate, operands, arguments, conjunction, conjuncts, compound, creations, other_creations, subscripts, to_step, otherwise, looped_part, suspended_part, guarded_part, default_part, initially, body}
+use Rattle.icn_units.proofs.KeptByForms.{none_before, none_behind, break_inside}
+use Rattle.law_link.proofs.CodeLaw.{trees_faultless}
+use Rattle.law_link.proofs.CodeOpen.{loops_in, loop_is_open, loops_around}
 use Rattle.law_link.proofs.FirstsOnce.{names_more}
 
 -- what an instruction of a unit takes from a table, as the first law has it
@@ -274,12 +281,14 @@ unmarks_for_break_add : (o : OpenMarks) → AddsAlways [] [] (unmarks_for_break 
 unmarks_for_break_add Outermost = nothing_adds
 unmarks_for_break_add (Marked o) = then_adds (plain_adds I.Unmark refl) (unmarks_for_break_add o)
 unmarks_for_break_add (Looped o) = nothing_adds
+unmarks_for_break_add (Controlled o) = plain_adds I.Unmark refl
 unmarks_for_break_add (Each o) = plain_adds I.Unmark refl
 
 unmarks_for_next_add : (o : OpenMarks) → AddsAlways [] [] (unmarks_for_next o)
 unmarks_for_next_add Outermost = nothing_adds
 unmarks_for_next_add (Marked o) = then_adds (plain_adds I.Unmark refl) (unmarks_for_next_add o)
 unmarks_for_next_add (Looped o) = nothing_adds
+unmarks_for_next_add (Controlled o) = nothing_adds
 unmarks_for_next_add (Each o) = nothing_adds
 
 -- Literals and keywords
@@ -446,6 +455,25 @@ case_adds r q = record {
   adds = λ d. from d ▸ case_inner None ▸ on r ▸ plainly I.Pop refl ▸ on q ▸ end_label_put I.Lab (λ l. refl) ▸ case_outer;
 }
 
+next_adds : (o : OpenMarks) → AddsAlways [] [] (λ d. d ▹ unmarks_for_next o ▹ put_next I.Goto)
+next_adds o = let r = unmarks_for_next_add o in record { adds = λ d. from d ▸ on r ▸ next_label_put I.Goto (λ l. refl) }
+
+break_adds : {ks : List TableMention} {ms : List (List ℕ)} {s : Draft → Draft} (o : OpenMarks) → AddsAlways ks ms s
+    → AddsAlways ks ms (λ d. d ▹ unmarks_for_break o ▹ aside s ▹ put_last I.Goto)
+break_adds o r = let p = unmarks_for_break_add o in let q = aside_adds r in
+    record { adds = λ d. from d ▸ on p ▸ on q ▸ last_label_put I.Goto (λ l. refl) }
+
+-- the loops that are open in the parts of a loop
+loops_in_control : (kind : LoopKind) (o : OpenMarks) → loops_in (in_control kind o) ≡ suc (loops_in o)
+loops_in_control While o = refl
+loops_in_control Until o = refl
+loops_in_control Every o = refl
+
+loops_in_body : (kind : LoopKind) (o : OpenMarks) → loops_in (in_body kind o) ≡ suc (loops_in o)
+loops_in_body While o = refl
+loops_in_body Until o = refl
+loops_in_body Every o = refl
+
 some_formed : (es : Trees) → FormedSome es → FormedAll es
 some_formed NoTrees h = absurd h
 some_formed (More e es) h = h
@@ -463,153 +491,185 @@ abbrev AddsMaybe : MaybeTree → (Draft → Draft) → Type 0
 AddsMaybe e step = AddsAlways (maybe_mentions e) (names_in_maybe e) step
 
 mutual
-  pub tree_adds : (o : OpenMarks) (e : Tree) → Formed e → AddsTree e (translate o e)
-  tree_adds o Empty f = plain_adds I.Pnull refl
-  tree_adds o (Constant place value) f = always_as (literal_taken value) refl (put_adds (literal_instr value))
-  tree_adds o (Identifier name) f = variable_adds name.text
-  tree_adds o (Keyword place name) f = keyword_adds (keyword_of name.text)
-  tree_adds o (Parentheses place es) f = conjunction_adds o es (some_formed es f)
-  tree_adds o (Listing place es) f = then_put (I.Llist (elements es)) refl (arguments_add o es (some_formed es f))
-  tree_adds o (Compound place es) f = compound_adds o es (some_formed es f)
-  tree_adds o (Call place e es) f = then_put (I.Invoke (elements es)) refl
-      (then_adds (tree_adds o e f.0) (arguments_add o es (some_formed es f.1)))
-  tree_adds o (CoCall place e es) f = then_put (I.Invoke 1) refl (then_put (I.Llist (elements es)) refl
-      (then_adds (tree_adds o e f.0) (creations_add es (some_formed es f.1))))
-  tree_adds o (Subscript place e es) f = then_adds (tree_adds o e f.0) (subscripts_add o es (some_formed es f.1))
-  tree_adds o (Section place kind e i j) f = always_as (append_assoc (mentions e) (mentions i) (mentions j)) refl
+  pub tree_adds : (o : OpenMarks) (c : Context) (e : Tree) → Formed e → faults c e ≡ [] → length c.loops ≡ loops_in o → AddsTree e (translate o e)
+  tree_adds o c Empty f x w = plain_adds I.Pnull refl
+  tree_adds o c (Constant place value) f x w = always_as (literal_taken value) refl (put_adds (literal_instr value))
+  tree_adds o c (Identifier name) f x w = variable_adds name.text
+  tree_adds o c (Keyword place name) f x w = keyword_adds (keyword_of name.text)
+  tree_adds o c (Parentheses place es) f x w = conjunction_adds o c es (some_formed es f) x w
+  tree_adds o c (Listing place es) f x w = then_put (I.Llist (elements es)) refl (arguments_add o c es (some_formed es f) x w)
+  tree_adds o c (Compound place es) f x w = compound_adds o c es (some_formed es f) x w
+  tree_adds o c (Call place e es) f x w = then_put (I.Invoke (elements es)) refl
+      (then_adds (tree_adds o c e f.0 (none_before _ _ x) w) (arguments_add o c es (some_formed es f.1) (none_behind _ _ x) w))
+  tree_adds o c (CoCall place e es) f x w = then_put (I.Invoke 1) refl (then_put (I.Llist (elements es)) refl
+      (then_adds (tree_adds o c e f.0 (none_before _ _ x) w) (creations_add es (some_formed es f.1) (none_behind _ _ x))))
+  tree_adds o c (Subscript place e es) f x w =
+      then_adds (tree_adds o c e f.0 (none_before _ _ x) w) (subscripts_add o c es (some_formed es f.1) (none_behind _ _ x) w)
+  tree_adds o c (Section place kind e i j) f x w = always_as (append_assoc (mentions e) (mentions i) (mentions j)) refl
       (then_put (I.Op (section_op kind)) refl
-      (then_adds (then_adds (tree_adds o e f.0) (tree_adds o i f.1)) (tree_adds o j f.2)))
-  tree_adds o (Field place e name) f = always_as refl (append-nil (names_in e))
-      (then_adds (tree_adds o e f) (put_adds (I.Field name.text)))
-  tree_adds o (Prefix place operator e) f = prefix_adds (prefix_form operator) (before_there operator f.0) (tree_adds o e f.1) (tree_adds (Marked o) e f.1)
-  tree_adds o (Not place e) f = let r = tree_adds (Marked o) e f in record {
+      (then_adds (then_adds (tree_adds o c e f.0 (none_before _ _ x) w) (tree_adds o c i f.1 (none_before _ _ (none_behind _ _ x)) w))
+      (tree_adds o c j f.2 (none_behind _ _ (none_behind _ _ x)) w)))
+  tree_adds o c (Field place e name) f x w = always_as refl (append-nil (names_in e))
+      (then_adds (tree_adds o c e f x w) (put_adds (I.Field name.text)))
+  tree_adds o c (Prefix place operator e) f x w =
+      prefix_adds (prefix_form operator) (before_there operator f.0) (tree_adds o c e f.1 x w) (tree_adds (Marked o) c e f.1 x w)
+  tree_adds o c (Not place e) f x w = let r = tree_adds (Marked o) c e f x w in record {
     adds = λ d. from d ▸ labelled I.Mark (λ l. refl) ▸ on r ▸ plainly I.Unmark refl ▸ plainly I.Efail refl
         ▸ plainly (I.Lab _) refl ▸ plainly I.Pnull refl;
   }
-  tree_adds o (Binary place infix_ a b) f = binary_adds o place infix_ a b f.0 (tree_adds o a f.1) (tree_adds (Marked o) a f.1)
-      (tree_adds o b f.2)
-  tree_adds o (To place a b by) f = always_as (append_assoc (mentions a) (mentions b) (step_mentions by)) refl
+  tree_adds o c (Binary place infix_ a b) f x w = binary_adds o place infix_ a b f.0 (tree_adds o c a f.1 (none_before _ _ x) w)
+      (tree_adds (Marked o) c a f.1 (none_before _ _ x) w) (tree_adds o c b f.2 (none_behind _ _ x) w)
+  tree_adds o c (To place a b by) f x w = always_as (append_assoc (mentions a) (mentions b) (step_mentions by)) refl
       (then_put (I.Op O.ToBy) refl
-      (then_adds (then_adds (tree_adds o a f.0) (tree_adds o b f.1)) (to_step_adds o by f.2)))
-  tree_adds o (If place e a b) f = branches_add o b f.2 (tree_adds (Marked o) e f.0) (tree_adds o a f.1)
-  tree_adds o (Case place e clauses) f = let r = tree_adds (Marked o) e f.0 in
-      let q = case_adds (guarded_adds o clauses f.1) (default_part_adds o clauses f.1) in
+      (then_adds (then_adds (tree_adds o c a f.0 (none_before _ _ x) w) (tree_adds o c b f.1 (none_before _ _ (none_behind _ _ x)) w))
+      (to_step_adds o c by f.2 (none_behind _ _ (none_behind _ _ x)) w)))
+  tree_adds o c (If place e a b) f x w = branches_add o c b f.2 (none_behind _ _ (none_behind _ _ x)) w
+      (tree_adds (Marked o) c e f.0 (none_before _ _ x) w) (tree_adds o c a f.1 (none_before _ _ (none_behind _ _ x)) w)
+  tree_adds o c (Case place e clauses) f x w = let r = tree_adds (Marked o) c e f.0 (none_before _ _ x) w in
+      let q = case_adds (guarded_adds o c false clauses f.1 (none_behind _ _ x) w) (default_part_adds o c false clauses f.1 (none_behind _ _ x) w) in
       always_as refl (sym (append_assoc (names_in e) (names_in_guarded clauses) (names_in_default clauses)))
       (record { adds = λ d. from d ▸ plainly I.Mark0 refl ▸ on r ▸ plainly I.Eret refl ▸ on q })
-  tree_adds o (Loop place kind e b) f = kinds_add kind (tree_adds (in_control kind o) e f.0) (looped_part_adds (Marked (in_body kind o)) b f.1)
-  tree_adds o (Repeat place b) f = loop_adds (looped_adds (tree_adds (Marked (Looped o)) b f))
-  tree_adds o (Create place e) f = created_adds (tree_adds Outermost e f)
-  tree_adds o (Next place) f = let r = unmarks_for_next_add o in
-      record { adds = λ d. from d ▸ on r ▸ next_label_put I.Goto (λ l. refl) }
-  tree_adds o (Fail place) f = plain_adds I.Pfail refl
-  tree_adds o (Break place e) f = let r = unmarks_for_break_add o in let q = aside_adds (tree_adds (around o) e f) in
-      record { adds = λ d. from d ▸ on r ▸ on q ▸ last_label_put I.Goto (λ l. refl) }
-  tree_adds o (Return place e) f = let r = tree_adds (Marked o) e f in record {
+  tree_adds o c (Loop place kind e b) f x w = kinds_add kind
+      (tree_adds (in_control kind o) (enter_loop (next_in_control kind) c) e f.0 (none_before _ _ x) (ap suc w ∙ sym (loops_in_control kind o)))
+      (looped_part_adds (Marked (in_body kind o)) (enter_loop true c) b f.1 (none_behind _ _ x) (ap suc w ∙ sym (loops_in_body kind o)))
+  tree_adds o c (Repeat place b) f x w = loop_adds (looped_adds (tree_adds (Marked (Looped o)) (enter_loop true c) b f x (ap suc w)))
+  tree_adds o c (Create place e) f x w = created_adds (tree_adds Outermost create_context e f x refl)
+  tree_adds o c (Next place) f x w = if_adds (is_nextless o) (λ h. (refl, refl)) (next_adds o)
+  tree_adds o c (Fail place) f x w = plain_adds I.Pfail refl
+  tree_adds o c (Break place e) f x w =
+      let n = length (others c.loops) in
+      let open_here : loops_in o ≡ suc n = sym w ∙ break_inside c.in_create c.loops place (none_before _ _ x) in
+      if_adds (is_loopless o) (λ h. absurd (false≢true (sym (loop_is_open o n open_here) ∙ h)))
+      (break_adds o (tree_adds (around o) (leave_loop c) e f (none_behind _ _ x) (sym (loops_around o n open_here))))
+  tree_adds o c (Return place e) f x w = let r = tree_adds (Marked o) c e f (none_behind _ _ x) w in record {
     adds = λ d. from d ▸ labelled I.Mark (λ l. refl) ▸ on r ▸ plainly I.Pret refl ▸ plainly (I.Lab _) refl
         ▸ plainly I.Pfail refl;
   }
-  tree_adds o (Suspend place e b) f = let r = tree_adds (Marked o) e f.0 in let q = suspended_part_adds (Marked (Marked o)) b f.1 in
+  tree_adds o c (Suspend place e b) f x w =
+      let r = tree_adds (Marked o) c e f.0 (none_before _ _ (none_behind _ _ x)) w in
+      let q = suspended_part_adds (Marked (Marked o)) c b f.1 (none_behind _ _ (none_behind _ _ x)) w in
       record {
         adds = λ d. from d ▸ plainly I.Mark0 refl ▸ on r ▸ plainly I.Psusp refl ▸ plainly I.Pop refl ▸ on q
             ▸ plainly I.Efail refl;
       }
 
-  operands_add : (o : OpenMarks) (es : Trees) → FormedAll es → AddsTrees es (operands o es)
-  operands_add o NoTrees f = nothing_adds
-  operands_add o (More e es) f = then_adds (tree_adds o e f.0) (operands_add o es f.1)
+  operands_add : (o : OpenMarks) (c : Context) (es : Trees) → FormedAll es → all_faults c es ≡ [] → length c.loops ≡ loops_in o
+      → AddsTrees es (operands o es)
+  operands_add o c NoTrees f x w = nothing_adds
+  operands_add o c (More e es) f x w = then_adds (tree_adds o c e f.0 (none_before _ _ x) w) (operands_add o c es f.1 (none_behind _ _ x) w)
 
-  arguments_add : (o : OpenMarks) (es : Trees) → FormedAll es → AddsTrees es (arguments o es)
-  arguments_add o NoTrees f = nothing_adds
-  arguments_add o (More e es) f = if_adds (is_no_element (More e es)) (no_element e es)
-      (then_adds (tree_adds o e f.0) (operands_add o es f.1))
+  arguments_add : (o : OpenMarks) (c : Context) (es : Trees) → FormedAll es → all_faults c es ≡ [] → length c.loops ≡ loops_in o
+      → AddsTrees es (arguments o es)
+  arguments_add o c NoTrees f x w = nothing_adds
+  arguments_add o c (More e es) f x w = if_adds (is_no_element (More e es)) (no_element e es)
+      (then_adds (tree_adds o c e f.0 (none_before _ _ x) w) (operands_add o c es f.1 (none_behind _ _ x) w))
 
-  conjunction_adds : (o : OpenMarks) (es : Trees) → FormedAll es → AddsTrees es (conjunction o es)
-  conjunction_adds o NoTrees f = nothing_adds
-  conjunction_adds o (More e es) f = then_adds (tree_adds o e f.0) (conjuncts_add o es f.1)
+  conjunction_adds : (o : OpenMarks) (c : Context) (es : Trees) → FormedAll es → all_faults c es ≡ [] → length c.loops ≡ loops_in o
+      → AddsTrees es (conjunction o es)
+  conjunction_adds o c NoTrees f x w = nothing_adds
+  conjunction_adds o c (More e es) f x w =
+      then_adds (tree_adds o c e f.0 (none_before _ _ x) w) (conjuncts_add o c es f.1 (none_behind _ _ x) w)
 
-  conjuncts_add : (o : OpenMarks) (es : Trees) → FormedAll es → AddsTrees es (conjuncts o es)
-  conjuncts_add o NoTrees f = nothing_adds
-  conjuncts_add o (More e es) f = then_adds (put_then I.Pop refl (tree_adds o e f.0)) (conjuncts_add o es f.1)
+  conjuncts_add : (o : OpenMarks) (c : Context) (es : Trees) → FormedAll es → all_faults c es ≡ [] → length c.loops ≡ loops_in o
+      → AddsTrees es (conjuncts o es)
+  conjuncts_add o c NoTrees f x w = nothing_adds
+  conjuncts_add o c (More e es) f x w =
+      then_adds (put_then I.Pop refl (tree_adds o c e f.0 (none_before _ _ x) w)) (conjuncts_add o c es f.1 (none_behind _ _ x) w)
 
-  compound_adds : (o : OpenMarks) (es : Trees) → FormedAll es → AddsTrees es (compound o es)
-  compound_adds o NoTrees f = nothing_adds
-  compound_adds o (More e es) f = then_adds (either_adds (is_nothing es) (tree_adds o e f.0)
-      (unless_adds e (bounded_adds (tree_adds (Marked o) e f.0)))) (compound_adds o es f.1)
+  compound_adds : (o : OpenMarks) (c : Context) (es : Trees) → FormedAll es → all_faults c es ≡ [] → length c.loops ≡ loops_in o
+      → AddsTrees es (compound o es)
+  compound_adds o c NoTrees f x w = nothing_adds
+  compound_adds o c (More e es) f x w = then_adds (either_adds (is_nothing es) (tree_adds o c e f.0 (none_before _ _ x) w)
+      (unless_adds e (bounded_adds (tree_adds (Marked o) c e f.0 (none_before _ _ x) w)))) (compound_adds o c es f.1 (none_behind _ _ x) w)
 
-  creations_add : (es : Trees) → FormedAll es → AddsTrees es (creations es)
-  creations_add NoTrees f = nothing_adds
-  creations_add (More e es) f = if_adds (is_no_element (More e es)) (no_element e es)
-      (then_adds (created_adds (tree_adds Outermost e f.0)) (other_creations_add es f.1))
+  creations_add : (es : Trees) → FormedAll es → all_faults create_context es ≡ [] → AddsTrees es (creations es)
+  creations_add NoTrees f x = nothing_adds
+  creations_add (More e es) f x = if_adds (is_no_element (More e es)) (no_element e es)
+      (then_adds (created_adds (tree_adds Outermost create_context e f.0 (none_before _ _ x) refl)) (other_creations_add es f.1 (none_behind _ _ x)))
 
-  other_creations_add : (es : Trees) → FormedAll es → AddsTrees es (other_creations es)
-  other_creations_add NoTrees f = nothing_adds
-  other_creations_add (More e es) f = then_adds (created_adds (tree_adds Outermost e f.0)) (other_creations_add es f.1)
+  other_creations_add : (es : Trees) → FormedAll es → all_faults create_context es ≡ [] → AddsTrees es (other_creations es)
+  other_creations_add NoTrees f x = nothing_adds
+  other_creations_add (More e es) f x =
+      then_adds (created_adds (tree_adds Outermost create_context e f.0 (none_before _ _ x) refl)) (other_creations_add es f.1 (none_behind _ _ x))
 
-  subscripts_add : (o : OpenMarks) (es : Trees) → FormedAll es → AddsTrees es (subscripts o es)
-  subscripts_add o NoTrees f = nothing_adds
-  subscripts_add o (More e es) f = then_adds (then_put (I.Op O.Subscript) refl (tree_adds o e f.0)) (subscripts_add o es f.1)
+  subscripts_add : (o : OpenMarks) (c : Context) (es : Trees) → FormedAll es → all_faults c es ≡ [] → length c.loops ≡ loops_in o
+      → AddsTrees es (subscripts o es)
+  subscripts_add o c NoTrees f x w = nothing_adds
+  subscripts_add o c (More e es) f x w =
+      then_adds (then_put (I.Op O.Subscript) refl (tree_adds o c e f.0 (none_before _ _ x) w)) (subscripts_add o c es f.1 (none_behind _ _ x) w)
 
-  to_step_adds : (o : OpenMarks) (by : MaybeTree) → FormedMaybe by → AddsAlways (step_mentions by) (names_in_maybe by) (to_step o by)
-  to_step_adds o Absent f = put_adds (I.Int _)
-  to_step_adds o (Present e) f = tree_adds o e f
+  to_step_adds : (o : OpenMarks) (c : Context) (by : MaybeTree) → FormedMaybe by → maybe_faults c by ≡ [] → length c.loops ≡ loops_in o
+      → AddsAlways (step_mentions by) (names_in_maybe by) (to_step o by)
+  to_step_adds o c Absent f x w = put_adds (I.Int _)
+  to_step_adds o c (Present e) f x w = tree_adds o c e f x w
 
-  branches_add : (o : OpenMarks) (b : MaybeTree) → FormedMaybe b → {ks bs : List TableMention} {ms ns : List (List ℕ)}
+  branches_add : (o : OpenMarks) (c : Context) (b : MaybeTree) → FormedMaybe b → maybe_faults c b ≡ [] → length c.loops ≡ loops_in o
+      → {ks bs : List TableMention} {ms ns : List (List ℕ)}
       → {condition first : Draft → Draft} → AddsAlways ks ms condition → AddsAlways bs ns first
       → AddsAlways (ks ++ (bs ++ maybe_mentions b)) (ms ++ ns ++ names_in_maybe b)
       (λ d. d ▹ if_mark b ▹ condition ▹ put I.Unmark ▹ first ▹ otherwise o b (next_label d))
-  branches_add o Absent f {ks = ks} {bs = bs} {ms = ms} {ns = ns} r q =
+  branches_add o c Absent f x w {ks = ks} {bs = bs} {ms = ms} {ns = ns} r q =
       always_as (ap (λ l. ks ++ l) (sym (append-nil bs))) (sym (append-nil (ms ++ ns)))
       (record { adds = λ d. from d ▸ plainly I.Mark0 refl ▸ on r ▸ plainly I.Unmark refl ▸ on q })
-  branches_add o (Present b) f {ks = ks} {bs = bs} r q = let p = tree_adds o b f in
+  branches_add o c (Present b) f x w {ks = ks} {bs = bs} r q = let p = tree_adds o c b f x w in
       always_as (append_assoc ks bs (mentions b)) refl
       (record {
         adds = λ d. from d ▸ labelled I.Mark (λ l. refl) ▸ on r ▸ plainly I.Unmark refl ▸ on q
             ▸ labelled I.Goto (λ l. refl) ▸ plainly (I.Lab _) refl ▸ on p ▸ plainly (I.Lab _) refl;
       })
 
-  looped_part_adds : (o : OpenMarks) (b : MaybeTree) → FormedMaybe b → AddsMaybe b (looped_part o b)
-  looped_part_adds o Absent f = nothing_adds
-  looped_part_adds o (Present b) f = looped_adds (tree_adds o b f)
+  looped_part_adds : (o : OpenMarks) (c : Context) (b : MaybeTree) → FormedMaybe b → maybe_faults c b ≡ [] → length c.loops ≡ loops_in o
+      → AddsMaybe b (looped_part o b)
+  looped_part_adds o c Absent f x w = nothing_adds
+  looped_part_adds o c (Present b) f x w = looped_adds (tree_adds o c b f x w)
 
-  suspended_part_adds : (o : OpenMarks) (b : MaybeTree) → FormedMaybe b → AddsMaybe b (suspended_part o b)
-  suspended_part_adds o Absent f = record { adds = λ d. from d ▸ label ▸ plainly (I.Lab _) refl }
-  suspended_part_adds o (Present b) f = bounded_adds (tree_adds o b f)
+  suspended_part_adds : (o : OpenMarks) (c : Context) (b : MaybeTree) → FormedMaybe b → maybe_faults c b ≡ [] → length c.loops ≡ loops_in o
+      → AddsMaybe b (suspended_part o b)
+  suspended_part_adds o c Absent f x w = record { adds = λ d. from d ▸ label ▸ plainly (I.Lab _) refl }
+  suspended_part_adds o c (Present b) f x w = bounded_adds (tree_adds o c b f x w)
 
-  guarded_adds : (o : OpenMarks) (clauses : Clauses) → FormedClauses clauses
+  guarded_adds : (o : OpenMarks) (c : Context) (has : Bool) (clauses : Clauses) → FormedClauses clauses → clauses_faults c has clauses ≡ []
+      → length c.loops ≡ loops_in o
       → AddsAlways (guarded_mentions clauses) (names_in_guarded clauses) (guarded_part o clauses)
-  guarded_adds o NoClauses f = nothing_adds
-  guarded_adds o (MoreClauses (Default place e) clauses) f = guarded_adds o clauses f.1
-  guarded_adds o (MoreClauses (Guarded place s b) clauses) f =
-      let r = tree_adds (Marked o) s f.0.0 in
-      let q = tree_adds o b f.0.1 in
-      let p = guarded_adds o clauses f.1 in
+  guarded_adds o c has NoClauses f x w = nothing_adds
+  guarded_adds o c has (MoreClauses (Default place e) clauses) f x w = guarded_adds o c true clauses f.1 (none_behind _ _ x) w
+  guarded_adds o c has (MoreClauses (Guarded place s b) clauses) f x w =
+      let r = tree_adds (Marked o) c s f.0.0 (none_before _ _ (none_before _ _ x)) w in
+      let q = tree_adds o c b f.0.1 (none_behind _ _ (none_before _ _ x)) w in
+      let p = guarded_adds o c has clauses f.1 (none_behind _ _ x) w in
       record {
         adds = λ d. from d ▸ labelled I.Mark (λ l. refl) ▸ plainly I.Ccase refl ▸ on r ▸ plainly (I.Op O.Equivalent) refl
             ▸ plainly I.Unmark refl ▸ plainly I.Pop refl ▸ on q ▸ end_label_put I.Goto (λ l. refl)
             ▸ plainly (I.Lab _) refl ▸ on p;
       }
 
-  default_part_adds : (o : OpenMarks) (clauses : Clauses) → FormedClauses clauses
+  default_part_adds : (o : OpenMarks) (c : Context) (has : Bool) (clauses : Clauses) → FormedClauses clauses → clauses_faults c has clauses ≡ []
+      → length c.loops ≡ loops_in o
       → AddsAlways (default_mentions clauses) (names_in_default clauses) (default_part o clauses)
-  default_part_adds o NoClauses f = plain_adds I.Efail refl
-  default_part_adds o (MoreClauses (Default place e) others) f = tree_adds o e f.0
-  default_part_adds o (MoreClauses (Guarded place s b) clauses) f = default_part_adds o clauses f.1
+  default_part_adds o c has NoClauses f x w = plain_adds I.Efail refl
+  default_part_adds o c has (MoreClauses (Default place e) rest) f x w = tree_adds o c e f.0 (none_behind _ _ (none_before _ _ x)) w
+  default_part_adds o c has (MoreClauses (Guarded place s b) clauses) f x w = default_part_adds o c has clauses f.1 (none_behind _ _ x) w
 
 -- Procedures
 
-pub initially_adds : (initial : Initial) → FormedInitial initial
+pub initially_adds : (initial : Initial) → FormedInitial initial → initial_faults initial ≡ []
     → AddsAlways (initial_mentions initial) (names_in_initial initial) (initially initial)
-initially_adds NoInitial f = nothing_adds
-initially_adds (Initially place e) f = let r = tree_adds Outermost e f in record {
+initially_adds NoInitial f x = nothing_adds
+initially_adds (Initially place e) f x = let r = tree_adds Outermost outermost e f x refl in record {
   adds = λ d. from d ▸ labelled I.Init (λ l. refl) ▸ plainly (I.Mark _) refl ▸ on r ▸ plainly I.Unmark refl ▸ plainly (I.Lab _) refl;
 }
 
-pub body_adds : (es : Trees) → FormedAll es → AddsTrees es (body es)
-body_adds NoTrees f = nothing_adds
-body_adds (More e es) f = then_adds (unless_adds e (bounded_adds (tree_adds Outermost e f.0))) (body_adds es f.1)
+pub body_adds : (es : Trees) → FormedAll es → all_faults outermost es ≡ [] → AddsTrees es (body es)
+body_adds NoTrees f x = nothing_adds
+body_adds (More e es) f x = then_adds (unless_adds e (bounded_adds (tree_adds Outermost outermost e f.0 (none_before _ _ x) refl)))
+    (body_adds es f.1 (none_behind _ _ x))
 
 -- the whole of a procedure's code
-pub code_adds : (initial : Initial) (es : Trees) → FormedInitial initial → FormedAll es → (d : Draft)
-    → Adds d (d ▹ initially initial ▹ body es ▹ put I.Pfail) (initial_mentions initial ++ all_mentions es)
-    (names_in_initial initial ++ names_in_all es)
-code_adds initial es f g d = (then_put I.Pfail refl (then_adds (initially_adds initial f) (body_adds es g))).adds d
+pub code_adds : (met : NameTest) (procedure : Procedure) → procedure_faults met procedure ≡ [] → FormedInitial procedure.initial
+    → FormedAll procedure.body → (d : Draft)
+    → Adds d (d ▹ initially procedure.initial ▹ body procedure.body ▹ put I.Pfail)
+    (initial_mentions procedure.initial ++ all_mentions procedure.body)
+    (names_in_initial procedure.initial ++ names_in_all procedure.body)
+code_adds met procedure x f g d =
+    let trees = trees_faultless met procedure x in
+    (then_put I.Pfail refl (then_adds (initially_adds procedure.initial f trees.0) (body_adds procedure.body g trees.1))).adds d

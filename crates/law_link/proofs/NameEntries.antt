@@ -434,7 +434,7 @@ undeclared_same procedure h =
     let K = own_names procedure ++ statics_among procedure.locals in
     let new : List (List ℕ) = filter (λ y. not (list_any (bytes_eq y) B)) (firsts bytes_eq (uses procedure)) in
     let all : (draft_of procedure).names ≡ B ++ new =
-    (code_adds procedure.initial procedure.body h.initial h.body (first_draft procedure)).names ∙ names_all B (uses procedure) in
+    (code_adds h.met procedure h.faultless h.initial h.body (first_draft procedure)).names ∙ names_all B (uses procedure) in
     let same : (y : List ℕ) → list_any (bytes_eq y) B ≡ list_any (bytes_eq y) K =
     λ y. ap (list_any (bytes_eq y)) (begun_names h.met procedure h.faultless) ∙ declared_any procedure (bytes_eq y) in
     ap (drop (length B)) all ∙ drop-append_seam B new

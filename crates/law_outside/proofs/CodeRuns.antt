@@ -1,11 +1,10 @@
 -- Whatever each put and each reading keeps of the outside, every run of a code keeps, whatever its stacks are made of.
 use Rattle.std.proofs.Common.{◌≡◌, ℕ, Bool, List, Some, ap, subst}
-use Rattle.icn_value.specs.Values.{Errout}
 use Rattle.icn_value.specs.Store.{Outside, World}
 use Rattle.icn_defs.specs.Applying.{again, operation_row}
 use Rattle.icn_defs.specs.Errors.{error_report}
 use Rattle.icn_defs.specs.Rows.{Outcome, Fails, Gives, Suspends, Error, Ends}
-use Rattle.icn_defs.specs.Running.{Ending, bound_report, Launch, Observation, words_row, after_steps}
+use Rattle.icn_defs.specs.Running.{Ending, bound_report, Launch, Observation, with_errors, words_row, after_steps}
 use Rattle.icn_defs.specs.StepRows.{Function, apply, coexpression_row, list_row, record_row, text_row}
 use Rattle.icn_run.specs.Calls.{Calls}
 use Rattle.icn_run.specs.Step as S
@@ -13,7 +12,7 @@ use Rattle.icn_run.specs.Step.{Program, State, running, failing, hopping, over, 
 use Rattle.icn_run.proofs.StoreLaws.{StoreLaw, LeavesBy}
 use Rattle.icn_run.proofs.EveryStep.{StateHolds, FunctionsLeave, start_of, steps}
 use Rattle.law_outside.specs.Outsides.{LeavesOutside}
-use Rattle.law_outside.proofs.LastingFacts.{Lasting}
+use Rattle.law_outside.proofs.LastingFacts.{Lasting, ended_so}
 use Rattle.law_outside.proofs.OutsideRows.{operation_leaves, function_leaves, again_leaves, list_leaves, record_leaves, coexpression_leaves, text_leaves, words_leave}
 
 module _ (b : Lasting) where
@@ -28,7 +27,7 @@ module _ (b : Lasting) where
   leaves (Gives i a) begun h = h
   leaves (Suspends i r a) begun h = h
   leaves (Error n v a) begun h = h
-  leaves (Ends n a) begun h = h
+  leaves (Ends n a) begun h = ended_so b a.world.heap.files a.outside h
 
 abbrev pub lasting : (P : Program) → Lasting → StoreLaw P
 lasting P b = record {
@@ -38,9 +37,10 @@ lasting P b = record {
   failed = λ n v w outside begun k. k;
   counted = λ id w outside begun k. k;
   noted = λ proc w outside begun k. k;
-  report = λ names n v w outside begun k. b.put outside Errout (error_report names w.heap n v) k;
-  bound = λ w outside begun k. b.put outside Errout bound_report k;
-  done = λ w outside begun k. k;
+  report = λ names n v w outside begun k.
+      let report = error_report names w.heap n v in ended_so b w.heap.files (with_errors report outside) (b.errors outside report k);
+  bound = λ w outside begun k. b.errors outside bound_report k;
+  done = λ w outside begun k. ended_so b w.heap.files outside k;
   operations = λ op items a begun k. leaves b (operation_row op items a) begun (operation_leaves b op items a k);
   resumed = λ r a begun k. leaves b (again r a) begun (again_leaves b r a k);
   lists = λ vs a begun k. leaves b (list_row vs a) begun (list_leaves b vs a k);

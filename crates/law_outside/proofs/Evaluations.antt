@@ -16,17 +16,16 @@ use Rattle.icn_tree.specs.Trees.{Tree, Trees, MaybeTree, Clauses, Empty, Absent,
 use Rattle.icn_value.specs.Values.{Value, Text, Procedure, ARecord, AList, ACoexp, Local, Whole, Part, Item, Val, Var}
 use Rattle.icn_value.specs.Store.{list_at, record_at}
 use Rattle.icn_defs.specs.Rows.{Outcome, Fails, Gives, Suspends, Error, Ends}
-use Rattle.icn_value.specs.Values.{Errout}
 use Rattle.icn_defs.specs.Applying.{again}
 use Rattle.icn_defs.specs.Arities.{arity}
 use Rattle.icn_defs.specs.Conversions.{integer_of, position_of}
 use Rattle.icn_defs.specs.Keywords.{keyword_item}
 use Rattle.icn_defs.specs.Errors.{error_report}
 use Rattle.icn_defs.proofs.OnErrors.{on_one}
-use Rattle.icn_defs.specs.Running.{Errored, AtBound, bound_report, Launch, Observation, words_row, number_of, after_steps}
+use Rattle.icn_defs.specs.Running.{Done, Errored, Exit, bound_report, Launch, Observation, words_row, number_of, after_steps}
 use Rattle.icn_defs.specs.StepRows.{Operation, Function, apply, value_row, list_row, text_row, record_row, coexpression_row}
 use Rattle.icn_meaning.specs.Program.{Program, Routine, Constructor, Callee, IsRoutine, IsKind, IsFunction, IsNothing, callee_of, index_of, routine_names}
-use Rattle.icn_meaning.specs.Contexts.{Application, Operating, Calling, Spreading, Collecting, Taking, Activating, frame_of, activation_of, Works, Nothing, ◌and_then◌, Choices, NoChoice, ◌or_else◌, Args, Then, Cut, Raise, Limit, Count, Scan, Leave, Update, Each, Select, Returning, Suspending, Result, Do, Again, Resume, Restore, Reenter, Back, Exhaust, Action, Go, Give, Pass, Body, Try, Rest, Off, Surroundings, InCall, InScan, InLoop, Status, Fresh, Active, Waiting, AfterResult, Exhausted, Coexpression, Store, Evaluation, eval, succeed, fail, hop, over, lost, Ending}
+use Rattle.icn_meaning.specs.Contexts.{Application, Operating, Calling, Spreading, Collecting, Taking, Activating, frame_of, activation_of, Works, Nothing, ◌and_then◌, Choices, NoChoice, ◌or_else◌, Args, Then, Cut, Raise, Limit, Count, Scan, Leave, Update, Each, Select, Returning, Suspending, Result, Do, Again, Resume, Restore, Reenter, Back, Exhaust, Action, Go, Give, Pass, Body, Try, Rest, Off, Surroundings, InCall, InCreate, InScan, InLoop, InControl, Status, Fresh, Active, Waiting, AfterResult, Exhausted, Coexpression, Store, Evaluation, eval, succeed, fail, hop, over, lost, Ending}
 use Rattle.icn_meaning.specs.Contexts as C
 use Rattle.icn_meaning.specs.Operators.{prefix_op, infix_op, update_op}
 use Rattle.icn_meaning.specs.Turns as U
@@ -39,7 +38,7 @@ use Rattle.icn_meaning.specs.Succeed as W
 use Rattle.icn_meaning.specs.Fail as F
 use Rattle.icn_meaning.specs.Meaning as M
 use Rattle.law_outside.specs.Outsides.{LeavesOutside}
-use Rattle.law_outside.proofs.LastingFacts.{Lasting}
+use Rattle.law_outside.proofs.LastingFacts.{Lasting, ended_so}
 use Rattle.law_outside.proofs.OutsideRows.{operation_leaves, function_leaves, again_leaves, list_leaves, record_leaves, coexpression_leaves, text_leaves, words_leave}
 
 module _ (b : Lasting) where
@@ -57,17 +56,21 @@ module _ (b : Lasting) where
 
   -- Ends, turns and rows
 
-  ended : (e : Ending) (text : List ℕ) (st : Store) → K st → G (U.end_run e text st)
-  ended e text st k = b.put st.outside Errout text k
+  ended : (e : Ending) (st : Store) → K st → G (U.end_run e st)
+  ended e st k = ended_so b st.world.heap.files st.outside k
+
+  reported : (text : List ℕ) (st : Store) → K st → K (U.with_report text st)
+  reported text st k = b.errors st.outside text k
 
   errs : (n : ℕ) (v : Option Value) (r : Choices) (st : Store) → K st → G (U.errs n v r st)
   errs n v r st k =
-      on_one G n v st.world (U.end_run (Errored n) (error_report st.names st.world.heap n v) st) (λ world. fail r (record st { world = world }))
-      (ended (Errored n) (error_report st.names st.world.heap n v) st k) k
+      let report = error_report st.names st.world.heap n v in
+      on_one G n v st.world (U.end_run (Errored n) (U.with_report report st)) (λ world. fail r (record st { world = world }))
+      (ended (Errored n) (U.with_report report st) (reported report st k)) k
 
   turn_if : (t : Bool) (st : Store) (go : Store → Evaluation) → K st → ((s : Store) → K s → G (go s)) → G (U.turn_if t st go)
   turn_if true st go k f = f (record st { turns = suc st.turns }) k
-  turn_if false st go k f = ended AtBound bound_report st k
+  turn_if false st go k f = reported bound_report st k
 
   turn : (st : Store) (go : Store → Evaluation) → K st → ((s : Store) → K s → G (go s)) → G (U.turn st go)
   turn st go k f = turn_if (nat_lt st.turns st.world.heap.bounds.turns) st go k f
@@ -94,7 +97,7 @@ module _ (b : Lasting) where
   answer (Gives x s) a w r st l = l
   answer (Suspends x m s) a w r st l = l
   answer (Error n v s) a w r st l = errs n v r (U.after a s st) l
-  answer (Ends n s) a w r st l = l
+  answer (Ends n s) a w r st l = ended (Exit n) (U.after a s st) l
 
   value : (x : Item) (a : ℕ) (r : Choices) (st : Store) (go : Value → Evaluation) → K st → ((v : Value) → G (go v)) → G (U.value x a r st go)
   value x a r st go k f = valued (value_row x (U.setting_in a st)) r st go k f
@@ -124,8 +127,10 @@ module _ (b : Lasting) where
 
   off : (s : Surroundings) (st : Store) → K st → G (A.off s st)
   off (InCall frame w r) st k = k
+  off (InCreate frame) st k = tt
   off (InScan p s) st k = off s (S.restore_pair p st) k
   off (InLoop s w r a rn) st k = off s st k
+  off (InControl s w r) st k = off s st k
 
   rest : (es : Trees) (s : Surroundings) (r : Choices) (st : Store) → K st → G (A.rest es s r st)
   rest NoTrees s r st k = off s st k
@@ -154,13 +159,17 @@ module _ (b : Lasting) where
 
   break : (e : Tree) (s : Surroundings) (st : Store) → K st → G (A.break e s st)
   break e (InCall frame w r) st k = tt
+  break e (InCreate frame) st k = tt
   break e (InScan p s) st k = break e s (S.restore_pair p st) k
   break e (InLoop s w r a rn) st k = k
+  break e (InControl s w r) st k = k
 
   next : (s : Surroundings) (st : Store) → K st → G (A.next s st)
   next (InCall frame w r) st k = tt
+  next (InCreate frame) st k = tt
   next (InScan p s) st k = next s (S.restore_pair p st) k
   next (InLoop s w r a rn) st k = act a rn st k
+  next (InControl s w r) st k = tt
 
   -- Co-expressions
 
@@ -307,13 +316,17 @@ module _ (b : Lasting) where
 
     returned : (x : Item) (s : Surroundings) (st : Store) → K st → G (L.return_item x s st)
     returned x (InCall frame w r) st k = k
+    returned x (InCreate frame) st k = tt
     returned x (InScan q s) st k = returned x s (S.restore_pair q st) k
     returned x (InLoop s w r a rn) st k = returned x s st k
+    returned x (InControl s w r) st k = returned x s st k
 
     suspended : (x : Item) (m : MaybeTree) (s around : Surroundings) (r : Choices) (st : Store) → K st → G (L.suspend_call x m s around r st)
     suspended x m s (InCall frame w r0) r st k = k
+    suspended x m s (InCreate frame) r st k = tt
     suspended x m s (InScan q around) r st k = suspended x m s around r st k
     suspended x m s (InLoop around w r0 a rn) r st k = suspended x m s around r st k
+    suspended x m s (InControl around w r0) r st k = suspended x m s around r st k
 
     -- Forms
 
@@ -431,7 +444,7 @@ module _ (b : Lasting) where
     each (Present e) s w r0 r st k = k
 
     on_succeed : (x : Item) (w : Works) (r : Choices) (st : Store) → K st → G (W.on_succeed p x w r st)
-    on_succeed x Nothing r st k = k
+    on_succeed x Nothing r st k = ended Done st k
     on_succeed x (Args form xs es s and_then w) r st k = operands form (x ∷ xs) es s w r st k
     on_succeed x (Then e s and_then w) r st k = k
     on_succeed x (Cut r0 a and_then w) r st k = act a r0 st k
@@ -459,7 +472,7 @@ module _ (b : Lasting) where
     back (Present e) s r st k = k
 
     on_fail : (r : Choices) (st : Store) → K st → G (F.on_fail r st)
-    on_fail NoChoice st k = k
+    on_fail NoChoice st k = ended Done st k
     on_fail (Do a or_else r) st k = act a r st k
     on_fail (Again e s flag w or_else r) st k = again_if (slice_index_or st.flags flag false) e s flag w r st k
     on_fail (Resume a m w or_else r) st k = turn st _ k (λ st k. answer (again m (U.setting_in a st)) a w r st (again_leaves b m (U.setting_in a st) k))

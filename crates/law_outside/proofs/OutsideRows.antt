@@ -1,4 +1,4 @@
--- Whatever each put and each reading keeps of the outside, every row keeps.
+-- Whatever each put, each reading and each call of the store of files keeps of the outside, every row keeps.
 use Rattle.std.proofs.Common.{ℕ, List}
 use Rattle.icn_text.specs.declared.op.Op.{Op}
 use Rattle.icn_text.specs.declared.func.Func.{Func}
@@ -18,7 +18,16 @@ abbrev pub Keeps : Lasting → Setting → Type 0
 Keeps b s = b.is s.outside
 
 abbrev parts : Lasting → PartLaws
-parts b = record any_parts { outside = record { Is = b.is; put = b.put; read = b.read } }
+parts b = record any_parts {
+  outside = record {
+    Is = b.is;
+    output = b.output;
+    errors = b.errors;
+    read = b.read;
+    found = b.found;
+    written = b.written;
+  };
+}
 
 abbrev outside_law : Lasting → RowLaw
 outside_law b = record {

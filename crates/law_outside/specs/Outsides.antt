@@ -14,8 +14,8 @@ LeavesOutside Is (Suspends item residual seen) = Is seen.outside
 LeavesOutside Is (Error number value seen) = Is seen.outside
 LeavesOutside Is (Ends status seen) = Is seen.outside
 
--- The outside that was has become the one that is now: what was done stays in front of what was done since, and what is left of the input is what
--- the readings since have left of it.
+-- The outside that was has become the one that is now: what was done stays in front of what was done since, what is left of the input is what
+-- the readings since have left of it, and the files hold what was written since.
 pub record ExtendsOutside (was now : Outside) : Type 0 where
   pub done : List Event
   pub by : ExtendsBy was done now

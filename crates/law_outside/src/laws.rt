@@ -16,9 +16,9 @@ ghost use Rattle.icn_meaning.specs.Meaning.{Means};
 ghost use Rattle.icn_meaning.specs.Program.{Program};
 ghost use Rattle.law_outside.specs.Outsides.{ExtendsOutside, HasOutside, LeavesOutside, StateExtends};
 
-/// The outside only grows, by events that are done, and the input loses what these read: by each operation, function and resumption; from the launch to
-/// each state of a run on flat stacks, and from any such state to each later one, with the report of an error or of the bound in it; and by the whole run,
-/// as a program means it and of any code, on flat stacks and on linked marks.
+/// The outside only grows, by events that are done, the input loses what these read, and the files hold what these write: by each operation, function and
+/// resumption; from the launch to each state of a run on flat stacks, and from any such state to each later one, with the report of an error or of the
+/// bound in it; and by the whole run, as a program means it and of any code, on flat stacks and on linked marks.
 pub fn outsides_grow()
     ensures operations { (op : Op) (items : List Item) (at : Setting)
         → LeavesOutside (ExtendsOutside at.outside) (operation_row op items at) }

@@ -13,7 +13,7 @@ use Rattle.icn_running.specs.Runs.{LeavesBy}
 use Rattle.law_simulation.specs.FirstLaw.{FilesMean}
 use Rattle.icn_answer.specs.declared.answer.Answer.{Answer}
 use Rattle.icn_answer.specs.Answers.{IsFault}
-use Rattle.icn_run_answer.specs.ToldObjects.{CallObjects}
+use Rattle.icn_streams.specs.Handed.{CallStreams}
 use Rattle.iconx_top.specs.Job.{IsJob, IsMigration, IsRun, Job, bad, grows, missing, ran, writes, wrong_words}
 use Rattle.iconx_top.specs.LoadedImages.{IsJudged}
 use Rattle.iconx_top.specs.Outcomes.{AnswersCommand, Completes, EndsByFault, broke, done, fault, idle, torn}
@@ -53,7 +53,8 @@ module _ (one : HaveOneFault) (none : HaveNoFault) (asked arguments : List (List
   -- it is a code and no other
   same_code : (bytes : List ℕ) (tables : Tables) → bytes ≡ holds.bytes → IsJudged bytes (Ok tables) → tables ≡ holds.tables
   same_code bytes tables same judged =
-      same_ok tables holds.tables (judged_once one none holds.bytes (Ok tables) (Ok holds.tables) (subst (λ b. IsJudged b (Ok tables)) same judged) holds.judged)
+      same_ok tables holds.tables (judged_once one none holds.bytes (Ok tables) (Ok holds.tables)
+      (subst (λ b. IsJudged b (Ok tables)) same judged) holds.judged)
 
   not_refused : (bytes : List ℕ) (rule : Rule) → bytes ≡ holds.bytes → IsJudged bytes (Err rule) → ⊥
   not_refused bytes rule same judged =
@@ -69,21 +70,21 @@ module _ (one : HaveOneFault) (none : HaveNoFault) (asked arguments : List (List
   not_new new tables is = let both : Asks bounds name arguments ≡ Migrates new is.name = sym reading ∙ is.asks in cc
 
   -- a run that the words ask for is that of the sources
-  same_begin : (tables : Tables) (launch : Launch) → IsRun asked written left tables launch → launch ≡ launch_of arguments bounds left
-  same_begin tables launch is = same_launch launch (launch_of arguments bounds left) (sym (ap (arguments_asked arguments) (sym reading ∙ is.asks)))
-      (sym (ap (bounds_asked bounds) (sym reading ∙ is.asks))) is.input
+  same_begin : (tables : Tables) (launch : Launch) → IsRun asked written left tables launch → launch ≡ launch_of arguments bounds left written
+  same_begin tables launch is = same_launch launch (launch_of arguments bounds left written) (sym (ap (arguments_asked arguments) (sym reading ∙ is.asks)))
+      (sym (ap (bounds_asked bounds) (sym reading ∙ is.asks))) is.outside
 
   run_code : (tables : Tables) (launch : Launch) → IsRun asked written left tables launch → tables ≡ holds.tables
   run_code tables launch is = same_code is.bytes tables (same_bytes is.name is.bytes (same_name is.name (ap image_named is.asks)) is.there) is.judged
 
   sources_mean : (tables : Tables) (launch : Launch) (seen : Observation) → IsRun asked written left tables launch → Runs tables launch seen
-      → FilesMean sources (launch_of arguments bounds left) seen
-  sources_mean tables launch seen is runs = holds.means (launch_of arguments bounds left) seen
+      → FilesMean sources (launch_of arguments bounds left written) seen
+  sources_mean tables launch seen is runs = holds.means (launch_of arguments bounds left written) seen
       (subst (λ l. Runs holds.tables l seen) (same_begin tables launch is) (subst (λ t. Runs t launch seen) (run_code tables launch is) runs))
 
   -- the job that the words ask for
-  job_done : (answer : Answer) (before after : CallObjects) (job : Job) → IsJob asked written left job → Completes job answer before after
-      → DoesAsSources sources (launch_of arguments bounds left) asked written answer before after
+  job_done : (answer : Answer) (before after : CallStreams) (job : Job) → IsJob asked written left job → Completes job answer before after
+      → DoesAsSources sources (launch_of arguments bounds left written) asked written answer before after
   job_done answer before after _ (wrong_words kind e) completes = absurd (not_faulty kind e)
   job_done answer before after _ (missing other named gone) completes = absurd (not_missing other (same_name other named) gone)
   job_done answer before after _ (bad other bytes rule named there judged) completes =
@@ -92,8 +93,8 @@ module _ (one : HaveOneFault) (none : HaveNoFault) (asked arguments : List (List
   job_done answer before after _ (writes new tables is short) completes = absurd (not_new new tables is)
   job_done answer before after _ (grows new tables is long) completes = absurd (not_new new tables is)
 
-  job_broken : (answer : Answer) (before after : CallObjects) → IsFault answer → EndsByFault asked written left answer before after
-      → DoesAsSources sources (launch_of arguments bounds left) asked written answer before after
+  job_broken : (answer : Answer) (before after : CallStreams) → IsFault answer → EndsByFault asked written left answer before after
+      → DoesAsSources sources (launch_of arguments bounds left written) asked written answer before after
   job_broken answer before after is (idle ends) = did_nothing is ends
   job_broken answer before after is (torn ends) = absurd (not_new ends.new ends.tables ends.asked)
   job_broken answer before after is (broke ends) = broke_off is (record {
@@ -101,14 +102,13 @@ module _ (one : HaveOneFault) (none : HaveNoFault) (asked arguments : List (List
     between = ends.between;
     seen = ends.broken.0;
     answered = ends.answered;
-    files_stay = ends.files_stay;
     means = sources_mean ends.tables ends.launch ends.broken.0 ends.asked ends.broken.1.0;
-    leaves = subst (λ (l : Launch). LeavesBy ends.stopped l.outside.left ends.broken.0 before.streams ends.between)
+    leaves = subst (λ (l : Launch). LeavesBy ends.stopped l.outside ends.broken.0 before ends.between)
         (same_begin ends.tables ends.launch ends.asked) ends.broken.1.1;
     line = ends.line;
   })
 
-  pub does_as_sources : (answer : Answer) (before after : CallObjects) → AnswersCommand asked written left answer before after
-      → DoesAsSources sources (launch_of arguments bounds left) asked written answer before after
+  pub does_as_sources : (answer : Answer) (before after : CallStreams) → AnswersCommand asked written left answer before after
+      → DoesAsSources sources (launch_of arguments bounds left written) asked written answer before after
   does_as_sources answer before after (done job is completes) = job_done answer before after job is completes
   does_as_sources answer before after (fault is ends) = job_broken answer before after is ends

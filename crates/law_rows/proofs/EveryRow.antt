@@ -12,11 +12,13 @@ use Rattle.icn_text.specs.declared.op.Op.{Op}
 use Rattle.icn_text.specs.declared.op.Op.TheVariants as Ops
 use Rattle.icn_text.specs.declared.func.Func.{Func}
 use Rattle.icn_text.specs.declared.func.Func.TheVariants as Funcs
-use Rattle.icn_value.specs.Values.{Value, Null, Integer, Text, Chars, Std, Procedure, ARecord, AList, ASet, ATable, ACoexp, File, Input, Output, Errout, Root, Global, Static, Local, Element, Field, Key, Keyword, KeywordVariable, Subject, Position, Random, ErrorCount, Variable, Whole, Part, Item, Val, Var}
-use Rattle.icn_value.specs.Store.{Setting, Heap, Record, Names, Outside, Request, ALine, SomeBytes, with_reading, having_left, having_position, having_heap, new_list, list_at, table_at, record_at, value_at, with_list}
+use Rattle.icn_value.specs.declared.mode.FileMode.{FileMode}
+use Rattle.icn_value.specs.declared.mode.FileMode.TheVariants.{ToRead, ToWrite, ToAdd}
+use Rattle.icn_value.specs.Values.{Value, Null, Integer, Text, Chars, Std, Procedure, ARecord, AList, ASet, ATable, ACoexp, File, Input, Output, Errout, Opened, Root, Global, Static, Local, Element, Field, Key, Keyword, KeywordVariable, Subject, Position, Random, ErrorCount, Variable, Whole, Part, Item, Val, Var}
+use Rattle.icn_value.specs.Store.{Setting, Heap, Record, Names, OpenedFile, Outside, Request, ALine, SomeBytes, file_at, with_file_reading, with_opened, with_reading, having_left, having_position, having_heap, new_list, list_at, table_at, record_at, value_at, with_list}
 use Rattle.icn_defs.specs.Conversions.{same, group_of, integer_of, text_of, form_of, text_made, position_of, held_text, is_null, ValueGroup, Textual, Listed, Collected, Tabled, Recorded, Filed, Activated, Single}
 use Rattle.icn_defs.specs.RowFacts.{is_error_number}
-use Rattle.icn_defs.specs.Rows.{Row, Fails, Gives, Suspends, Error, Ends, Residual, TextBytes, VariableBytes, ListItems, SetMembers, TableValues, TableKeys, RecordFields, InputLines, UndoAssign, UndoExchange, UndoPosition, Counting, Sequence, Balanced, Found, Among, Mover, Neither, Left, Right, check, present, number_or_error, fails_unless, thing_or_failure, natural, costs_made, costs_text, costs_bytes, arithmetic_error, gives_value, suspends, ends}
+use Rattle.icn_defs.specs.Rows.{Row, Fails, Gives, Suspends, Error, Ends, Residual, TextBytes, VariableBytes, ListItems, SetMembers, TableValues, TableKeys, RecordFields, FileLines, UndoAssign, UndoExchange, UndoPosition, Counting, Sequence, Balanced, Found, Among, Mover, Neither, Left, Right, check, present, number_or_error, fails_unless, thing_or_failure, natural, costs_made, costs_text, costs_bytes, arithmetic_error, gives_value, suspends, ends}
 use Rattle.icn_defs.specs.ReadAndAssign.{the_value, the_values, the_variable, assigns_keyword, assigns_root, assigns_or, assigns_both, move_part, moved_by_left, moved_by_right, costs_unless, stores, reads, reads_root, reads_text, root_value, with_part}
 use Rattle.icn_defs.specs.Arguments.{Keeper, SetKeeper, TableKeeper, file_of, arg, arg_or}
 use Rattle.icn_defs.specs.Arithmetic.{count_from}
@@ -24,8 +26,12 @@ use Rattle.icn_defs.specs.Operations.{sets_or_csets}
 use Rattle.icn_defs.specs.Elements.{text_elements, text_variable, part_item, elements_of, random_number, random_of, random_by}
 use Rattle.icn_defs.specs.Variables.{subscript_of, section_of}
 use Rattle.icn_defs.specs.Structures.{copy_of, new_record_of, new_set_by, inserts, without_key, pair_lists, table_sorted, sorted_of}
-use Rattle.icn_defs.specs.InputOutput.{WriteArgument, Puts, Selects, pieces, put_on, put_pieces, puts_line, read_row, reads_row, write_row, writes_row, stop_row, newline, last_of}
-use Rattle.icn_defs.specs.Lines.{is_input, next_line, next_bytes, lines_again}
+use Rattle.icn_profile.specs.Numbers.{most_bytes_of_opened}
+use Rattle.icn_value.specs.Changes.{having_file, new_file, read_on}
+use Rattle.icn_defs.specs.InputOutput.{WriteArgument, Puts, Selects, line_put, pieces, put_on, put_pieces, puts_line, read_row, reads_row, write_row, writes_row, stop_row, newline, last_of}
+use Rattle.icn_defs.specs.OpenFiles.{Readable, FromInput, FromOpened, closed_in, is_open_to_write, left_in, readable, readable_of, written_out}
+use Rattle.icn_defs.specs.Files.{close_row, content_by, new_file_of, open_row}
+use Rattle.icn_defs.specs.Lines.{bytes_from, line_from, lines_row, next_line, next_bytes, next_opened_bytes, next_opened_line}
 use Rattle.icn_defs.specs.Interruptions.{asked_of}
 use Rattle.icn_defs.specs.Applying.{operation_on, operation_row, operand, function_of, again}
 use Rattle.icn_defs.specs.StepRows.{list_row, record_row, coexpression_row, text_row}
@@ -82,8 +88,8 @@ module _ (law : RowLaw) where
   r_fields : (id k : ℕ) → ResidualIn law (RecordFields id k)
   r_fields id k = record { is = tt }
 
-  r_lines : ResidualIn law InputLines
-  r_lines = record { is = tt }
+  r_lines : (file : File) → ResidualIn law (FileLines file)
+  r_lines file = record { is = tt }
 
   r_assign : (x : Variable) (v : Value) → VariableIn law x → ValueIn law v → ResidualIn law (UndoAssign x v)
   r_assign x v h g = record { is = (h.is, g.is) }
@@ -524,20 +530,107 @@ module _ (law : RowLaw) where
       by true is = rw is (w_bytes (length bytes) (next bytes) (having_left (drop (length bytes) a.outside.left) read)
           (with_outside a _ h (record { is = left_so (drop (length bytes) a.outside.left) taken })) (f bytes))
 
-  put_all : (between : List ℕ) (is_first : Bool) (ps : List WriteArgument) (file : File) (o : Outside) → law.parts.outside.Is o
-      → law.parts.outside.Is (put_pieces between is_first ps file o).1
-  put_all between is_first [] file o h = h
-  put_all between is_first (Puts text ∷ ps) file o h = put_all between false ps file (put_on file text o) (law.parts.outside.put o file text h)
-  put_all between is_first (Selects other ∷ ps) file o h = put_all between false ps other (put_on file _ o) (law.parts.outside.put o file _ h)
+  -- Opened files: a law says nothing of them
 
-  w_puts : (line_end : List ℕ) (file : File) (ps : List WriteArgument) (next : Row) (a : Setting) → SettingIn law a
-      → ((s : Setting) → SettingIn law s → OutcomeIn law (next s)) → OutcomeIn law (puts_line line_end file ps next a)
-  w_puts line_end file ps next a h f =
-      f _ (with_outside a _ h (record { is = law.parts.outside.put _ _ line_end (put_all line_end true ps file a.outside h.is.outside) }))
+  with_other_file : (a : Setting) (n : ℕ) (file : OpenedFile) → SettingIn law a → SettingIn law (having_heap (with_opened n file) a)
+  with_other_file a n file h = search settings
 
-  w_lines_again : (a : Setting) → SettingIn law a → OutcomeIn law (lines_again a)
-  w_lines_again a h = w_line (λ line. suspends (Val (Text line)) InputLines) a h
-      (λ line s k. o_suspends law (Val (Text line)) InputLines s (record { is = law.parts.values.text line }) (record { is = tt }) k)
+  with_new_file : (a : Setting) (file : OpenedFile) → SettingIn law a → SettingIn law (having_heap (having_file file) a)
+  with_new_file a file h = search settings
+
+  w_readable : (file : File) (v : Value) (next : Readable → Row) (a : Setting) → EnteredIn law a → ValueIn law v
+      → ((from : Readable) → OutcomeIn law (next from a)) → OutcomeIn law (readable file v next a)
+  w_readable file v next a e g f = w_present law (readable_of a.world.heap file) 212 (Some v) next a
+      (o_error law 212 (Some v) a refl e (optional_some law v g)) (λ from is. f from)
+
+  w_opened_line : (n : ℕ) (next : List ℕ → Row) (a : Setting) → SettingIn law a
+      → ((line : List ℕ) (s : Setting) → SettingIn law s → OutcomeIn law (next line s)) → OutcomeIn law (next_opened_line n next a)
+  w_opened_line n next a h f = by (nat_lt 0 (length left)) refl
+    where
+      left : List ℕ
+      left = left_in (file_at a.world.heap n)
+
+      line : List ℕ
+      line = take_while (λ byte. not (byte == 10)) left
+
+      by : (t : Bool) → nat_lt 0 (length left) ≡ t → OutcomeIn law (next_opened_line n next a)
+      by false is = rw is (o_fails law a h)
+      by true is = rw is (w_bytes (length line) (next line) (having_heap (read_on n (length line + 1)) a) (with_other_file a n _ h) (f line))
+
+  w_opened_bytes : (n count : ℕ) (next : List ℕ → Row) (a : Setting) → SettingIn law a
+      → ((bytes : List ℕ) (s : Setting) → SettingIn law s → OutcomeIn law (next bytes s)) → OutcomeIn law (next_opened_bytes n count next a)
+  w_opened_bytes n count next a h f = by (nat_lt 0 (length bytes)) refl
+    where
+      bytes : List ℕ
+      bytes = take count (left_in (file_at a.world.heap n))
+
+      by : (t : Bool) → nat_lt 0 (length bytes) ≡ t → OutcomeIn law (next_opened_bytes n count next a)
+      by false is = rw is (o_fails law a h)
+      by true is = rw is (w_bytes (length bytes) (next bytes) (having_heap (read_on n (length bytes)) a) (with_other_file a n _ h) (f bytes))
+
+  w_line_from : (from : Readable) (next : List ℕ → Row) (a : Setting) → SettingIn law a
+      → ((line : List ℕ) (s : Setting) → SettingIn law s → OutcomeIn law (next line s)) → OutcomeIn law (line_from from next a)
+  w_line_from FromInput next a h f = w_line next a h f
+  w_line_from (FromOpened n) next a h f = w_opened_line n next a h f
+
+  w_bytes_from : (count : ℕ) (from : Readable) (next : List ℕ → Row) (a : Setting) → SettingIn law a
+      → ((bytes : List ℕ) (s : Setting) → SettingIn law s → OutcomeIn law (next bytes s)) → OutcomeIn law (bytes_from count from next a)
+  w_bytes_from count FromInput next a h f = w_some_bytes count next a h f
+  w_bytes_from count (FromOpened n) next a h f = w_opened_bytes n count next a h f
+
+  w_lines : (file : File) (a : Setting) → EnteredIn law a → SettingIn law a → OutcomeIn law (lines_row file a)
+  w_lines file a e h =
+      let next : List ℕ → Row = λ line. suspends (Val (Text line)) (FileLines file) in
+      w_readable file (Std file) (λ from. line_from from next) a e (value_file law file) (λ from. w_line_from from next a h
+      (λ line s k. o_suspends law (Val (Text line)) (FileLines file) s (record { is = law.parts.values.text line }) (record { is = tt }) k))
+
+  put_in : (file : File) (text : List ℕ) (a : Setting) → SettingIn law a → SettingIn law (put_on file text a)
+  put_in Input text a h = h
+  put_in Output text a h = with_outside a _ h (record { is = law.parts.outside.output a.outside text h.is.outside })
+  put_in Errout text a h = with_outside a _ h (record { is = law.parts.outside.errors a.outside text h.is.outside })
+  put_in (Opened n) text a h = with_other_file a n _ h
+
+  put_all : (between : List ℕ) (is_first : Bool) (ps : List WriteArgument) (file : File) (a : Setting) → SettingIn law a
+      → SettingIn law (put_pieces between is_first ps file a).1
+  put_all between is_first [] file a h = h
+  put_all between is_first (Puts text ∷ ps) file a h = put_all between false ps file (put_on file text a) (put_in file text a h)
+  put_all between is_first (Selects other ∷ ps) file a h = put_all between false ps other (put_on file _ a) (put_in file _ a h)
+
+  line_in : (line_end : List ℕ) (ps : List WriteArgument) (file : File) (a : Setting) → SettingIn law a → SettingIn law (line_put line_end true ps file a)
+  line_in line_end ps file a h = put_in _ line_end _ (put_all line_end true ps file a h)
+
+  written_in : (file : OpenedFile) (o : Outside) → law.parts.outside.Is o → law.parts.outside.Is (written_out file o)
+  written_in file o h = by (is_open_to_write file) refl
+    where
+      by : (t : Bool) → is_open_to_write file ≡ t → law.parts.outside.Is (written_out file o)
+      by true is = rw is (law.parts.outside.written o file.name file.content h)
+      by false is = rw is h
+
+  closing_in : (file : File) (a : Setting) → SettingIn law a → SettingIn law (closed_in file a)
+  closing_in Input a h = h
+  closing_in Output a h = h
+  closing_in Errout a h = h
+  closing_in (Opened n) a h = with_other_file _ n _
+      (with_outside a _ h (record { is = written_in (file_at a.world.heap n) a.outside h.is.outside }))
+
+  w_content : (mode : FileMode) (name : List ℕ) (next : List ℕ → Row) (a : Setting) → SettingIn law a
+      → ((content : List ℕ) (s : Setting) → SettingIn law s → OutcomeIn law (next content s)) → OutcomeIn law (content_by mode name next a)
+  w_content mode name next a h f = by mode
+    where
+      found : Setting
+      found = record a { outside = with_file_reading name a.outside }
+
+      found_so : SettingIn law found
+      found_so = with_outside a _ h (record { is = law.parts.outside.found a.outside name h.is.outside })
+
+      within : (content : List ℕ) → OutcomeIn law (fails_unless (nat_le (length content) most_bytes_of_opened) (next content) found)
+      within content = w_passing law (nat_le (length content) most_bytes_of_opened) (next content) found found_so (f content found found_so)
+
+      by : (m : FileMode) → OutcomeIn law (content_by m name next a)
+      by ToRead = w_found law (a.outside.files name)
+          (λ content. fails_unless (nat_le (length content) most_bytes_of_opened) (next content)) found found_so (λ content is. within content)
+      by ToWrite = f [] a h
+      by ToAdd = within (unwrap_or (a.outside.files name) [])
 
 ruleset changes = (words, w_made, w_unless, w_reads, w_value, w_variable, w_stores, pairs_stored)
 
@@ -582,10 +675,7 @@ module _ (law : RowLaw) where
   w_elements x v (Collected id) a e h p i = search words depth 12
   w_elements x v (Tabled id) a e h p i = search words depth 12
   w_elements x v (Recorded id) a e h p i = search words depth 12
-  w_elements x v (Filed file) a e h p i =
-      w_check law (is_input file) 212 (Some (Std file)) lines_again a
-      (o_error law 212 (Some (Std file)) a refl e (optional_some law (Std file) (value_file law file)))
-      (w_lines_again law a h)
+  w_elements x v (Filed file) a e h p i = w_lines law file a e h
   w_elements x v (Activated id) a e h p i = search words depth 12
   w_elements x v Single a e h p i = search words depth 12
 
@@ -688,63 +778,95 @@ module _ (law : RowLaw) where
       let others : PairsIn law ps = record { is = g.is.1 } in
       search (words, w_pairs ps, f) depth 14
 
-  w_pieces : (vs : List Value) (next : List WriteArgument → Row) (a : Setting) → EnteredIn law a → SettingIn law a → ValuesIn law vs
-      → ((ps : List WriteArgument) → OutcomeIn law (next ps a)) → OutcomeIn law (pieces vs next a)
-  w_pieces [] next a e h g f = f []
-  w_pieces (v ∷ vs) next a e h g f =
+  w_pieces : (heap : Heap) (vs : List Value) (next : List WriteArgument → Row) (a : Setting) → EnteredIn law a → SettingIn law a → ValuesIn law vs
+      → ((ps : List WriteArgument) → OutcomeIn law (next ps a)) → OutcomeIn law (pieces heap vs next a)
+  w_pieces heap [] next a e h g f = f []
+  w_pieces heap (v ∷ vs) next a e h g f =
       let first : ValueIn law v = record { is = g.is.0 } in
       let others : ValuesIn law vs = record { is = g.is.1 } in
-      search (words, w_pieces vs, f)
+      search (words, w_pieces heap vs, f)
+
+  w_puts : (line_end : List ℕ) (file : File) (vs : List Value) (next : Row) (a : Setting) → EnteredIn law a → SettingIn law a → ValuesIn law vs
+      → ((s : Setting) → SettingIn law s → OutcomeIn law (next s)) → OutcomeIn law (puts_line line_end file vs next a)
+  w_puts line_end file vs next a e h g f =
+      w_pieces a.world.heap vs (λ ps s. next (line_put line_end true ps file s)) a e h g (λ ps. f _ (line_in law line_end ps file a h))
 
 module _ (law : RowLaw) where
   w_read : (vs : List Value) (a : Setting) → EnteredIn law a → SettingIn law a → ValuesIn law vs → OutcomeIn law (read_row vs a)
   w_read vs a e h g =
       let v = arg_or (Std Input) vs 0 in
-      let next : Row = next_line (λ line. gives_value (Text line)) in
+      let next : List ℕ → Row = λ line. gives_value (Text line) in
       let given : ValueIn law (arg vs 0) = value_at_index law vs 0 g in
       let from_file : ValueIn law v = value_if law (is_null (arg vs 0)) (Std Input) (arg vs 0) (value_file law Input) given in
-      w_present law (file_of v) 105 (Some v) (λ from. check (is_input from) 212 (Some (arg vs 0)) next) a
-      (o_error law 105 (Some v) a refl e (optional_some law v from_file)) (λ from is.
-      w_check law (is_input from) 212 (Some (arg vs 0)) next a (o_error law 212 (Some (arg vs 0)) a refl e (optional_some law (arg vs 0) given))
-      (w_line law (λ line. gives_value (Text line)) a h (λ line s k. o_gives law (Val (Text line)) s (item_val law (Text line) (value_text law line)) k)))
+      w_present law (file_of v) 105 (Some v) (λ named. readable named (arg vs 0) (λ from. line_from from next)) a
+      (o_error law 105 (Some v) a refl e (optional_some law v from_file)) (λ named is.
+      w_readable law named (arg vs 0) (λ from. line_from from next) a e given (λ from.
+      w_line_from law from next a h (λ line s k. o_gives law (Val (Text line)) s (item_val law (Text line) (value_text law line)) k)))
 
   w_reads_row : (vs : List Value) (a : Setting) → EnteredIn law a → SettingIn law a → ValuesIn law vs → OutcomeIn law (reads_row vs a)
   w_reads_row vs a e h g =
       let v = arg_or (Std Input) vs 0 in
       let w = arg_or (Integer (pos 1)) vs 1 in
-      let next : ℕ → Row = λ count. next_bytes count (λ bytes. gives_value (Text bytes)) in
-      let read : File → ℕ → Row = λ from count. check (is_input from) 212 (Some (arg vs 0)) (next count) in
-      let test : File → ℕ → Row = λ from count. check (nat_lt 0 count) 205 (Some (arg vs 1)) (read from count) in
+      let next : List ℕ → Row = λ bytes. gives_value (Text bytes) in
+      let read : File → ℕ → Row = λ named count. readable named (arg vs 0) (λ from. bytes_from count from next) in
+      let test : File → ℕ → Row = λ named count. check (nat_lt 0 count) 205 (Some (arg vs 1)) (read named count) in
       let first : ValueIn law (arg vs 0) = value_at_index law vs 0 g in
       let second : ValueIn law (arg vs 1) = value_at_index law vs 1 g in
       let from_file : ValueIn law v = value_if law (is_null (arg vs 0)) (Std Input) (arg vs 0) (value_file law Input) first in
       let many : ValueIn law w = value_if law (is_null (arg vs 1)) (Integer (pos 1)) (arg vs 1) (value_integer law (pos 1)) second in
-      w_present law (file_of v) 105 (Some v) (λ from. present (integer_of w) 101 (Some w) (λ n. natural n (arg vs 1) (test from))) a
-      (o_error law 105 (Some v) a refl e (optional_some law v from_file)) (λ from is.
-      w_present law (integer_of w) 101 (Some w) (λ n. natural n (arg vs 1) (test from)) a
+      w_present law (file_of v) 105 (Some v) (λ named. present (integer_of w) 101 (Some w) (λ n. natural n (arg vs 1) (test named))) a
+      (o_error law 105 (Some v) a refl e (optional_some law v from_file)) (λ named is.
+      w_present law (integer_of w) 101 (Some w) (λ n. natural n (arg vs 1) (test named)) a
       (o_error law 101 (Some w) a refl e (optional_some law w many)) (λ n is.
-      w_natural law n (arg vs 1) (test from) a e second (λ count.
-      w_check law (nat_lt 0 count) 205 (Some (arg vs 1)) (read from count) a
+      w_natural law n (arg vs 1) (test named) a e second (λ count.
+      w_check law (nat_lt 0 count) 205 (Some (arg vs 1)) (read named count) a
       (o_error law 205 (Some (arg vs 1)) a refl e (optional_some law (arg vs 1) second))
-      (w_check law (is_input from) 212 (Some (arg vs 0)) (next count) a
-      (o_error law 212 (Some (arg vs 0)) a refl e (optional_some law (arg vs 0) first))
-      (w_some_bytes law count (λ bytes. gives_value (Text bytes)) a h
+      (w_readable law named (arg vs 0) (λ from. bytes_from count from next) a e first (λ from.
+      w_bytes_from law count from next a h
       (λ bytes s k. o_gives law (Val (Text bytes)) s (item_val law (Text bytes) (value_text law bytes)) k))))))
 
   last_value : (vs : List Value) → ValuesIn law vs → ItemIn law (Val (last_of vs))
   last_value vs g = item_val law (last_of vs) (value_at_index law vs (length vs - 1) g)
 
   w_write : (vs : List Value) (a : Setting) → EnteredIn law a → SettingIn law a → ValuesIn law vs → OutcomeIn law (write_row vs a)
-  w_write vs a e h g = w_pieces law vs (λ ps. puts_line newline Output ps (gives_value (last_of vs))) a e h g
-      (λ ps. w_puts law newline Output ps (gives_value (last_of vs)) a h (λ s k. o_gives law (Val (last_of vs)) s (last_value vs g) k))
+  w_write vs a e h g = w_puts law newline Output vs (gives_value (last_of vs)) a e h g (λ s k. o_gives law (Val (last_of vs)) s (last_value vs g) k)
 
   w_writes : (vs : List Value) (a : Setting) → EnteredIn law a → SettingIn law a → ValuesIn law vs → OutcomeIn law (writes_row vs a)
-  w_writes vs a e h g = w_pieces law vs (λ ps. puts_line [] Output ps (gives_value (last_of vs))) a e h g
-      (λ ps. w_puts law [] Output ps (gives_value (last_of vs)) a h (λ s k. o_gives law (Val (last_of vs)) s (last_value vs g) k))
+  w_writes vs a e h g = w_puts law [] Output vs (gives_value (last_of vs)) a e h g (λ s k. o_gives law (Val (last_of vs)) s (last_value vs g) k)
 
   w_stop : (vs : List Value) (a : Setting) → EnteredIn law a → SettingIn law a → ValuesIn law vs → OutcomeIn law (stop_row vs a)
-  w_stop vs a e h g = w_pieces law vs (λ ps. puts_line newline Errout ps (ends 1)) a e h g
-      (λ ps. w_puts law newline Errout ps (ends 1) a h (λ s k. o_ends law 1 s k))
+  w_stop vs a e h g = w_puts law newline Errout vs (ends 1) a e h g (λ s k. o_ends law 1 s k)
+
+  w_close : (vs : List Value) (a : Setting) → EnteredIn law a → SettingIn law a → ValuesIn law vs → OutcomeIn law (close_row vs a)
+  w_close vs a e h g =
+      let v = arg vs 0 in
+      let given : ValueIn law v = value_at_index law vs 0 g in
+      w_present law (file_of v) 105 (Some v) (λ file s. gives_value (Std file) (closed_in file s)) a
+      (o_error law 105 (Some v) a refl e (optional_some law v given)) (λ file is.
+      o_gives law (Val (Std file)) (closed_in file a) (item_val law (Std file) (value_file law file)) (closing_in law file a h))
+
+  w_new_file : (file : OpenedFile) (next : Value → Row) (a : Setting) → SettingIn law a
+      → ((n : ℕ) (s : Setting) → SettingIn law s → OutcomeIn law (next (Std (Opened n)) s)) → OutcomeIn law (new_file_of file next a)
+  w_new_file file next a h f = by (nat_le (a.world.heap.cells + 1) a.world.heap.bounds.cells) refl
+    where
+      paid : Setting
+      paid = having_heap (λ heap. record heap { cells = heap.cells + 1 }) a
+
+      paid_so : SettingIn law paid
+      paid_so = search settings
+
+      by : (t : Bool) → nat_le (a.world.heap.cells + 1) a.world.heap.bounds.cells ≡ t → OutcomeIn law (new_file_of file next a)
+      by false is = rw is (o_cells law a h)
+      by true is = rw is (f (length a.world.heap.files) (having_heap (having_file file) paid) (with_new_file law paid file paid_so))
+
+  w_opens : (mode : FileMode) (name : List ℕ) (a : Setting) → SettingIn law a
+      → OutcomeIn law (content_by mode name (λ content. new_file_of (new_file name mode content) (λ opened. gives_value opened)) a)
+  w_opens mode name a h = w_content law mode name (λ content. new_file_of (new_file name mode content) (λ opened. gives_value opened)) a h
+      (λ content s k. w_new_file (new_file name mode content) (λ opened. gives_value opened) s k
+      (λ n now q. o_gives law (Val (Std (Opened n))) now (item_val law (Std (Opened n)) (value_file law (Opened n))) q))
+
+  w_open : (vs : List Value) (a : Setting) → EnteredIn law a → SettingIn law a → ValuesIn law vs → OutcomeIn law (open_row vs a)
+  w_open vs a e h g = search (changes, w_opens) depth 16
 
   w_table_sorted : (names : Names) (heap : Heap) (ps : List (Value × Value)) (k : ℤ) (v : Value) (a : Setting) → EnteredIn law a → SettingIn law a
       → ValueIn law v
@@ -875,6 +997,8 @@ module _ (law : RowLaw) where
   w_function names Funcs.Write vs a e h g t = w_write law vs a e h g
   w_function names Funcs.Writes vs a e h g t = w_writes law vs a e h g
   w_function names Funcs.ErrorClear vs a e h g t = search rows depth 16
+  w_function names Funcs.Open vs a e h g t = w_open law vs a e h g
+  w_function names Funcs.Close vs a e h g t = w_close law vs a e h g
 
   w_again : (r : Residual) (a : Setting) → (undoes_exchange r ≡ true → IsOne law) → EnteredIn law a → SettingIn law a → ResidualIn law r
       → OutcomeIn law (again r a)
@@ -885,7 +1009,7 @@ module _ (law : RowLaw) where
   w_again (TableValues id place) a o e h g = search rows depth 16
   w_again (TableKeys id place) a o e h g = search rows depth 16
   w_again (RecordFields id place) a o e h g = search rows depth 16
-  w_again InputLines a o e h g = w_lines_again law a h
+  w_again (FileLines file) a o e h g = w_lines law file a e h
   w_again (UndoAssign x old) a o e h g =
       let xs : VariableIn law x = record { is = g.is.0 } in
       let vs : ValueIn law old = record { is = g.is.1 } in

@@ -1,15 +1,14 @@
 -- What a law over all rows says, and why each change that a row makes keeps it. `EveryRow` goes over the rows once, for any such law.
 use Rattle.std.proofs.Common.{◌≡◌, ℕ, zero, suc, ◌+◌, ◌∙◌, true, List, [], ◌∷◌, ◌++◌, length, Option, None}
-use Rattle.std.specs.Prelude.{ℤ, slice_get, slice_set, unwrap_or}
+use Rattle.std.specs.Prelude.{map, ℤ, slice_get, slice_set, unwrap_or}
 use Rattle.std.proofs.lemmas.List.{length-set}
 use Rattle.icn_structs.specs.Numbered.{NumberedList}
 use Rattle.icn_value.specs.Limited.{Bounds}
 use Rattle.icn_value.specs.Values.{Value, Null, Integer, Text, Chars, Std, Procedure, ARecord, AList, ASet, ATable, ACoexp, File, Root, Global, Static, Local, Element, Field, Key, Keyword, Variable, Whole, Part, Item, Val, Var}
-use Rattle.icn_value.specs.Store.{Heap, Table, Record, KeptError, Outside, Request, Setting, new_list, value_at}
-use Rattle.icn_defs.specs.InputOutput.{put_on}
+use Rattle.icn_value.specs.Store.{Heap, Table, Record, KeptError, Outside, Request, Setting, new_list, value_at, OutputByte, ErrorByte, with_events, with_file_reading, with_file_writing}
 use Rattle.icn_defs.specs.Interruptions.{after_reading}
 use Rattle.icn_defs.specs.RowFacts.{is_error_number}
-use Rattle.icn_defs.specs.Rows.{Outcome, Fails, Gives, Suspends, Error, Ends, Residual, TextBytes, VariableBytes, ListItems, SetMembers, TableValues, TableKeys, RecordFields, InputLines, UndoAssign, UndoExchange, UndoPosition, Counting, Sequence, Balanced, Found, Among}
+use Rattle.icn_defs.specs.Rows.{Outcome, Fails, Gives, Suspends, Error, Ends, Residual, TextBytes, VariableBytes, ListItems, SetMembers, TableValues, TableKeys, RecordFields, FileLines, UndoAssign, UndoExchange, UndoPosition, Counting, Sequence, Balanced, Found, Among}
 pub use Rattle.law_rows.specs.HeldValues.{OptionBy, RootBy, VariableBy, ItemBy, PairBy, ListBy, TableBy, ResidualBy}
 use Rattle.law_rows.specs.Unchanged.{IsLimit}
 use Rattle.law_rows.proofs.EachOfList.{Each, each_append, each_set}
@@ -71,8 +70,11 @@ pub record RecordsLaw (Q : Value → Type 0) : Type 1 where
 -- of the outside
 pub record OutsideLaw : Type 1 where
   pub Is : Outside → Type 0
-  pub put : (outside : Outside) (file : File) (text : List ℕ) → Is outside → Is (put_on file text outside)
+  pub output : (outside : Outside) (text : List ℕ) → Is outside → Is (with_events (map OutputByte text) outside)
+  pub errors : (outside : Outside) (text : List ℕ) → Is outside → Is (with_events (map ErrorByte text) outside)
   pub read : (outside : Outside) (asked : Request) → Is outside → Is (after_reading asked outside)
+  pub found : (outside : Outside) (name : List ℕ) → Is outside → Is (with_file_reading name outside)
+  pub written : (outside : Outside) (name bytes : List ℕ) → Is outside → Is (with_file_writing name bytes outside)
 
 -- what a law says of each part of a setting
 pub record PartLaws : Type 1 where
@@ -197,7 +199,7 @@ any_of_residual (SetMembers id place) = tt
 any_of_residual (TableValues id place) = tt
 any_of_residual (TableKeys id place) = tt
 any_of_residual (RecordFields id place) = tt
-any_of_residual InputLines = tt
+any_of_residual (FileLines file) = tt
 any_of_residual (UndoAssign x old) = (any_of_variable x, tt)
 any_of_residual (UndoExchange mover x y v w) = (any_of_variable x, (any_of_variable y, (tt, tt)))
 any_of_residual (UndoPosition old) = tt
@@ -240,7 +242,14 @@ any_records = record {
 }
 
 abbrev pub any_outside : OutsideLaw
-any_outside = record { Is = λ outside. Unit {0}; put = λ outside file text h. tt; read = λ outside asked h. tt }
+any_outside = record {
+  Is = λ outside. Unit {0};
+  output = λ outside text h. tt;
+  errors = λ outside text h. tt;
+  read = λ outside asked h. tt;
+  found = λ outside name h. tt;
+  written = λ outside name bytes h. tt;
+}
 
 -- nothing is said of any part
 abbrev pub any_parts : PartLaws

@@ -4,7 +4,7 @@ use Rattle.std.specs.List.{AllByRecursion as Each}
 use Rattle.icn_structs.specs.Numbered.{NumberedList}
 use Rattle.icn_value.specs.Values.{Value, Root, Global, Static, Local, Element, Field, Key, Keyword, Variable, Whole, Part, Item, Val, Var}
 use Rattle.icn_value.specs.Store.{Table}
-use Rattle.icn_defs.specs.Rows.{Residual, TextBytes, VariableBytes, ListItems, SetMembers, TableValues, TableKeys, RecordFields, InputLines, UndoAssign, UndoExchange, UndoPosition, Counting, Sequence, Balanced, Found, Among}
+use Rattle.icn_defs.specs.Rows.{Residual, TextBytes, VariableBytes, ListItems, SetMembers, TableValues, TableKeys, RecordFields, FileLines, UndoAssign, UndoExchange, UndoPosition, Counting, Sequence, Balanced, Found, Among}
 
 -- the value, if there is one
 abbrev pub OptionBy : (Value → Type 0) → Option Value → Type 0
@@ -52,7 +52,7 @@ ResidualBy Q (SetMembers id place) = Unit {0}
 ResidualBy Q (TableValues id place) = Unit {0}
 ResidualBy Q (TableKeys id place) = Unit {0}
 ResidualBy Q (RecordFields id place) = Unit {0}
-ResidualBy Q InputLines = Unit {0}
+ResidualBy Q (FileLines file) = Unit {0}
 ResidualBy Q (UndoAssign variable old) = VariableBy Q variable × Q old
 ResidualBy Q (UndoExchange mover x y old_x old_y) = VariableBy Q x × (VariableBy Q y × (Q old_x × Q old_y))
 ResidualBy Q (UndoPosition old) = Unit {0}

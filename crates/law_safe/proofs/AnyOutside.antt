@@ -1,6 +1,6 @@
 -- No run of verified code is stuck, whatever the outside is before each step.
 use Rattle.std.proofs.Common.{◌≡◌, ◌≢◌, inl, inr, ℕ, zero, suc, List, [], ◌∷◌, Option, Some, None, refl, sym, ap, ◌∙◌, subst}
-use Rattle.icn_value.specs.Store.{Outside, outside_of}
+use Rattle.icn_value.specs.Store.{Outside, bare_outside}
 use Rattle.icn_code.specs.Codes.{Tables}
 use Rattle.icn_verify.specs.Given.{HaveShapes}
 use Rattle.icn_run.specs.Stacks.{Frames, flat}
@@ -31,7 +31,7 @@ own_outside (running m st) = st.outside
 own_outside (failing m st) = st.outside
 own_outside (hopping m st) = st.outside
 own_outside (over ending outside) = outside
-own_outside stuck = outside_of []
+own_outside stuck = bare_outside
 
 pub over_own : {K M : Type 0} (s : State K M) → over_outside (own_outside s) s ≡ s
 over_own (running m st) = refl

@@ -7,7 +7,7 @@ use Rattle.icn_verify.specs.declared.shape.LevelKind.{LevelKind}
 use Rattle.icn_verify.specs.Shapes.{PlainShape}
 use Rattle.icn_value.specs.Values.{Value, Null, Integer, Text, Chars, Std, Procedure, ARecord, AList, ASet, ATable, ACoexp, Root, Global, Static, Local, Element, Field, Key, Keyword, Variable, Whole, Part, Item, Val, Var}
 use Rattle.icn_value.specs.Store.{Table, Record, KeptError}
-use Rattle.icn_defs.specs.Rows.{Residual, TextBytes, VariableBytes, ListItems, SetMembers, TableValues, TableKeys, RecordFields, InputLines, UndoAssign, UndoExchange, UndoPosition, Counting, Sequence, Balanced, Found, Among}
+use Rattle.icn_defs.specs.Rows.{Residual, TextBytes, VariableBytes, ListItems, SetMembers, TableValues, TableKeys, RecordFields, FileLines, UndoAssign, UndoExchange, UndoPosition, Counting, Sequence, Balanced, Found, Among}
 use Rattle.icn_run.specs.Calls.{Alt, Op, Scan, Escan, Proc}
 use Rattle.icn_run.specs.Chains.{Label, fixed, flagged, Reason, because, scanning, Chain, chain, Suspensions, none, suspension, Outer, base, call, mark, limit, frame_of}
 use Rattle.law_safe.specs.Within.{Each, ValueWithin, OptionWithin, KeptWithin, RootWithin, VariableWithin, ItemWithin, PairWithin, ListWithin, TableWithin, RecordWithin, ResidualWithin}
@@ -84,7 +84,7 @@ residual_more n n' l (SetMembers a b) h = tt
 residual_more n n' l (TableValues a b) h = tt
 residual_more n n' l (TableKeys a b) h = tt
 residual_more n n' l (RecordFields a b) h = tt
-residual_more n n' l InputLines h = tt
+residual_more n n' l (FileLines file) h = tt
 residual_more n n' l (UndoAssign x v) h = (variable_more n n' l x h.0, value_more n n' l v h.1)
 residual_more n n' l (UndoExchange m x y v u) h =
     (variable_more n n' l x h.0, (variable_more n n' l y h.1.0, (value_more n n' l v h.1.1.0, value_more n n' l u h.1.1.1)))

@@ -92,7 +92,7 @@ module _ (G : Ground) where
         by = ap (λ b.
             if (true && not b) then S.exhaust_active (machine G) (code_of G)
             (linked_of (chain xs none [] (base j a)) p st)
-            (store_of st ls) else (if b then S.over M.Done st.outside else S.stuck)) (sym live.0 ∙ e);
+            (store_of st ls) else (if b then S.over_with M.Done st.world st.outside else S.stuck)) (sym live.0 ∙ e);
         whole = λ x. x;
       })
       (reached_already G at_over)

@@ -2,6 +2,7 @@
 use Rattle.std.proofs.Common.{◌≡◌, ℕ, zero, suc, ◌+◌, ◌-◌, ◌<◌, ◌≤◌, ◌⊎◌, inl, inr, ⊎_elim, refl, sym, ap, ◌∙◌, subst, arith}
 use Rattle.std.proofs.lemmas.Bool.{cases_lt}
 use Rattle.icn_value.specs.Store.{Outside}
+use Rattle.icn_defs.specs.Running.{files_written}
 use Rattle.icn_meaning.specs.Contexts as M
 use Rattle.icn_meaning.specs.Meaning as MM
 use Rattle.icn_run.specs.Step as S
@@ -37,14 +38,18 @@ module _ (G : Ground) where
     pub is : MM.steps G.L.program count s ≡ M.over ending store
     pub outside_is : store.outside ≡ outside
 
+  -- the store once the files that are open to be written are written
+  abbrev written : M.Store → M.Store
+  written st = record st { outside = files_written st.world.heap st.outside }
+
   abbrev EndedAt : M.Evaluation → LinkedState → Type 0
   EndedAt s (S.over ending outside) = Ended s ending outside
   EndedAt s l = Unit {0}
 
   ended_at : {s : M.Evaluation} {l : LinkedState} → Rel G.L s l → EndedAt s l
   ended_at (at_over {st = st}) = record { count = 0; store = st; is = refl; outside_is = refl }
-  ended_at (at_done {st = st}) = record { count = 1; store = st; is = refl; outside_is = refl }
-  ended_at (at_end {st = st}) = record { count = 1; store = st; is = refl; outside_is = refl }
+  ended_at (at_done {st = st}) = record { count = 1; store = written st; is = refl; outside_is = refl }
+  ended_at (at_end {st = st}) = record { count = 1; store = written st; is = refl; outside_is = refl }
   ended_at h = tt
 
   pub was_over : {s : M.Evaluation} {ending : M.Ending} {outside : Outside} → Rel G.L s (S.over ending outside)

@@ -274,7 +274,7 @@ module _ (G : Ground) where
       → Reaches G (MT.errs n v r st) (S.errs n v (linked_of (chain xs s z o) p st) (store_of st ls))
   errors_agree {r = r} {s = s} {z = z} {o = o} p xs n v st ls live h =
       on_both (λ a b. Reaches G a b) n v st.world
-      (MT.end_run (M.Errored n) (error_report st.names st.world.heap n v) st)
+      (MT.end_run (M.Errored n) (MT.with_report (error_report st.names st.world.heap n v) st))
       (λ world. M.fail r (record st { world = world })) (ended_by n v (store_of st ls))
       (λ world. S.failing (linked_of (chain xs s z o) p st) (S.with_world world (store_of st ls)))
       (reached_already at_over) (reached_already (at_fail live.0 live.1 h))

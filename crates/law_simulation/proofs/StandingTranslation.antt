@@ -1,5 +1,5 @@
 -- The translation's code of a tree stands where it sits.
-use Rattle.std.proofs.Common.{◌≡◌, ℕ, zero, suc, ◌+◌, ◌-◌, Bool, false, ◌≤◌, List, [], ◌∷◌, ◌++◌, replicate, Option, Some, refl, sym, ap, ◌∙◌, subst, arith}
+use Rattle.std.proofs.Common.{◌≡◌, ℕ, zero, suc, ◌+◌, ◌-◌, Bool, true, false, ◌≤◌, List, [], ◌∷◌, ◌++◌, replicate, Option, Some, refl, sym, ap, ◌∙◌, subst, arith}
 use Rattle.std.specs.Prelude.{if◌then◌else◌}
 use Rattle.icn_code.specs.declared.instr.Instr.{Instr}
 use Rattle.icn_code.specs.declared.instr.Instr.TheVariants as I
@@ -75,6 +75,15 @@ count_creations place es = ap tree_count (elements_creations place es) ∙ same 
     same : (place : Place) (es : Trees) → tree_count (creations place es) ≡ tree_count es
     same place NoTrees = refl
     same place (More e es) = ap suc (same place es)
+
+-- the marks that are dropped out of the innermost loop, by `break` and by `next`
+abbrev opened_in : List Depth → ℕ
+opened_in [] = 0
+opened_in (d ∷ D) = d.opened
+
+abbrev dropped_in : List Depth → ℕ
+dropped_in [] = 0
+dropped_in (d ∷ D) = d.opened - d.staying
 
 pub same_empty : (d : Tree) → X.is_empty d ≡ is_empty d
 same_empty T.Empty = refl
@@ -227,23 +236,22 @@ module _ (L : Linkage) (N : SymbolTable) (j : ℕ) where
   -- `next` and `break`
 
   stays_of : {n : Nest} → HasNext n → (d : Depth) × (D : List Depth) × (depths n ≡ d ∷ D)
-      × (d.staying ≤ d.opened)
+      × (d.staying ≤ d.opened) × (d.passes ≡ true)
   stays_of (x_mark h) = let a = stays_of h in
-      (X.loop_of (suc a.0.opened) a.0.staying, a.1, ap deeper a.2, omega arith)
+      (X.depth_of (suc a.0.opened) a.0.staying a.0.passes, a.1, ap deeper a.2, omega arith, a.4)
   stays_of (x_scan h) = stays_of h
-  stays_of x_loop = (X.loop_of 0 0, _, refl, omega arith)
-  stays_of x_each = (X.loop_of 1 1, _, refl, omega arith)
+  stays_of x_loop = (X.loop_of 0 0, _, refl, omega arith, refl)
+  stays_of x_each = (X.loop_of 1 1, _, refl, omega arith, refl)
 
-  dropped_mark : {n : Nest} → HasNext n
-      → X.dropped_by_next (deeper (depths n)) ≡ suc (X.dropped_by_next (depths n))
+  dropped_mark : {n : Nest} → HasNext n → dropped_in (deeper (depths n)) ≡ suc (dropped_in (depths n))
   dropped_mark h = let a = stays_of h in
       let e : suc a.0.opened - a.0.staying ≡ suc (a.0.opened - a.0.staying) = omega arith in
-      ap (λ D. X.dropped_by_next (deeper D)) a.2 ∙ e ∙ sym (ap (λ D. suc (X.dropped_by_next D)) a.2)
+      ap (λ D. dropped_in (deeper D)) a.2 ∙ e ∙ sym (ap (λ D. suc (dropped_in D)) a.2)
 
   ends_next : {n : Nest} {p q q' g : ℕ} → q ≡ q' → Nexts L j n p q g → Nexts L j n p q' g
   ends_next {n} {p} {q} {q'} {g} e h = subst (λ q. Nexts L j n p q g) e h
 
-  nexts : {n : Nest} (p k : ℕ) → HasNext n → k ≡ X.dropped_by_next (depths n)
+  nexts : {n : Nest} (p k : ℕ) → HasNext n → k ≡ dropped_in (depths n)
       → CodePart L j p k (replicate k I.Unmark) (Nexts L j n p (p + k) (X.next_way (ways_of n)))
   nexts p zero (x_mark h) e = let f = dropped_mark h in absurd (omega arith)
   nexts p (suc k) (x_mark h) e = part_map L j
@@ -255,21 +263,37 @@ module _ (L : Linkage) (N : SymbolTable) (j : ℕ) where
   nexts p zero x_each e = part_map L j (part_nil L j p) refl (λ x. ends_next (omega arith) n_each)
   nexts p (suc k) x_each e = absurd (omega arith)
 
+  next_by : {n : Nest} {place : Place} (p : ℕ) → HasNext n → Good n (T.Next place) p
+  next_by {n} {place} p h = let a = stays_of h in
+      let Q : List Depth → Type 0 = λ D. CodePart L j p (X.next_size D) (X.next_code D (X.next_way (ways_of n)))
+      (Stands L j n (T.Next place) p (p + X.next_size D)) in
+      let k = X.dropped_by_next a.0 in
+      let R : Bool → Type 0 = λ passes. CodePart L j p (if passes then k + 1 else 0)
+      (if passes then replicate k I.Unmark ++ I.Goto (X.next_way (ways_of n)) ∷ [] else [])
+      (Stands L j n (T.Next place) p (p + (if passes then k + 1 else 0))) in
+      let b : R true = part_map L j
+      (part_append L j refl (nexts p k h (sym (ap dropped_in a.2)))
+      (part_cons L j (I.Goto (X.next_way (ways_of n))) (λ i. refl) refl (part_nil L j _))) (omega arith)
+      (λ x. ends refl (omega arith) (s_next x.0 x.1.0)) in
+      let here : Q (a.0 ∷ a.1) = subst R (sym a.4) b in
+      subst Q (sym a.2) here
+
   opened_of : {n : Nest} → HasLoop n → (d : Depth) × (D : List Depth) × (depths n ≡ d ∷ D)
-  opened_of (h_mark h) = let a = opened_of h in (X.loop_of (suc a.0.opened) a.0.staying, a.1, ap deeper a.2)
+  opened_of (h_mark h) = let a = opened_of h in
+      (X.depth_of (suc a.0.opened) a.0.staying a.0.passes, a.1, ap deeper a.2)
   opened_of (h_scan h) = opened_of h
   opened_of h_loop = (X.loop_of 0 0, _, refl)
-  opened_of h_control = (X.loop_of 0 1, _, refl)
+  opened_of h_control = (X.control_of 0, _, refl)
   opened_of h_each = (X.loop_of 1 1, _, refl)
 
-  opened_mark : {n : Nest} → HasLoop n → X.opened_in (deeper (depths n)) ≡ suc (X.opened_in (depths n))
-  opened_mark h = let a = opened_of h in ap (λ D. X.opened_in (deeper D)) a.2
-      ∙ sym (ap (λ D. suc (X.opened_in D)) a.2)
+  opened_mark : {n : Nest} → HasLoop n → opened_in (deeper (depths n)) ≡ suc (opened_in (depths n))
+  opened_mark h = let a = opened_of h in ap (λ D. opened_in (deeper D)) a.2
+      ∙ sym (ap (λ D. suc (opened_in D)) a.2)
 
   ends_break : {n n' : Nest} {p q q' l : ℕ} → q ≡ q' → LeavesLoop L j n p q n' l → LeavesLoop L j n p q' n' l
   ends_break {n} {n'} {p} {q} {q'} {l} e h = subst (λ q. LeavesLoop L j n p q n' l) e h
 
-  breaks : {n : Nest} (p k : ℕ) → HasLoop n → k ≡ X.opened_in (depths n)
+  breaks : {n : Nest} (p k : ℕ) → HasLoop n → k ≡ opened_in (depths n)
       → CodePart L j p k (replicate k I.Unmark) (LeavesLoop L j n p (p + k) (outside n) (X.last_way (ways_of n)))
   breaks p zero (h_mark h) e = let f = opened_mark h in absurd (omega arith)
   breaks p (suc k) (h_mark h) e =
@@ -309,20 +333,20 @@ module _ (L : Linkage) (N : SymbolTable) (j : ℕ) where
   around_ways (in_control l g n) = refl
   around_ways (in_each l g n) = refl
 
-  break_by : {n : Nest} {place : Place} {e : Tree} (p : ℕ) → HasLoop n
-      → Good (outside n) e (p + X.opened_in (depths n)) → Good n (T.Break place e) p
-  break_by {n} {place} {e} p h g = let k = X.opened_in (depths n) in
-      let Q : List Depth → List LoopExits → Type 0 = λ D W.
-      CodePart L j p (k + size D e + 1) (replicate k I.Unmark
-      ++ (code N D W (p + k) e ++ I.Goto (X.last_way (ways_of n)) ∷ []))
-      (Stands L j n (T.Break place e) p (p + (k + size D e + 1))) in
-      let b : Q (depths (outside n)) (ways_of (outside n)) =
-      part_map L j (part_append L j refl (breaks p k h refl)
-      (part_append L j refl g (part_cons L j (I.Goto (X.last_way (ways_of n))) (λ i. refl) refl
+  break_by : {n : Nest} {place : Place} {e : Tree} (p : ℕ) → HasLoop n → ((p : ℕ) → Good (outside n) e p)
+      → Good n (T.Break place e) p
+  break_by {n} {place} {e} p h g = let a = opened_of h in let k = a.0.opened in
+      let Q : List Depth → List Depth → List LoopExits → Type 0 = λ E D W. CodePart L j p (X.break_size E (size D e))
+      (X.break_code E (X.last_way (ways_of n)) (λ p. code N D W p e) p)
+      (Stands L j n (T.Break place e) p (p + X.break_size E (size D e))) in
+      let b : Q (a.0 ∷ a.1) (depths (outside n)) (ways_of (outside n)) =
+      part_map L j (part_append L j refl (breaks p k h (sym (ap opened_in a.2)))
+      (part_append L j refl (g (p + k)) (part_cons L j (I.Goto (X.last_way (ways_of n))) (λ i. refl) refl
       (part_nil L j _)))) (omega arith)
       (λ x. ends refl (omega arith) (s_break x.0 x.1.0 x.1.1.0)) in
-      subst (λ D. Q D (X.around (ways_of n))) (sym (around_depths n))
-      (subst (λ W. Q (depths (outside n)) W) (sym (around_ways n)) b)
+      subst (λ E. Q E (X.around (depths n)) (X.around (ways_of n))) (sym a.2)
+      (subst (λ D. Q (a.0 ∷ a.1) D (X.around (ways_of n))) (sym (around_depths n))
+      (subst (λ W. Q (a.0 ∷ a.1) (depths (outside n)) W) (sym (around_ways n)) b))
 
   -- `case`
 
@@ -636,11 +660,8 @@ module _ (L : Linkage) (N : SymbolTable) (j : ℕ) where
         (part_cons L j (I.Op Ops.Assign) (λ i. refl) refl (part_nil L j _)))))) (omega arith)
         (λ x. ends refl (omega arith) (s_update (d_operate h) x.0 x.1.0 (ends (omega arith) refl x.1.2.0)
         x.1.2.1.0 (applies_op op (update_arity o h)) x.1.2.1.2.0)))
-    translation_stands p (fits_next {n = n} h) = part_map L j
-        (part_append L j refl (nexts p (X.dropped_by_next (depths n)) h refl)
-        (part_cons L j (I.Goto (X.next_way (ways_of n))) (λ i. refl) refl (part_nil L j _))) (omega arith)
-        (λ x. ends refl (omega arith) (s_next x.0 x.1.0))
-    translation_stands p (fits_break {n = n} h e) = break_by p h (translation_stands (p + X.opened_in (depths n)) e)
+    translation_stands p (fits_next h) = next_by p h
+    translation_stands p (fits_break h e) = break_by p h (λ p. translation_stands p e)
     translation_stands p (fits_case {n = n} {e = te} {cases = cases} e cs d) = let m = size (depths (in_mark n)) te in
         let k = X.clauses_size (depths n) cases in let last =
         p + m + k + X.default_size (depths n) cases + 3 in

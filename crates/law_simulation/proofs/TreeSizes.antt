@@ -10,7 +10,7 @@ use Rattle.icn_tree.specs.Trees.{Tree, MaybeTree, Trees, Clause, Clauses, Empty,
 use Rattle.icn_code.specs.declared.instr.Instr.{Instr}
 use Rattle.icn_code.specs.declared.instr.Instr.TheVariants as I
 use Rattle.icn_meaning.specs.Evaluate.{keyword_among}
-use Rattle.law_simulation.specs.Translation.{SymbolTable, Depth, LoopExits, loop_of, deeper, opened_in, dropped_by_next, around, last_way, next_way, is_empty, is_nothing, is_no_element, elements, BinaryForm, Both, Scanning, Either, Limiting, Applying, form_of, UpdateForm, UpdatesBoth, UpdatesScanning, UpdatesBy, update_of, PrefixForm, Activating, Repeating, Operating, prefix_of, section_op, keyword_size, prefix_size, plain_size, augmented_size, keyword_code, prefix_code, plain_code, augmented_code, size, sizes, elements_size, conjunction_size, compound_size, bodies_size, creates_size, subscripts_size, by_size, if_size, body_size, clauses_size, clause_size, default_size, is_default_size, ways, create_code, code, operands, elements_code, conjunction, compound, bodies_code, creates, subscripts, by_code, if_code, body_code, clauses_code, clause_code, default_code, is_default}
+use Rattle.law_simulation.specs.Translation.{SymbolTable, Depth, LoopExits, loop_of, control_of, deeper, dropped_by_next, around, last_way, next_way, is_empty, is_nothing, is_no_element, elements, BinaryForm, Both, Scanning, Either, Limiting, Applying, form_of, UpdateForm, UpdatesBoth, UpdatesScanning, UpdatesBy, update_of, PrefixForm, Activating, Repeating, Operating, prefix_of, section_op, keyword_size, prefix_size, plain_size, augmented_size, next_size, break_size, keyword_code, prefix_code, plain_code, augmented_code, next_code, break_code, size, sizes, elements_size, conjunction_size, compound_size, bodies_size, creates_size, subscripts_size, by_size, if_size, body_size, clauses_size, clause_size, default_size, is_default_size, ways, create_code, code, operands, elements_code, conjunction, compound, bodies_code, creates, subscripts, by_code, if_code, body_code, clauses_code, clause_code, default_code, is_default}
 
 la : (xs ys : List Instr) → length (xs ++ ys) ≡ length xs + length ys
 la xs ys = length-append xs ys
@@ -79,6 +79,22 @@ augmented_len N D W p a b (Some (UpdatesBy i)) s t = let x = s D W p in let y = 
     la (code N D W p a) (I.Dup ∷ code N D W (p + size D a + 1) b ++ (i ∷ I.Op Ops.Assign ∷ [])) in
     let u = la (code N D W (p + size D a + 1) b) (i ∷ I.Op Ops.Assign ∷ []) in omega arith
 augmented_len N D W p a b None s t = refl
+
+-- so many marks are dropped, and then this
+dropped_len : (k : ℕ) (xs : List Instr) → length (replicate k I.Unmark ++ xs) ≡ k + length xs
+dropped_len k xs = let a = la (replicate k I.Unmark) xs in let b = copies k I.Unmark in omega arith
+
+next_len : (D : List Depth) (q : ℕ) → length (next_code D q) ≡ next_size D
+next_len [] q = refl
+next_len (d ∷ D) q = if_len d.passes (replicate (dropped_by_next d) I.Unmark ++ I.Goto q ∷ []) [] (dropped_by_next d + 1) 0
+    (dropped_len (dropped_by_next d) (I.Goto q ∷ [])) refl
+
+break_len : (D : List Depth) (q n : ℕ) (operand : ℕ → List Instr) (p : ℕ) → ((p : ℕ) → length (operand p) ≡ n)
+    → length (break_code D q operand p) ≡ break_size D n
+break_len [] q n operand p s = refl
+break_len (d ∷ D) q n operand p s = let x = s (p + d.opened) in
+    let a = dropped_len d.opened (operand (p + d.opened) ++ I.Goto q ∷ []) in
+    let b = la (operand (p + d.opened)) (I.Goto q ∷ []) in omega arith
 
 created_len : (p n : ℕ) (xs : List Instr) → length (create_code p n xs) ≡ length xs + 5
 created_len p n xs = let a = la xs (I.Coret ∷ I.Efail ∷ I.Cofail ∷ []) in omega arith
@@ -157,11 +173,11 @@ mutual
       (I.Unmark ∷ I.Efail ∷ body_code N E V (p + m + 3) b ++ I.Loop p ∷ []) in let d =
       la (body_code N E V (p + m + 3) b) (I.Loop p ∷ []) in omega arith
   code_size N (Loop place Every c b) D W p =
-      let m = size (loop_of 1 1 ∷ D) c in let n = body_size (loop_of 2 1 ∷ D) b in let V =
+      let m = size (control_of 1 ∷ D) c in let n = body_size (loop_of 2 1 ∷ D) b in let V =
       ways (p + m + n + 3) (p + m + n + 2) ∷ W in
-      let x = code_size N c (loop_of 1 1 ∷ D) V (p + 1) in let y =
+      let x = code_size N c (control_of 1 ∷ D) V (p + 1) in let y =
       body_len N b (loop_of 2 1 ∷ D) V (p + m + 2) in
-      let a = la (code N (loop_of 1 1 ∷ D) V (p + 1) c)
+      let a = la (code N (control_of 1 ∷ D) V (p + 1) c)
       (I.Pop ∷ body_code N (loop_of 2 1 ∷ D) V (p + m + 2) b ++ I.Efail ∷ []) in let d =
       la (body_code N (loop_of 2 1 ∷ D) V (p + m + 2) b) (I.Efail ∷ []) in omega arith
   code_size N (Repeat place b) D W p =
@@ -170,15 +186,11 @@ mutual
       let a = la (code N (loop_of 1 0 ∷ D) V (p + 1) b) (I.Unmark ∷ I.Loop p ∷ []) in omega arith
   code_size N (Create place e) D W p = let x = code_size N e [] [] (p + 2) in let a =
       created_len p (size [] e) (code N [] [] (p + 2) e) in omega arith
-  code_size N (Next place) D W p = let a =
-      la (replicate (dropped_by_next D) I.Unmark) (I.Goto (next_way W) ∷ []) in let b =
-      copies (dropped_by_next D) I.Unmark in omega arith
+  code_size N (Next place) D W p = next_len D (next_way W)
   code_size N (Fail place) D W p = refl
-  code_size N (Break place e) D W p = let x = code_size N e (around D) (around W) (p + opened_in D) in
-      let a = la (replicate (opened_in D) I.Unmark)
-      (code N (around D) (around W) (p + opened_in D) e ++ I.Goto (last_way W) ∷ []) in
-      let b = la (code N (around D) (around W) (p + opened_in D) e) (I.Goto (last_way W) ∷ []) in let c =
-      copies (opened_in D) I.Unmark in omega arith
+  code_size N (Break place e) D W p =
+      break_len D (last_way W) (size (around D) e) (λ p. code N (around D) (around W) p e) p
+      (code_size N e (around D) (around W))
   code_size N (Return place e) D W p = let x = code_size N e (deeper D) W (p + 1) in let a =
       la (code N (deeper D) W (p + 1) e) (I.Pret ∷ I.Pfail ∷ []) in omega arith
   code_size N (Suspend place e b) D W p = let x = code_size N e (deeper D) W (p + 1) in let y =

@@ -142,10 +142,10 @@ module _ (G : Ground) where
     same_scans_in (m_each h k r rn v) = same_scans v
 
   finished : {s : M.Evaluation} (active : ℕ) (st : M.Store) (ls : List (S.Coexp WaitingChain))
-      → (S.is_main active) ≡ true → st.active ≡ active → Rel G.L s (S.over M.Done st.outside)
+      → (S.is_main active) ≡ true → st.active ≡ active → Rel G.L s (S.over_with M.Done st.world st.outside)
       → Reaches G s (S.finish_run (store_of st ls))
   finished {s} active st ls e e' rel =
-      subst (λ b. Reaches G s (if b then S.over M.Done st.outside else S.stuck)) (sym (ap S.is_main e' ∙ e))
+      subst (λ b. Reaches G s (if b then S.over_with M.Done st.world st.outside else S.stuck)) (sym (ap S.is_main e' ∙ e))
       (reached_already G rel)
 
   -- the contexts of the innermost call, found through marks, loops and scans

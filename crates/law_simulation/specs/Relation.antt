@@ -9,7 +9,7 @@ use Rattle.icn_code.specs.declared.instr.Instr.TheVariants as I
 use Rattle.icn_value.specs.Values.{Value, Item, Val}
 use Rattle.icn_defs.specs.Rows.{Residual}
 use Rattle.icn_meaning.specs.Contexts as M
-use Rattle.icn_meaning.specs.Contexts.{Application, Works, Nothing, ◌and_then◌, Choices, NoChoice, ◌or_else◌, Action, Surroundings, InCall, InScan, InLoop}
+use Rattle.icn_meaning.specs.Contexts.{Application, Works, Nothing, ◌and_then◌, Choices, NoChoice, ◌or_else◌, Action, Surroundings, InCall, InCreate, InScan, InLoop, InControl}
 use Rattle.icn_meaning.specs.Succeed.{default_of}
 use Rattle.icn_run.specs.Calls.{Alt, Op, Escan, Proc}
 use Rattle.icn_run.specs.Chains.{Label, fixed, flagged, because, scanning, Chain, chain, Suspensions, none, suspension, Outer, base, call, mark, limit, WaitingChain, LinkedStack, frame_of, proc_of, activation_of}
@@ -115,8 +115,7 @@ mutual
     v_main : {j a : ℕ} → first ≡ true
         → OfSurroundings L first top (InCall (a_frame a j 1) Nothing NoChoice) [] (base j a)
     v_create : {j a : ℕ} → first ≡ false
-        → OfSurroundings L first in_create
-        (InCall (a_frame a j 1) (M.Result a and_then Nothing) (M.Exhaust or_else NoChoice)) [] (base j a)
+        → OfSurroundings L first in_create (InCreate (a_frame a j 1)) [] (base j a)
     v_call : {k : Works} {r : Choices} {j a level p : ℕ} {xs : List Item} {s : Suspensions} {z : List ℕ}
         {o : Outer} → OfWorks L first k p xs z o → OfChoices L first r s z o
         → OfSurroundings L first top (InCall (a_frame a j level) k r) [] (call j a level p (chain xs s z o))
@@ -140,10 +139,10 @@ mutual
         {xs : List Item} {s : Suspensions} {z : List ℕ} {o : Outer} → OfWorks L first k l xs z o
         → OfChoices L first r s z o → OfAction L first a g xs s z o → OfChoices L first rn s z o
         → OfSurroundings L first n v z o → OfMark L first (in_loop l g n) (InLoop v k r a rn) xs s z o
-    m_control : {n : Nest} {v : Surroundings} {k : Works} {r rn : Choices} {a : Action} {l g : ℕ}
-        {xs : List Item} {s : Suspensions} {z : List ℕ} {o : Outer} → OfWorks L first k l xs z o
+    m_control : {n : Nest} {v : Surroundings} {k : Works} {r : Choices} {l g : ℕ} {xs : List Item}
+        {s : Suspensions} {z : List ℕ} {o : Outer} → OfWorks L first k l xs z o
         → OfChoices L first r s z o → OfSurroundings L first n v z o
-        → OfMark L first (in_control l g n) (InLoop v k r a rn) xs s z o
+        → OfMark L first (in_control l g n) (InControl v k r) xs s z o
     m_each : {n : Nest} {v : Surroundings} {k : Works} {r rn : Choices} {l g : ℕ} {lab : Label}
         {ys xs : List Item} {s s' : Suspensions} {z : List ℕ} {o : Outer} → At L o g I.Efail
         → OfWorks L first k l xs z o → OfChoices L first r s z o
@@ -314,7 +313,7 @@ pub data Rel (L : Linkage) : M.Evaluation → S.State WaitingChain LinkedStack �
   at_hop : {c : ℕ} {p : ℕ} {m : Chain} {st : M.Store} {ls : List (S.Coexp WaitingChain)} → c ≡ st.active
       → OfAll L st.coexpressions ls → Rel L (M.hop c st) (S.hopping (linked_of m p st) (store_of st ls))
   at_done : {x : Item} {r : Choices} {st : M.Store}
-      → Rel L (M.succeed x Nothing r st) (S.over M.Done st.outside)
-  at_end : {st : M.Store} → Rel L (M.fail NoChoice st) (S.over M.Done st.outside)
+      → Rel L (M.succeed x Nothing r st) (S.over_with M.Done st.world st.outside)
+  at_end : {st : M.Store} → Rel L (M.fail NoChoice st) (S.over_with M.Done st.world st.outside)
   at_over : {ending : M.Ending} {st : M.Store} → Rel L (M.over ending st) (S.over ending st.outside)
   at_lost : Rel L M.lost S.stuck

@@ -20,7 +20,7 @@ use Rattle.icn_meaning.specs.Operators.{prefix_op, infix_op, update_op}
 use Rattle.icn_meaning.specs.Calls.{fields_in}
 use Rattle.icn_meaning.specs.Evaluate.{literal, keyword_among, step_of}
 use Rattle.icn_meaning.specs.Succeed.{default_of}
-use Rattle.law_simulation.specs.Translation.{SymbolTable, Depth, LoopExits, loop_of, deeper, ways, literal_code}
+use Rattle.law_simulation.specs.Translation.{SymbolTable, Depth, LoopExits, loop_of, control_of, deeper, ways, literal_code}
 use Rattle.icn_run.specs.Step.{field_index}
 use Rattle.law_simulation.specs.Linkage.{Linkage, Loads}
 use Rattle.law_simulation.specs.StandingCode.{Nest, top, in_create, in_mark, in_scan, in_loop, in_control, in_each, Proper, is_empty}
@@ -32,7 +32,7 @@ depths in_create = []
 depths (in_mark n) = deeper (depths n)
 depths (in_scan n) = depths n
 depths (in_loop l g n) = loop_of 0 0 ∷ depths n
-depths (in_control l g n) = loop_of 0 1 ∷ depths n
+depths (in_control l g n) = control_of 0 ∷ depths n
 depths (in_each l g n) = loop_of 1 1 ∷ depths n
 
 -- the places that `break` and `next` go to in each open loop, the innermost first

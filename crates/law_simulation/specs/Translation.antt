@@ -27,46 +27,50 @@ pub record SymbolTable : Type 0 where
   pub variable : List ℕ → Instr
   pub field : List ℕ → ℕ
 
--- of an open loop: the marks opened in it and still open, and how many of these stay open at its next pass
+-- of an open loop: the marks opened in it and still open; how many of these stay open at its next pass; and
+-- whether `next` may stand there, as it may not in the control expression of `every`
 pub record Depth : Type 0 where
   pub opened : ℕ
   pub staying : ℕ
+  pub passes : Bool
 
 -- of an open loop: the places that `break` and `next` go to
 pub record LoopExits : Type 0 where
   pub last : ℕ
   pub next : ℕ
 
+-- an open loop with all three
+abbrev pub depth_of : (opened staying : ℕ) → Bool → Depth
+depth_of opened staying passes = record { opened = opened; staying = staying; passes = passes }
+
 -- an open loop with so many marks opened in it, of which so many stay open at its next pass
 abbrev pub loop_of : (opened staying : ℕ) → Depth
-loop_of opened staying = record { opened = opened; staying = staying }
+loop_of opened staying = depth_of opened staying true
+
+-- an open `every` in its control expression, with so many marks opened in it, of which the first stays open
+abbrev pub control_of : (opened : ℕ) → Depth
+control_of opened = depth_of opened 1 false
 
 -- under one more mark
 abbrev pub deeper : List Depth → List Depth
 deeper [] = []
-deeper (d ∷ D) = loop_of (suc d.opened) d.staying ∷ D
-
--- how many marks `break` drops
-abbrev pub opened_in : List Depth → ℕ
-opened_in [] = 0
-opened_in (d ∷ D) = d.opened
+deeper (d ∷ D) = depth_of (suc d.opened) d.staying d.passes ∷ D
 
 -- how many marks `next` drops
-abbrev pub dropped_by_next : List Depth → ℕ
-dropped_by_next [] = 0
-dropped_by_next (d ∷ D) = d.opened - d.staying
+abbrev pub dropped_by_next : Depth → ℕ
+dropped_by_next d = d.opened - d.staying
 
 -- all but the innermost
 abbrev pub around : {A : Type 0} → List A → List A
 around [] = []
 around (x ∷ xs) = xs
 
--- the place that `break` goes to
+-- the place that `break` goes to; it is asked for in a loop alone
 abbrev pub last_way : List LoopExits → ℕ
 last_way [] = 0
 last_way (w ∷ W) = w.last
 
--- the place that `next` goes to
+-- the place that `next` goes to; it is asked for in a loop alone
 abbrev pub next_way : List LoopExits → ℕ
 next_way [] = 0
 next_way (w ∷ W) = w.next
@@ -271,6 +275,17 @@ augmented_size (Some UpdatesScanning) left right = left + right + 4
 augmented_size (Some (UpdatesBy i)) left right = left + right + 3
 augmented_size None left right = 0
 
+-- `next` in the innermost of these loops; where none is open, and in the control expression of `every`, it
+-- never stands, and has no code
+abbrev pub next_size : List Depth → ℕ
+next_size [] = 0
+next_size (d ∷ D) = if d.passes then dropped_by_next d + 1 else 0
+
+-- `break` with an operand of this size; where no loop is open it never stands, and has no code
+abbrev pub break_size : List Depth → (operand : ℕ) → ℕ
+break_size [] operand = 0
+break_size (d ∷ D) operand = d.opened + operand + 1
+
 -- how many instructions the code of a tree has, in loops with these depths
 abbrev mutual
   pub size : List Depth → Tree → ℕ
@@ -296,12 +311,12 @@ abbrev mutual
   size D (Case place e clauses) = size (deeper D) e + clauses_size D clauses + default_size D clauses + 3
   size D (Loop place While c b) = size (loop_of 1 0 ∷ D) c + body_size (loop_of 1 0 ∷ D) b + 3
   size D (Loop place Until c b) = size (loop_of 1 0 ∷ D) c + body_size (loop_of 1 0 ∷ D) b + 4
-  size D (Loop place Every c b) = size (loop_of 1 1 ∷ D) c + body_size (loop_of 2 1 ∷ D) b + 3
+  size D (Loop place Every c b) = size (control_of 1 ∷ D) c + body_size (loop_of 2 1 ∷ D) b + 3
   size D (Repeat place b) = size (loop_of 1 0 ∷ D) b + 3
   size D (Create place e) = size [] e + 5
-  size D (Next place) = dropped_by_next D + 1
+  size D (Next place) = next_size D
   size D (Fail place) = 1
-  size D (Break place e) = opened_in D + size (around D) e + 1
+  size D (Break place e) = break_size D (size (around D) e)
   size D (Return place e) = size (deeper D) e + 3
   size D (Suspend place e b) = size (deeper D) e + body_size (deeper (deeper D)) b + 4
 
@@ -422,6 +437,18 @@ augmented_code (Some (UpdatesBy i)) l left right p =
     left p ++ (I.Dup ∷ right (p + l + 1) ++ (i ∷ I.Op Ops.Assign ∷ []))
 augmented_code None l left right p = []
 
+-- `next` in the innermost of these loops, which goes on at this place
+abbrev pub next_code : List Depth → (place : ℕ) → List Instr
+next_code [] place = []
+next_code (d ∷ D) place =
+    if d.passes then replicate (dropped_by_next d) I.Unmark ++ I.Goto place ∷ [] else []
+
+-- `break` out of the innermost of these loops, whose end is this place, with the code of its operand
+abbrev pub break_code : List Depth → (end : ℕ) → (operand : ℕ → List Instr) → ℕ → List Instr
+break_code [] end operand p = []
+break_code (d ∷ D) end operand p =
+    replicate d.opened I.Unmark ++ (operand (p + d.opened) ++ I.Goto end ∷ [])
+
 -- The code of trees, with that of their parts
 abbrev mutual
   -- the code of a tree that begins at a place, in loops with these depths and ways
@@ -472,18 +499,17 @@ abbrev mutual
       I.Mark (p + m + 3) ∷ code N (loop_of 1 0 ∷ D) (w ∷ W) (p + 1) c
       ++ (I.Unmark ∷ I.Efail ∷ body_code N (loop_of 1 0 ∷ D) (w ∷ W) (p + m + 3) b ++ I.Loop p ∷ [])
   code N D W p (Loop place Every c b) =
-      let m = size (loop_of 1 1 ∷ D) c in let n = body_size (loop_of 2 1 ∷ D) b in let w =
+      let m = size (control_of 1 ∷ D) c in let n = body_size (loop_of 2 1 ∷ D) b in let w =
       ways (p + m + n + 3) (p + m + n + 2) in
-      I.Mark0 ∷ code N (loop_of 1 1 ∷ D) (w ∷ W) (p + 1) c
+      I.Mark0 ∷ code N (control_of 1 ∷ D) (w ∷ W) (p + 1) c
       ++ (I.Pop ∷ body_code N (loop_of 2 1 ∷ D) (w ∷ W) (p + m + 2) b ++ I.Efail ∷ [])
   code N D W p (Repeat place b) =
       let n = size (loop_of 1 0 ∷ D) b in let w = ways (p + n + 3) (p + n + 2) in
       I.Mark (p + n + 2) ∷ code N (loop_of 1 0 ∷ D) (w ∷ W) (p + 1) b ++ (I.Unmark ∷ I.Loop p ∷ [])
   code N D W p (Create place e) = create_code p (size [] e) (code N [] [] (p + 2) e)
-  code N D W p (Next place) = replicate (dropped_by_next D) I.Unmark ++ I.Goto (next_way W) ∷ []
+  code N D W p (Next place) = next_code D (next_way W)
   code N D W p (Fail place) = I.Pfail ∷ []
-  code N D W p (Break place e) = replicate (opened_in D) I.Unmark
-      ++ (code N (around D) (around W) (p + opened_in D) e ++ I.Goto (last_way W) ∷ [])
+  code N D W p (Break place e) = break_code D (last_way W) (λ p. code N (around D) (around W) p e) p
   code N D W p (Return place e) = I.Mark (p + size (deeper D) e + 2) ∷ code N (deeper D) W (p + 1) e
       ++ (I.Pret ∷ I.Pfail ∷ [])
   code N D W p (Suspend place e b) =

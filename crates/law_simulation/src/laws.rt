@@ -6,8 +6,9 @@ ghost use Rattle.icn_defs.specs.Running.{Launch, Observation};
 ghost use Rattle.icn_defs.specs.Interruptions.{Streams};
 ghost use Rattle.law_simulation.specs.FirstLaw.{IsLinked, FilesMean, RunsLinked, RunsFlat, BrokenOff, TakesTurns, TakesStrings, TakesCells};
 
-/// What a program means, with some words, limits and input, is what its linked code comes to: how it ends, with its report, what is put on
-/// both outputs, the input that is left, and the readings that were made. On linked marks, and on the flat stacks that a machine has.
+/// What a program means, with some words, limits, input and files, is what its linked code comes to: how it ends, with its report, what is
+/// put on both outputs, the input that is left, what the files hold, and the readings and writings that were made. On linked marks, and on
+/// the flat stacks that a machine has.
 pub fn same_ends()
     ensures on_marks { (files : List (List Declaration)) (tables : Tables) (launch : Launch)
         (seen : Observation)

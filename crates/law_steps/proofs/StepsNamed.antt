@@ -464,7 +464,7 @@ module _ (rows : RowsKeepNames) (P : Tables) where
   result (Var (Part (Key t v) place size)) m st go n h k f = f _ n
   result (Var (Part (Keyword w) place size)) m st go n h k f = f _ n
 
-  finished : (t : Bool) (st : Store Frames) → G (if t then over Done st.outside else stuck)
+  finished : (t : Bool) (st : Store Frames) → G (if t then S.over_with Done st.world st.outside else stuck)
   finished true st = tt
   finished false st = tt
 

@@ -10,9 +10,9 @@ use Rattle.icn_tree.specs.Trees.{Initial, NoInitial, Initially, Tree, MaybeTree,
 use Rattle.icn_code.specs.declared.instr.Instr.{Instr}
 use Rattle.icn_code.specs.declared.instr.Instr.TheVariants as I
 use Rattle.icn_meaning.specs.Evaluate.{keyword_among}
-use Rattle.law_simulation.specs.Translation.{bodies_size, SymbolTable, Depth, LoopExits, loop_of, deeper, opened_in, dropped_by_next, around, is_empty, is_nothing, is_no_element, BinaryForm, Both, Scanning, Either, Limiting, Applying, form_of, UpdateForm, UpdatesBoth, UpdatesScanning, UpdatesBy, update_of, PrefixForm, Activating, Repeating, Operating, prefix_of, size, elements_size, by_size, body_size, clauses_size, clause_size, default_size, ways, bounded_size}
+use Rattle.law_simulation.specs.Translation.{bodies_size, SymbolTable, Depth, LoopExits, loop_of, control_of, deeper, dropped_by_next, around, is_empty, is_nothing, is_no_element, BinaryForm, Both, Scanning, Either, Limiting, Applying, form_of, UpdateForm, UpdatesBoth, UpdatesScanning, UpdatesBy, update_of, PrefixForm, Activating, Repeating, Operating, prefix_of, size, elements_size, by_size, body_size, clauses_size, clause_size, default_size, ways, bounded_size}
 use Rattle.law_simulation.specs.Translation as C
-use Rattle.law_verified.specs.Noted.{bodies_code, NotedShape, Note, start, more, in_mark, within, Limited, with_scan, drops, without_mark, unmarks, create_notes, code, operands, elements_code, conjunction, compound, creates, subscripts, by_code, body_code, clauses_code, clause_code, default_code, keyword_notes, prefix_code, plain_code, augmented_code, instrs, bounded_notes, body, procedure}
+use Rattle.law_verified.specs.Noted.{bodies_code, NotedShape, Note, start, more, in_mark, within, Limited, with_scan, drops, without_mark, unmarks, create_notes, code, operands, elements_code, conjunction, compound, creates, subscripts, by_code, body_code, clauses_code, clause_code, default_code, keyword_notes, prefix_code, plain_code, augmented_code, next_notes, break_notes, instrs, bounded_notes, body, procedure}
 use Rattle.law_simulation.proofs.TreeSizes as Z
 
 cat : (xs ys : List Note) → instrs (xs ++ ys) ≡ instrs xs ++ instrs ys
@@ -68,6 +68,15 @@ augmented_noted N D W p s a b (Some UpdatesScanning) g h = join _ _ (g D W p s) 
 augmented_noted N D W p s a b None g h = refl
 augmented_noted N D W p s a b (Some (UpdatesBy i)) g h = join _ _ (g D W p s) (next I.Dup (join _ _ (h D W (p + size D a + 1) (more (more s))) refl))
 
+next_noted : (D : List Depth) (q : ℕ) (s : NotedShape) → instrs (next_notes D q s) ≡ C.next_code D q
+next_noted [] q s = refl
+next_noted (d ∷ D) q s = choose d.passes _ _ _ _ (join _ _ (unmarked (dropped_by_next d) s) refl) refl
+
+break_noted : (D : List Depth) (q p : ℕ) (s : NotedShape) (xs : ℕ → NotedShape → List Note) (A : ℕ → List Instr)
+    → ((p : ℕ) (s : NotedShape) → instrs (xs p s) ≡ A p) → instrs (break_notes D q xs p s) ≡ C.break_code D q A p
+break_noted [] q p s xs A g = refl
+break_noted (d ∷ D) q p s xs A g = join _ _ (unmarked d.opened s) (join _ _ (g (p + d.opened) (drops d.opened s)) refl)
+
 created_noted : (p n : ℕ) (s : NotedShape) (xs : List Note) (A : List Instr) → instrs xs ≡ A → instrs (create_notes p n s xs) ≡ C.create_code p n A
 created_noted p n s xs A e = next _ (next _ (join _ _ e refl))
 
@@ -107,16 +116,16 @@ mutual
       let V = ways (p + m + n + 4) (p + m + n + 3) ∷ W in
       next _ (join _ _ (noted N c E V (p + 1) (in_mark s)) (next _ (next _ (join _ _ (body_noted N b E V (p + m + 3) s) refl))))
   noted N (Loop place Every c b) D W p s =
-      let m = size (loop_of 1 1 ∷ D) c in let n = body_size (loop_of 2 1 ∷ D) b in let V = ways (p + m + n + 3) (p + m + n + 2) ∷ W in
+      let m = size (control_of 1 ∷ D) c in let n = body_size (loop_of 2 1 ∷ D) b in let V = ways (p + m + n + 3) (p + m + n + 2) ∷ W in
       next
-      _ (join _ _ (noted N c (loop_of 1 1 ∷ D) V (p + 1) (in_mark s)) (next _ (join _ _ (body_noted N b (loop_of 2 1 ∷ D) V (p + m + 2) (in_mark s)) refl)))
+      _ (join _ _ (noted N c (control_of 1 ∷ D) V (p + 1) (in_mark s)) (next _ (join _ _ (body_noted N b (loop_of 2 1 ∷ D) V (p + m + 2) (in_mark s)) refl)))
   noted N (Repeat place b) D W p s =
       let n = size (loop_of 1 0 ∷ D) b in let V = ways (p + n + 3) (p + n + 2) ∷ W in next _ (join _ _ (noted N b (loop_of 1 0 ∷ D) V (p + 1) (in_mark s)) refl)
   noted N (Create place e) D W p s = created_noted p (size [] e) s _ _ (noted N e [] [] (p + 2) (in_mark (start true)))
-  noted N (Next place) D W p s = join _ _ (unmarked (dropped_by_next D) s) refl
+  noted N (Next place) D W p s = next_noted D (C.next_way W) s
   noted N (Fail place) D W p s = refl
-  noted N (Break place e) D W p s =
-      join _ _ (unmarked (opened_in D) s) (join _ _ (noted N e (around D) (around W) (p + opened_in D) (drops (opened_in D) s)) refl)
+  noted N (Break place e) D W p s = break_noted D (C.last_way W) p s (λ p' s'. code N (around D) (around W) p' s' e)
+      (λ p'. C.code N (around D) (around W) p' e) (noted N e (around D) (around W))
   noted N (Return place e) D W p s = next _ (join _ _ (noted N e (deeper D) W (p + 1) (in_mark s)) refl)
   noted N (Suspend place e b) D W p s = next _ (join _ _ (noted N e (deeper D) W (p + 1) (in_mark s))
       (next _ (next _ (join _ _ (body_noted N b (deeper (deeper D)) W (p + size (deeper D) e + 3) (in_mark s)) refl))))

@@ -1,5 +1,5 @@
 -- The noted code of a tree is neat.
-use Rattle.std.proofs.Common.{◌≡◌, ℕ, suc, ◌+◌, ◌≤◌, Bool, true, false, List, [], ◌∷◌, ◌++◌, Option, refl, sym, ◌∙◌, subst, arith, append_assoc}
+use Rattle.std.proofs.Common.{◌≡◌, ℕ, suc, ◌+◌, ◌≤◌, Bool, true, false, List, [], ◌∷◌, ◌++◌, Option, refl, sym, ◌∙◌, subst, arith, append_assoc, if◌then◌else◌}
 use Rattle.icn_text.specs.declared.keyword.Keyword.{Keyword}
 use Rattle.icn_text.specs.declared.keyword.Keyword.TheVariants as Keywords
 use Rattle.icn_code.specs.declared.instr.Instr.{Instr}
@@ -9,9 +9,9 @@ use Rattle.icn_tree.specs.declared.tree.Infix.TheVariants.{Plain, Augmented}
 use Rattle.icn_tree.specs.declared.tree.LoopKind.TheVariants.{While, Until, Every}
 use Rattle.icn_tree.specs.Trees as T
 use Rattle.icn_tree.specs.Trees.{Tree, Trees, MaybeTree, Clauses, Absent, Present, NoTrees, More, Default, Guarded, NoClauses, MoreClauses}
-use Rattle.law_simulation.specs.Translation.{bodies_size, SymbolTable, Depth, LoopExits, loop_of, ways, deeper, opened_in, dropped_by_next, around, size, sizes, elements_size, conjunction_size, compound_size, creates_size, subscripts_size, by_size, body_size, clauses_size, default_size, keyword_instr, keyword_size, BinaryForm, UpdateForm, PrefixForm, prefix_size, plain_size, augmented_size}
+use Rattle.law_simulation.specs.Translation.{bodies_size, SymbolTable, Depth, LoopExits, loop_of, control_of, ways, deeper, dropped_by_next, around, size, sizes, elements_size, conjunction_size, compound_size, creates_size, subscripts_size, by_size, body_size, clauses_size, default_size, keyword_instr, keyword_size, BinaryForm, UpdateForm, PrefixForm, prefix_size, plain_size, augmented_size, next_size, break_size}
 use Rattle.law_simulation.specs.Linkage.{Linkage, Loads, l_null, l_integer, l_string, l_cset, l_local, l_static, l_global}
-use Rattle.law_verified.specs.Noted.{bodies_code, NotedShape, o, flagged_note, start, more, in_mark, within, Limited, with_scan, drops, create_notes, code, operands, elements_code, conjunction, compound, creates, subscripts, by_code, body_code, clauses_code, clause_code, default_code, keyword_notes, prefix_code, plain_code, augmented_code}
+use Rattle.law_verified.specs.Noted.{bodies_code, NotedShape, Note, o, flagged_note, start, more, in_mark, within, Limited, with_scan, drops, unmarks, create_notes, code, operands, elements_code, conjunction, compound, creates, subscripts, by_code, body_code, clauses_code, clause_code, default_code, keyword_notes, prefix_code, plain_code, augmented_code, next_notes, break_notes}
 use Rattle.law_verified.specs.FittingTrees.{Infixes, x_both, x_scan, x_either, x_limit, x_at, x_bang, x_op, Augments, u_both, u_scan, u_at, u_op, Prefixes, p_at, p_bar, p_op, IsKeyword, k_word, Fit, FitAll, FitCreates, FitBy, FitMaybe, FitClauses, FitDefault}
 use Rattle.law_verified.proofs.LoopNesting.{forward_mark, forward_goto, forward_create, backward_loop, backward_chfail, is_plain, plain_not_forward, plain_not_backward, one_backward_label, out_last, out_next, out_outer, WaysAhead, ways_ahead, WellNested, nested_append, nested_nil, nested_plain, nested_forward, nested_out, pass_before, lies_before, pass_after, pass_plain, pass_forward, nested_over, nested_back, way_stays, ways_left, nested_wider, nested_to, chfail_leads, loop_leads, none_in, no_ways_ahead, ahead_loop, ahead_outer, narrow, unmarks_neat}
 
@@ -129,6 +129,33 @@ module _ (L : Linkage) (j : ℕ) (N : SymbolTable) where
       (pass_before n (omega arith) (pass_plain _ refl (pass_plain _ refl (pass_plain _ refl nested_over))))
       (nested_append n (nested_plain _ refl (nested_plain _ refl (nested_plain _ refl (nested_nil _ (omega arith))))) a))
 
+  -- out of the innermost loop, by its ways
+  dropped_neat : (k : ℕ) (v : LoopExits) (W : List LoopExits) (s : NotedShape) (p' : ℕ) → WaysAhead (p' + (k + 1)) (v ∷ W)
+      → WellNested (v ∷ W) p' (unmarks k s ++ o (drops k s) (I.Goto v.next) ∷ []) (p' + (k + 1))
+  dropped_neat k v W s p' a = nested_append (unmarks_neat (v ∷ W) k s p')
+      (nested_to _ (omega arith) (nested_out _ forward_goto (out_next {l = v.last} {g = v.next} refl))) a
+
+  -- `next`, where it may stand
+  passed_neat : (b : Bool) (k : ℕ) (v : LoopExits) (W : List LoopExits) (s : NotedShape) (p' : ℕ)
+      → WaysAhead (p' + (if b then k + 1 else 0)) (v ∷ W)
+      → WellNested (v ∷ W) p' (if b then unmarks k s ++ o (drops k s) (I.Goto v.next) ∷ [] else []) (p' + (if b then k + 1 else 0))
+  passed_neat true k v W s p' a = dropped_neat k v W s p' a
+  passed_neat false k v W s p' a = nested_nil _ (omega arith)
+
+  next_neat : (D : List Depth) (v : LoopExits) (W : List LoopExits) (s : NotedShape) (p' : ℕ) → WaysAhead (p' + next_size D) (v ∷ W)
+      → WellNested (v ∷ W) p' (next_notes D v.next s) (p' + next_size D)
+  next_neat [] v W s p' a = nested_nil _ (omega arith)
+  next_neat (d ∷ D) v W s p' a = passed_neat d.passes (dropped_by_next d) v W s p' a
+
+  break_neat : (D : List Depth) (v : LoopExits) (W : List LoopExits) (s : NotedShape) (p p' n : ℕ) (xs : ℕ → NotedShape → List Note)
+      → ((p p' : ℕ) (s : NotedShape) → p' ≡ p → WaysAhead (p' + n) W → WellNested W p' (xs p s) (p' + n))
+      → p' ≡ p → WaysAhead (p' + break_size D n) (v ∷ W) → WellNested (v ∷ W) p' (break_notes D v.last xs p s) (p' + break_size D n)
+  break_neat [] v W s p p' n xs g e a = nested_nil _ (omega arith)
+  break_neat (d ∷ D) v W s p p' n xs g e a = nested_append (unmarks_neat (v ∷ W) d.opened s p')
+      (nested_append (nested_wider (v ∷ W) (λ m i. out_outer i)
+      (g (p + d.opened) (p' + d.opened) (drops d.opened s) (omega arith) (ways_ahead (omega arith) (ahead_outer a))))
+      (nested_to _ (omega arith) (nested_out _ forward_goto (out_last {l = v.last} {g = v.next} refl))) a) a
+
   mutual
     pub tree_is_nested : (x : Tree) (D : List Depth) (W : List LoopExits) (B : List Bool) (c : Bool) (s : NotedShape) → Same W B → Fit L j N B c x → (p p' : ℕ)
         → p' ≡ p
@@ -226,12 +253,12 @@ module _ (L : Linkage) (j : ℕ) (N : SymbolTable) where
         (nested_append n (nested_plain _ refl (nested_plain _ refl k)) A)) in
         nested_to _ (omega arith) (subst (λ zs. WellNested W p' (o s (I.Mark (p + z + 3)) ∷ zs) (suc l)) (append_assoc xs ys (o s (I.Loop p) ∷ [])) h)
     tree_is_nested (T.Loop place Every x b) D W B c s w f p p' e a =
-        let z = size (loop_of 1 1 ∷ D) x in let y = body_size (loop_of 2 1 ∷ D) b in
+        let z = size (control_of 1 ∷ D) x in let y = body_size (loop_of 2 1 ∷ D) b in
         let V = ways (p + z + y + 3) (p + z + y + 2) in let q = suc (suc p' + z) in let l = q + y in
         let A : WaysAhead l (V ∷ W) = ahead_loop l (p + z + y + 3) (p + z + y + 2) (omega arith) (omega arith) (ways_ahead (omega arith) a) in
-        let n = tree_is_nested x (loop_of 1 1 ∷ D) (V ∷ W) (false ∷ B) c (in_mark s) w f.0 (p + 1) (suc p') (omega arith) (ways_ahead (omega arith) A) in
+        let n = tree_is_nested x (control_of 1 ∷ D) (V ∷ W) (false ∷ B) c (in_mark s) w f.0 (p + 1) (suc p') (omega arith) (ways_ahead (omega arith) A) in
         let k = body_neat b (loop_of 2 1 ∷ D) (V ∷ W) (true ∷ B) c (in_mark s) w f.1 (p + z + 2) q (omega arith) A in
-        let xs = code N (loop_of 1 1 ∷ D) (V ∷ W) (p + 1) (in_mark s) x in
+        let xs = code N (control_of 1 ∷ D) (V ∷ W) (p + 1) (in_mark s) x in
         let ys = o (more (in_mark s)) I.Pop ∷ body_code N (loop_of 2 1 ∷ D) (V ∷ W) (p + z + 2) (in_mark s) b in
         let h : WellNested W p' ((o s I.Mark0 ∷ xs ++ ys) ++ (o (in_mark s) I.Efail ∷ [])) (suc l) = nested_back (o (in_mark s) I.Efail)
         (λ l k. absurd (plain_not_backward refl k))
@@ -253,16 +280,13 @@ module _ (L : Linkage) (j : ℕ) (N : SymbolTable) where
     tree_is_nested (T.Create place x) D W B c s w f p p' e a = created_neat W s x (tree_is_nested x) f p p' e a
     tree_is_nested (T.Next place) D W [] c s w f p p' e a = absurd f
     tree_is_nested (T.Next place) D [] (b ∷ B) c s w f p p' e a = absurd w
-    tree_is_nested (T.Next place) D (v ∷ W) (b ∷ B) c s w f p p' e a =
-        nested_append (unmarks_neat (v ∷ W) (dropped_by_next D) s p')
-        (nested_to _ (omega arith) (nested_out _ forward_goto (out_next {l = v.last} {g = v.next} refl))) a
+    tree_is_nested (T.Next place) D (v ∷ W) (b ∷ B) c s w f p p' e a = next_neat D v W s p' a
     tree_is_nested (T.Fail place) D W B c s w f p p' e a = nested_plain _ refl (nested_nil _ (omega arith))
     tree_is_nested (T.Break place x) D W [] c s w f p p' e a = absurd f
     tree_is_nested (T.Break place x) D [] (b ∷ B) c s w f p p' e a = absurd w
-    tree_is_nested (T.Break place x) D (v ∷ W) (b ∷ B) c s w f p p' e a = nested_append (unmarks_neat (v ∷ W) (opened_in D) s p')
-        (nested_append (nested_wider (v ∷ W) (λ m i. out_outer i)
-        (tree_is_nested x (around D) W B c (drops (opened_in D) s) w f (p + opened_in D) (p' + opened_in D) (omega arith)
-        (ways_ahead (omega arith) (ahead_outer a)))) (nested_to _ (omega arith) (nested_out _ forward_goto (out_last {l = v.last} {g = v.next} refl))) a) a
+    tree_is_nested (T.Break place x) D (v ∷ W) (b ∷ B) c s w f p p' e a =
+        break_neat D v W s p p' (size (around D) x) (λ p' s'. code N (around D) W p' s' x)
+        (λ p p' s e a. tree_is_nested x (around D) W B c s w f p p' e a) e a
     tree_is_nested (T.Return place x) D W B c s w f p p' e a =
         let n = tree_is_nested x (deeper D) W B c (in_mark s) w f.1 (p + 1) (suc p') (omega arith) (ways_ahead (omega arith) a) in
         nested_forward _ (suc (suc p' + size (deeper D) x)) forward_mark (omega arith) (omega arith)

@@ -13,9 +13,9 @@ use Rattle.icn_tree.specs.declared.tree.Infix.TheVariants.{Plain, Augmented}
 use Rattle.icn_tree.specs.declared.tree.LoopKind.TheVariants.{While, Until, Every}
 use Rattle.icn_tree.specs.Trees as T
 use Rattle.icn_tree.specs.Trees.{Tree, Trees, MaybeTree, Clauses, Absent, Present, NoTrees, More, Default, Guarded, NoClauses, MoreClauses}
-use Rattle.law_simulation.specs.Translation.{bodies_size, SymbolTable, Depth, LoopExits, loop_of, ways, deeper, opened_in, dropped_by_next, around, last_way, next_way, size, sizes, elements_size, conjunction_size, compound_size, creates_size, subscripts_size, by_size, body_size, clauses_size, default_size, elements, count_of, keyword_instr, keyword_size, section_op, BinaryForm, UpdateForm, PrefixForm, prefix_size, plain_size, augmented_size}
+use Rattle.law_simulation.specs.Translation.{bodies_size, SymbolTable, Depth, LoopExits, loop_of, control_of, ways, deeper, around, last_way, next_way, size, sizes, elements_size, conjunction_size, compound_size, creates_size, subscripts_size, by_size, body_size, clauses_size, default_size, elements, count_of, keyword_instr, keyword_size, section_op, BinaryForm, UpdateForm, PrefixForm, prefix_size, plain_size, augmented_size, next_size, break_size}
 use Rattle.law_simulation.specs.Linkage.{Linkage, Loads, l_null, l_integer, l_string, l_cset, l_local, l_static, l_global}
-use Rattle.law_verified.specs.Noted.{bodies_code, NotedShape, o, start, many, more, in_mark, within, Limited, with_scan, drops, unmarks, create_notes, code, operands, elements_code, conjunction, compound, creates, subscripts, by_code, body_code, clauses_code, clause_code, default_code, keyword_notes, prefix_code, plain_code, augmented_code}
+use Rattle.law_verified.specs.Noted.{bodies_code, NotedShape, o, start, many, more, in_mark, within, Limited, with_scan, drops, unmarks, create_notes, code, operands, elements_code, conjunction, compound, creates, subscripts, by_code, body_code, clauses_code, clause_code, default_code, keyword_notes, prefix_code, plain_code, augmented_code, next_notes, break_notes}
 use Rattle.law_verified.specs.FittingTrees.{Infixes, x_both, x_scan, x_either, x_limit, x_at, x_bang, x_op, Augments, u_both, u_scan, u_at, u_op, Prefixes, p_at, p_bar, p_op, IsKeyword, k_word, Some_trees, Fit, FitAll, FitCreates, FitBy, FitMaybe, FitClauses, FitDefault}
 use Rattle.law_verified.specs.Verified.{Pushes, u_null, u_int, u_str, u_cset, u_local, u_static, u_global, u_keyword, TakesOperands, t_op, t_list, t_field, t_invoke, t_appl, t_coact, Fine, f_push, f_pop, f_dup, f_takes, f_mark, f_mark0, f_unmark, f_eret, f_esusp, f_limit, f_lsusp, f_efail, f_chfail, f_goto, f_loop, f_bscan, f_escan, f_ccase, f_psusp, f_pret, f_pfail, f_create, f_coret, f_cofail, d_zero, d_suc, n_no, n_yes, Ctx, c_create, c_loop, Has, AllFine}
 use Rattle.law_verified.proofs.UnmarkLengths.{none_unmarks}
@@ -184,11 +184,9 @@ module _ (At : ℕ → NotedShape → Type 0) (L : Linkage) (j : ℕ) (N : Symbo
   -- out of the innermost loop
   break_fine : (r : ℕ) (D : List Depth) (W : List LoopExits) (b : Bool) (B : List Bool) (c : Bool) (s : NotedShape) (x : Tree) → Goal x
       → Ctx At r D W (b ∷ B) c s
-      → Fit L j N B c x → (p p' : ℕ) → p' ≡ p → p' + (opened_in D + size (around D) x + 1) ≤ r
-      → Has At p' (unmarks (opened_in D) s
-      ++ (code N (around D) (around W) (p + opened_in D) (drops (opened_in D) s) x ++ o (more (drops (opened_in D) s)) (I.Goto (last_way W)) ∷ []))
-      → At p' s × AllFine At p' (unmarks (opened_in D) s
-      ++ (code N (around D) (around W) (p + opened_in D) (drops (opened_in D) s) x ++ o (more (drops (opened_in D) s)) (I.Goto (last_way W)) ∷ []))
+      → Fit L j N B c x → (p p' : ℕ) → p' ≡ p → p' + break_size D (size (around D) x) ≤ r
+      → Has At p' (break_notes D (last_way W) (λ p' s'. code N (around D) (around W) p' s' x) p s)
+      → At p' s × AllFine At p' (break_notes D (last_way W) (λ p' s'. code N (around D) (around W) p' s' x) p s)
   break_fine r D W b B c s x g (c_loop {m = m} {l = l} {D = E} {W = V} {t = t} d rl rg al n a) f p p' e v h =
       let w = dropped_to At d in
       let h' = subst (λ t. Has At p' (unmarks (suc m) s ++ (code N E V (p + suc m) t x ++ o (more t) (I.Goto l) ∷ []))) w h in
@@ -202,9 +200,8 @@ module _ (At : ℕ → NotedShape → Type 0) (L : Linkage) (j : ℕ) (N : Symbo
       )
 
   next_fine : (r : ℕ) (D : List Depth) (W : List LoopExits) (B : List Bool) (c : Bool) (s : NotedShape) → Ctx At r D W (true ∷ B) c s → (p' : ℕ)
-      → p' + (dropped_by_next D + 1) ≤ r
-      → Has At p' (unmarks (dropped_by_next D) s ++ o (drops (dropped_by_next D) s) (I.Goto (next_way W)) ∷ [])
-      → At p' s × AllFine At p' (unmarks (dropped_by_next D) s ++ o (drops (dropped_by_next D) s) (I.Goto (next_way W)) ∷ [])
+      → p' + next_size D ≤ r → Has At p' (next_notes D (next_way W) s)
+      → At p' s × AllFine At p' (next_notes D (next_way W) s)
   next_fine r D W B c s (c_loop {m = m} {k = i} {g = g} d rl rg al (n_yes {t = t} im d' ag) a) p' v h =
       let w = dropped_to At d' in let q = suc_minus At m i im in
       let h' = subst (λ t. Has At p' (unmarks (suc (m - i)) s ++ o t (I.Goto g) ∷ [])) w
@@ -337,18 +334,18 @@ module _ (At : ℕ → NotedShape → Type 0) (L : Linkage) (j : ℕ) (N : Symbo
         let v = tree_is_fine x l (loop_of 1 0 ∷ D) (V ∷ W) (true ∷ B) c (in_mark s) C f.0 (p + 1) (suc p') (omega arith) (omega arith) k.0 k.1.0 in
         (h.0, (f_mark s v.0 (to _ u.0 (omega arith)) (omega arith), k.2 v.1 (f_unmark _ s k.1.1.0, (f_efail s, m.2 u.1 (f_loop s (to _ h.0 e) (omega arith), tt)))))
     tree_is_fine (T.Loop place Every x b) r D W B c s a f p p' e i h z =
-        let n = size (loop_of 1 1 ∷ D) x in let y = body_size (loop_of 2 1 ∷ D) b in
+        let n = size (control_of 1 ∷ D) x in let y = body_size (loop_of 2 1 ∷ D) b in
         let V = ways (p + n + y + 3) (p + n + y + 2) in
-        let k = fine_cut At _ _ (suc p') n (code_length N x (loop_of 1 1 ∷ D) (V ∷ W) (p + 1) (in_mark s)) h.1 in
+        let k = fine_cut At _ _ (suc p') n (code_length N x (control_of 1 ∷ D) (V ∷ W) (p + 1) (in_mark s)) h.1 in
         let q = suc (suc p' + n) in
         let m = fine_cut At _ _ q y (body_len N b (loop_of 2 1 ∷ D) (V ∷ W) (p + n + 2) (in_mark s)) k.1.1 in
         let l = q + y in
-        let C : Ctx At l (loop_of 1 1 ∷ D) (V ∷ W) (false ∷ B) c (in_mark s) = c_loop (d_suc _ d_zero) (omega arith) (omega arith) (to _ z (omega arith)) n_no
+        let C : Ctx At l (control_of 1 ∷ D) (V ∷ W) (false ∷ B) c (in_mark s) = c_loop (d_suc _ d_zero) (omega arith) (omega arith) (to _ z (omega arith)) n_no
         (weaken At (omega arith) a) in
         let C' : Ctx At l (loop_of 2 1 ∷ D) (V ∷ W) (true ∷ B) c (in_mark (in_mark s)) = c_loop (d_suc _ (d_suc _ d_zero)) (omega arith) (omega arith)
         (to _ z (omega arith)) (n_yes (omega arith) (d_suc _ d_zero) (to _ m.1.0 (omega arith))) (weaken At (omega arith) a) in
         let u = body_fine b l (loop_of 2 1 ∷ D) (V ∷ W) (true ∷ B) c (in_mark s) C' f.1 (p + n + 2) q (omega arith) (omega arith) m.0 m.1.0 in
-        let v = tree_is_fine x l (loop_of 1 1 ∷ D) (V ∷ W) (false ∷ B) c (in_mark s) C f.0 (p + 1) (suc p') (omega arith) (omega arith) k.0 k.1.0 in
+        let v = tree_is_fine x l (control_of 1 ∷ D) (V ∷ W) (false ∷ B) c (in_mark s) C f.0 (p + 1) (suc p') (omega arith) (omega arith) k.0 k.1.0 in
         (h.0, (f_mark0 s v.0, k.2 v.1 (f_pop (in_mark s) u.0, m.2 u.1 (f_efail (in_mark s), tt))))
     tree_is_fine (T.Repeat place x) r D W B c s a f p p' e i h z =
         let n = size (loop_of 1 0 ∷ D) x in

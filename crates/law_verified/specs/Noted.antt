@@ -9,7 +9,7 @@ use Rattle.icn_tree.specs.Trees.{Initial, NoInitial, Initially, Tree, MaybeTree,
 use Rattle.icn_code.specs.declared.instr.Instr.{Instr}
 use Rattle.icn_code.specs.declared.instr.Instr.TheVariants as I
 use Rattle.icn_meaning.specs.Evaluate.{keyword_among}
-use Rattle.law_simulation.specs.Translation.{SymbolTable, Depth, LoopExits, loop_of, deeper, opened_in, dropped_by_next, around, last_way, next_way, is_empty, is_nothing, is_no_element, elements, BinaryForm, Both, Scanning, Either, Limiting, Applying, form_of, UpdateForm, UpdatesBoth, UpdatesScanning, UpdatesBy, update_of, PrefixForm, Activating, Repeating, Operating, prefix_of, section_op, size, body_size, clauses_size, clause_size, default_size, ways, literal_code, keyword_instr, bounded_size}
+use Rattle.law_simulation.specs.Translation.{SymbolTable, Depth, LoopExits, loop_of, control_of, deeper, dropped_by_next, around, last_way, next_way, is_empty, is_nothing, is_no_element, elements, BinaryForm, Both, Scanning, Either, Limiting, Applying, form_of, UpdateForm, UpdatesBoth, UpdatesScanning, UpdatesBy, update_of, PrefixForm, Activating, Repeating, Operating, prefix_of, section_op, size, body_size, clauses_size, clause_size, default_size, ways, literal_code, keyword_instr, bounded_size}
 
 -- Shapes
 
@@ -141,6 +141,20 @@ augmented_code D p s m a b (Some (UpdatesBy i)) =
     ++ (o (more (more (more s))) i ∷ o (more (more s)) (I.Op Ops.Assign) ∷ []))
 augmented_code D p s m a b None = []
 
+-- the code of `next` in the innermost of these loops, which goes on at this place
+abbrev pub next_notes : List Depth → (place : ℕ) → NotedShape → List Note
+next_notes [] place s = []
+next_notes (d ∷ D) place s = if d.passes then unmarks (dropped_by_next d) s
+    ++ o (drops (dropped_by_next d) s) (I.Goto place) ∷ [] else []
+
+-- the code of `break` out of the innermost of these loops, whose end is this place, by that of its operand
+abbrev pub break_notes : List Depth → (end : ℕ) → (operand : ℕ → NotedShape → List Note) → ℕ → NotedShape
+    → List Note
+break_notes [] end operand p s = []
+break_notes (d ∷ D) end operand p s =
+    unmarks d.opened s ++ (operand (p + d.opened) (drops d.opened s)
+    ++ o (more (drops d.opened s)) (I.Goto end) ∷ [])
+
 -- The code of trees with its shapes, with that of their parts
 abbrev mutual
   pub code : SymbolTable → List Depth → List LoopExits → ℕ → NotedShape → Tree → List Note
@@ -195,9 +209,9 @@ abbrev mutual
       ++ (o (more (in_mark s)) I.Unmark ∷ o s I.Efail ∷ body_code N (loop_of 1 0 ∷ D) (w ∷ W) (p + m + 3) s b
       ++ o s (I.Loop p) ∷ [])
   code N D W p s (Loop place Every c b) =
-      let m = size (loop_of 1 1 ∷ D) c in let n = body_size (loop_of 2 1 ∷ D) b in
+      let m = size (control_of 1 ∷ D) c in let n = body_size (loop_of 2 1 ∷ D) b in
       let w = ways (p + m + n + 3) (p + m + n + 2) in
-      o s I.Mark0 ∷ code N (loop_of 1 1 ∷ D) (w ∷ W) (p + 1) (in_mark s) c ++ (o (more (in_mark s)) I.Pop
+      o s I.Mark0 ∷ code N (control_of 1 ∷ D) (w ∷ W) (p + 1) (in_mark s) c ++ (o (more (in_mark s)) I.Pop
       ∷ body_code N (loop_of 2 1 ∷ D) (w ∷ W) (p + m + 2) (in_mark s) b ++ o (in_mark s) I.Efail ∷ [])
   code N D W p s (Repeat place b) =
       let n = size (loop_of 1 0 ∷ D) b in let w = ways (p + n + 3) (p + n + 2) in
@@ -205,12 +219,10 @@ abbrev mutual
       ++ (o (more (in_mark s)) I.Unmark ∷ o s (I.Loop p) ∷ [])
   code N D W p s (Create place e) =
       create_notes p (size [] e) s (code N [] [] (p + 2) (in_mark (start true)) e)
-  code N D W p s (Next place) =
-      unmarks (dropped_by_next D) s ++ o (drops (dropped_by_next D) s) (I.Goto (next_way W)) ∷ []
+  code N D W p s (Next place) = next_notes D (next_way W) s
   code N D W p s (Fail place) = o s I.Pfail ∷ []
   code N D W p s (Break place e) =
-      unmarks (opened_in D) s ++ (code N (around D) (around W) (p + opened_in D) (drops (opened_in D) s) e
-      ++ o (more (drops (opened_in D) s)) (I.Goto (last_way W)) ∷ [])
+      break_notes D (last_way W) (λ p' s'. code N (around D) (around W) p' s' e) p s
   code N D W p s (Return place e) = o s (I.Mark (p + size (deeper D) e + 2))
       ∷ code N (deeper D) W (p + 1) (in_mark s) e ++ (o (more (in_mark s)) I.Pret ∷ o s I.Pfail ∷ [])
   code N D W p s (Suspend place e b) =

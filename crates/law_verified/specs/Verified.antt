@@ -4,7 +4,7 @@ use Rattle.icn_text.specs.declared.op.Op.{Op}
 use Rattle.icn_code.specs.declared.instr.Instr.{Instr}
 use Rattle.icn_code.specs.declared.instr.Instr.TheVariants as I
 use Rattle.icn_defs.specs.Arities.{arity}
-use Rattle.law_simulation.specs.Translation.{Depth, LoopExits, loop_of, ways}
+use Rattle.law_simulation.specs.Translation.{Depth, LoopExits, depth_of, ways}
 use Rattle.law_verified.specs.Noted.{Limited, NotedLevel, NotedShape, Note, start, more, many, with_scan, within, in_mark}
 
 -- the shape with a level inside it
@@ -83,7 +83,7 @@ pub data Ctx (At : ℕ → NotedShape → Type 0) (r : ℕ) : List Depth → Lis
   c_loop : {m k l g : ℕ} {D : List Depth} {W : List LoopExits} {b : Bool} {B : List Bool} {c : Bool}
       {s t : NotedShape}
       → Drop (suc m) s t → r ≤ l → r ≤ g → At l (more t) → NextTo At b m k s g → Ctx At r D W B c t
-      → Ctx At r (loop_of (suc m) k ∷ D) (ways l g ∷ W) (b ∷ B) c s
+      → Ctx At r (depth_of (suc m) k b ∷ D) (ways l g ∷ W) (b ∷ B) c s
 
 -- each place from here has the shape that is noted
 abbrev pub Has : (ℕ → NotedShape → Type 0) → ℕ → List Note → Type 0

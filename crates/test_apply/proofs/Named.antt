@@ -7,7 +7,7 @@ use Rattle.std.proofs.lemmas.List.Elements.{All-nil, All-cons, All-push}
 use Rattle.icn_value.specs.Limited.{Bounds}
 use Rattle.icn_value.specs.declared.val.Val.{Val as HeldVal}
 use Rattle.icn_value.specs.declared.val.Val.TheVariants.{Null as NullVal, Integer as IntegerVal}
-use Rattle.icn_value.specs.Store.{Names, Record, World as StoreWorld, outside_of}
+use Rattle.icn_value.specs.Store.{Names, Record, World as StoreWorld, bare_outside}
 use Rattle.icn_value.specs.Values.{Value, Null, Integer, Val}
 use Rattle.icn_heap.specs.declared.heap.Heap.{Heap as HeldHeap}
 use Rattle.icn_heap.specs.Extents.{Extent, IsLive, KeepsValues, value_in}
@@ -101,17 +101,17 @@ module _ (names : Names) where
 
 pub record_ready : (names : Names) (old new : World) (locals : List HeldVal) (kind : ℕ) (fields : List Value) (val : HeldVal) → IsReadySetting names old locals
     → kind < length names.records → All (ValueNamed names) fields
-    → GoesOn (new_record_of (let made : Record = record { kind = kind; fields = fields } in made)) (setting_of (outside_of []) old locals)
-    (value_in (extent_of new.heap) val) (setting_of (outside_of []) new locals)
-    → ItemNamed names (Val (value_in (extent_of new.heap) val)) × SettingNamed names (setting_of (outside_of []) new locals)
+    → GoesOn (new_record_of (let made : Record = record { kind = kind; fields = fields } in made)) (setting_of bare_outside old locals)
+    (value_in (extent_of new.heap) val) (setting_of bare_outside new locals)
+    → ItemNamed names (Val (value_in (extent_of new.heap) val)) × SettingNamed names (setting_of bare_outside new locals)
 record_ready names old new locals kind fields val ready known named found =
-    subst (OutcomeNamed names) (found gives_value) (rows_keep_names.records names kind fields (setting_of (outside_of []) old locals) ready.named known named)
+    subst (OutcomeNamed names) (found gives_value) (rows_keep_names.records names kind fields (setting_of bare_outside old locals) ready.named known named)
 
 -- Texts become more
 
 pub held_ready : (names : Names) (old : World) (heap : HeldHeap) (locals : List HeldVal) → IsReadySetting names old locals
     → KeepsValues (extent_of old.heap) (extent_of heap) → heap_of heap ≡ heap_of old.heap
-    → SettingNamed names (setting_over (outside_of []) heap old.pair old.words old.globals.items old.statics.items locals)
+    → SettingNamed names (setting_over bare_outside heap old.pair old.words old.globals.items old.statics.items locals)
 held_ready names old heap locals ready keeps same = record {
   world = record {
     heap = rw same ready.named.world.heap;
@@ -137,8 +137,8 @@ two_named names all a b =
 pub pair_ready : (names : Names) (old new : World) (locals : List HeldVal) (a b : ℤ) (val : HeldVal) → IsReadySetting names old locals
     → 0 < length names.records
     → GoesOn (new_record_of (let made : Record = record { kind = 0; fields = map (value_in (extent_of old.heap)) (IntegerVal a ∷ IntegerVal b ∷ []) } in made))
-    (setting_of (outside_of []) old locals) (value_in (extent_of new.heap) val) (setting_of (outside_of []) new locals)
-    → ItemNamed names (Val (value_in (extent_of new.heap) val)) × SettingNamed names (setting_of (outside_of []) new locals)
+    (setting_of bare_outside old locals) (value_in (extent_of new.heap) val) (setting_of bare_outside new locals)
+    → ItemNamed names (Val (value_in (extent_of new.heap) val)) × SettingNamed names (setting_of bare_outside new locals)
 pair_ready names old new locals a b val ready known found =
     record_ready names old new locals 0 (map (value_in (extent_of old.heap)) (IntegerVal a ∷ IntegerVal b ∷ [])) val ready known
     (two_named names (extent_of old.heap) a b) found

@@ -1,8 +1,8 @@
 -- When a world may be called with: all that it holds has a name, and its locals are of it.
-use Rattle.std.specs.Prelude.{List, [], Result}
+use Rattle.std.specs.Prelude.{List, Result}
 use Rattle.std.specs.List.{All}
 use Rattle.icn_value.specs.declared.val.Val.{Val}
-use Rattle.icn_value.specs.Store.{Names, outside_of}
+use Rattle.icn_value.specs.Store.{Names, bare_outside}
 use Rattle.icn_heap.specs.Extents.{IsLive}
 use Rattle.icn_heap.specs.Heaps.{extent_of}
 use Rattle.law_names.specs.RowsNamed.{OutcomeNamed}
@@ -16,7 +16,7 @@ use Rattle.icn_apply.specs.NamesAfter.{AnswerNamed}
 
 -- all that a world and locals hold has a name, and the locals are of the world
 pub record IsReadySetting (names : Names) (world : World) (locals : List Val) : Type 0 where
-  pub named : SettingNamed names (setting_of (outside_of []) world locals)
+  pub named : SettingNamed names (setting_of bare_outside world locals)
   pub live : All (IsLive (extent_of world.heap)) locals
 
 -- what was answered, and what it leaves, has a name and is of the world
@@ -29,4 +29,4 @@ pub record IsReadyAnswer (names : Names) (world : World) (locals : List Val)
 -- what is given, and what it leaves, has a name
 abbrev pub ComesNamed : Names → World → List Val → Outcome → Type 0
 ComesNamed names world locals outcome =
-    OutcomeNamed names (outcome_in (extent_of world.heap) outcome (setting_of (outside_of []) world locals))
+    OutcomeNamed names (outcome_in (extent_of world.heap) outcome (setting_of bare_outside world locals))

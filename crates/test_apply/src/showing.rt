@@ -36,6 +36,7 @@ pub fn push_halt(out: &mut String, w: &World, l: &Slots, halt: Halt) -> Result<(
         Halt::Ends(status) => write!(out, "ends {status}"),
         Halt::ReadFault => out.push_str("read fault"),
         Halt::WriteFault => out.push_str("write fault"),
+        Halt::FileFault => out.push_str("file fault"),
         Halt::NoMemory => out.push_str("no memory"),
     }
 }
@@ -94,6 +95,7 @@ fn push_file(out: &mut String, file: File) -> Result<(), AllocError> {
         File::Input => out.push_str("&input"),
         File::Output => out.push_str("&output"),
         File::Errout => out.push_str("&errout"),
+        File::Opened(number) => write!(out, "file {number}"),
     }
 }
 

@@ -1,17 +1,23 @@
 // What calls read and write.
-use icn_host::{MemSink, MemSource};
+use icn_host::{MemFiles, MemSink, MemSource};
 use icn_iofn::HeldStreams;
 use std::alloc::{AllocError, Global};
+use std::collections::BTreeMap;
 use test_values::number;
 
-// An input and two outputs in memory.
-pub type TestStreams = HeldStreams<MemSource, MemSink, MemSink>;
+// Files, an input and two outputs in memory.
+pub type TestStreams = HeldStreams<MemFiles, MemSource, MemSink, MemSink>;
 
-/// An input of two lines and outputs on which nothing was put. A word says which of them fails, and at which call: the input
-/// behind <, the output behind >, the error output behind !. `AllocError` is want of memory.
+/// No files, an input of two lines and outputs on which nothing was put. A word says which of them fails, and at which call: the
+/// files behind @, the input behind <, the output behind >, the error output behind !. `AllocError` is want of memory.
 pub fn new_streams(alloc: Global, word: &str) -> Result<TestStreams, AllocError> {
     let bytes = Vec::from_slice(alloc, b"one\ntwo")?;
     Ok(HeldStreams {
+        files: MemFiles::new(
+            alloc,
+            BTreeMap::new(alloc),
+            failing_calls(alloc, word, b'@')?,
+        ),
         input: MemSource::new(bytes, failing_calls(alloc, word, b'<')?),
         output: MemSink::new(Vec::new(alloc), failing_calls(alloc, word, b'>')?),
         errors: MemSink::new(Vec::new(alloc), failing_calls(alloc, word, b'!')?),

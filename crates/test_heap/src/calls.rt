@@ -113,7 +113,6 @@ fn by_number(out: &mut String, w: &mut World, word: &str, n: u64, y: Val) -> Res
             push_made(out, w, made)
         }
         "cells" => push_done(out, w.heap.room_for_cells(n)),
-        "bytes" => push_done(out, w.heap.room_for_bytes(n)),
         "coexpression" => push_done(out, w.heap.charge_coexp(n)),
         "count" => {
             count(w);

@@ -9,13 +9,14 @@ ghost use Rattle.icn_vars.specs.Worlds.{reach_of};
 
 #[cfg(test)]
 mod tests {
-    use icn_host::{MemSink, MemSource};
+    use icn_host::{MemSink, MemSource, SureFiles};
     use icn_iofn::{HeldStreams, exit};
     use icn_streams::Streams;
     use icn_text::Func;
     use icn_value::{File, Item, Val};
     use icn_vars::{Halt, Outcome, World};
     use std::alloc::{AllocError, Global};
+    use std::collections::BTreeMap;
     use std::process::Abort;
     use std::test::Fail;
     use test_values::{Slots, new_world, no_locals};
@@ -75,7 +76,7 @@ mod tests {
         vals: &[Val],
         w: &mut World,
         l: &Slots,
-        streams: &mut HeldStreams<MemSource, MemSink, MemSink>,
+        streams: &mut HeldStreams<SureFiles, MemSource, MemSink, MemSink>,
     ) -> Result<Outcome, Halt>
         requires locals { All (IsLive (extent_of w.old.heap)) l.now.vals.items }
         requires live { All (IsLive (extent_of w.old.heap)) vals.now }
@@ -101,6 +102,7 @@ mod tests {
         let locals = no_locals(alloc);
         let given = Vec::from_slice(alloc, on.input.as_bytes())?;
         let mut streams = HeldStreams {
+            files: SureFiles::new(alloc, BTreeMap::new(alloc)),
             input: MemSource::new(given, failing_calls(alloc, on.reading_fails)?),
             output: MemSink::new(Vec::new(alloc), failing_calls(alloc, on.output_fails)?),
             errors: MemSink::new(Vec::new(alloc), failing_calls(alloc, on.errors_fail)?),

@@ -10,7 +10,7 @@ use crate::operands::{items_of, operands};
 use crate::showing::{show, show_locals};
 use icn_args::undo_position_again;
 use icn_defs::op_numbered;
-use icn_host::{MemSource, SureSink};
+use icn_host::{MemSource, SureFiles, SureSink};
 use icn_iofn::HeldStreams;
 use icn_ops::{
     apply_operation, counting_again, list_items_from, record_fields_from, set_members_from,
@@ -22,10 +22,11 @@ use icn_text::Op;
 use icn_value::Residual;
 use icn_vars::{Halt, Outcome, World};
 use std::alloc::{AllocError, Global};
+use std::collections::BTreeMap;
 use test_values::{Slots, new_world};
 
-// An input and two outputs in memory.
-type SureStreams = HeldStreams<MemSource, SureSink, SureSink>;
+// Files, an input and two outputs in memory.
+type SureStreams = HeldStreams<SureFiles, MemSource, SureSink, SureSink>;
 
 /// What comes of a case. Each has a world of its own, of 20 string bytes and 10 cells. `AllocError` is want of memory.
 pub fn outcome(alloc: Global, line: &str) -> Result<String, AllocError> {
@@ -56,6 +57,7 @@ fn apply_line(
     };
     let lines = Vec::from_slice(alloc, b"one\ntwo".as_slice())?;
     let mut streams = HeldStreams {
+        files: SureFiles::new(alloc, BTreeMap::new(alloc)),
         input: MemSource::new(lines, Vec::new(alloc)),
         output: SureSink::new(Vec::new(alloc)),
         errors: SureSink::new(Vec::new(alloc)),
@@ -122,7 +124,7 @@ fn resume_residual(
         Residual::SetMembers { set, place } => set_members_from(w, l, set, place),
         Residual::TableValues { table, place } => table_values_from(w, l, table, place),
         Residual::RecordFields { rec, place } => record_fields_from(w, l, rec, place),
-        Residual::InputLines => streams.lines_again(w, l),
+        Residual::FileLines { file } => streams.lines(file, w, l),
         Residual::UndoAssign { variable, old } => undo_assign_again(w, l, variable, old),
         Residual::UndoExchange {
             mover,

@@ -1,11 +1,12 @@
 // What is observed of a run.
 use icn_defs::Ending;
 use icn_frames::{Cell, Stack};
-use icn_host::{MemSink, MemSource};
+use icn_host::{MemSink, MemSource, SureFiles};
 use icn_running::{RunFault, run};
 use icn_value::Limits;
 use icn_verify::Verified;
 use std::alloc::{AllocError, Global};
+use std::collections::BTreeMap;
 
 // An object of the outside.
 #[derive(Clone, Copy, PartialEq, Eq)]
@@ -30,12 +31,14 @@ pub fn observe_run<K: Stack<Cell> + Drop>(
     );
     let mut out = MemSink::new(Vec::new(alloc), calls(alloc, failing, Object::Output)?);
     let mut err = MemSink::new(Vec::new(alloc), calls(alloc, failing, Object::Errors)?);
+    let mut files = SureFiles::new(alloc, BTreeMap::new(alloc));
     let words = Vec::new(alloc);
-    let ended = run::<K, MemSource, MemSink, MemSink>(
+    let ended = run::<K, SureFiles, MemSource, MemSink, MemSink>(
         alloc,
         code,
         &words,
         Limits::standard(),
+        &mut files,
         &mut input,
         &mut out,
         &mut err,
@@ -77,6 +80,7 @@ fn ending_text(alloc: Global, ended: Result<Ending, RunFault>) -> Result<String,
         Ok(Ending::AtBound) => String::from_str(alloc, "at the bound"),
         Err(RunFault::ReadFault) => String::from_str(alloc, "read fault"),
         Err(RunFault::WriteFault) => String::from_str(alloc, "write fault"),
+        Err(RunFault::FileFault) => String::from_str(alloc, "file fault"),
         Err(RunFault::NoMemory) => String::from_str(alloc, "no memory"),
     }
 }

@@ -1,7 +1,7 @@
 // A call of frames.
 use crate::words::{index_at, integer_at, number_at, word_at, written_number};
 use icn_frames::Why;
-use icn_value::{Pair, Residual, Span};
+use icn_value::{File, Pair, Residual, Span};
 
 /// A call of frames, with integers as what is kept.
 #[derive(Clone, Copy)]
@@ -91,7 +91,7 @@ fn suspension(words: &str) -> Option<Call> {
     match word_at(words, 0) {
         "alt" => Some(Call::Suspend(Why::Alt, given)),
         "count" => Some(Call::Suspend(Why::Op(COUNTING), given)),
-        "lines" => Some(Call::Suspend(Why::Op(Residual::InputLines), given)),
+        "lines" => Some(Call::Suspend(Why::Op(Residual::FileLines { file: File::Input }), given)),
         "scan" => Some(Call::Suspend(Why::Scan(pair(index_at(words, 1))), None)),
         "escan" => Some(Call::Suspend(Why::Escan, given)),
         "proc" => Some(Call::Suspend(Why::Proc, given)),

@@ -3,7 +3,7 @@ use crate::calls::Call;
 use crate::frames::{CallResult, answer_of, item};
 use crate::showing::push_label;
 use icn_frames::{Cell, Frames, Stack, Why};
-use icn_value::Residual;
+use icn_value::{File, Residual};
 use std::alloc::AllocError;
 
 /// Puts as many marks as this, each above an operand; suspends as often, with a call each time; and goes all the way back. Appends
@@ -40,7 +40,7 @@ fn put_marks<K: Stack<Cell> + Drop>(frames: &mut Frames<K>, depth: u32) -> Resul
 
 fn enter_all<K: Stack<Cell> + Drop>(frames: &mut Frames<K>, depth: u32) -> Result<(), AllocError> {
     for label in 0..depth {
-        frames.suspend(Why::Op(Residual::InputLines), None)?;
+        frames.suspend(Why::Op(Residual::FileLines { file: File::Input }), None)?;
         answer_of(frames, Call::Enter(label))?;
     }
     Ok(())

@@ -48,7 +48,7 @@ fn push_why(text: &mut String, why: Why) -> Result<(), AllocError> {
 fn push_residual(text: &mut String, residual: Residual) -> Result<(), AllocError> {
     match residual {
         Residual::Counting { given, last, step } => { write!(text, " count {given} {last} {step}") }
-        Residual::InputLines => text.push_str(" lines"),
+        Residual::FileLines { .. } => text.push_str(" lines"),
         _ => text.push_str(" another"),
     }
 }

@@ -7,7 +7,7 @@ use Rattle.std.proofs.lemmas.List.Elements.{All-head}
 use Rattle.icn_text.specs.declared.func.Func.{Func}
 use Rattle.icn_value.specs.declared.val.Val.{Val}
 use Rattle.icn_value.specs.declared.val.Val.TheVariants.{Null as NullVal, Integer as IntegerVal, Text as TextVal, Chars as CharsVal, Std as StdVal, Proc as ProcVal, Rec as RecVal, List as ListVal, Set as SetVal, Table as TableVal, Coexp as CoexpVal}
-use Rattle.icn_value.specs.Store.{Names, Setting, outside_of}
+use Rattle.icn_value.specs.Store.{Names, Setting, bare_outside}
 use Rattle.icn_defs.specs.Applying.{function_of}
 use Rattle.icn_defs.specs.Arguments.{arg}
 use Rattle.icn_defs.specs.Rows.{Row, TableKeys}
@@ -63,20 +63,20 @@ first_there heap (val ∷ vals) are = live_there heap val (All-head (IsLive (ext
 pub function_comes : (func : Func) (old new : World) (locals vals : List Val) (result : Result Outcome Halt) → AllNamed old locals
     → All (ValueNamed one_record) (map (value_in (extent_of old.heap)) vals)
     → All (IsLive (extent_of old.heap)) vals
-    → ComesToAnswer (extent_of new.heap) (function_of one_record func (map (value_in (extent_of old.heap)) vals)) (setting_of (outside_of []) old locals)
-    (setting_of (outside_of []) new locals) result
+    → ComesToAnswer (extent_of new.heap) (function_of one_record func (map (value_in (extent_of old.heap)) vals)) (setting_of bare_outside old locals)
+    (setting_of bare_outside new locals) result
     → IfOk result (ComesNamed new locals)
 function_comes func old new locals vals result named are live row =
-    comes_named one_record (function_of one_record func (map (value_in (extent_of old.heap)) vals)) (extent_of new.heap) (setting_of (outside_of []) old locals)
-    (setting_of (outside_of []) new locals) result
-    (rows_keep_names.functions one_record func (map (value_in (extent_of old.heap)) vals) (setting_of (outside_of []) old locals) named are
+    comes_named one_record (function_of one_record func (map (value_in (extent_of old.heap)) vals)) (extent_of new.heap) (setting_of bare_outside old locals)
+    (setting_of bare_outside new locals) result
+    (rows_keep_names.functions one_record func (map (value_in (extent_of old.heap)) vals) (setting_of bare_outside old locals) named are
     (λ is_copy. first_there old.heap vals live)) row
 
 -- a walk over keys that goes on
 pub key_comes : (world : World) (locals : List Val) (table place : ℕ) (outcome : Outcome) → AllNamed world locals
-    → table_keys_from table place (setting_of (outside_of []) world locals)
-    ≡ outcome_in (extent_of world.heap) outcome (setting_of (outside_of []) world locals)
+    → table_keys_from table place (setting_of bare_outside world locals)
+    ≡ outcome_in (extent_of world.heap) outcome (setting_of bare_outside world locals)
     → ComesNamed world locals outcome
 key_comes world locals table place outcome named row =
     subst (OutcomeNamed one_record) row
-    (rows_keep_names.resumed one_record (TableKeys table place) (setting_of (outside_of []) world locals) named (record { named = tt }))
+    (rows_keep_names.resumed one_record (TableKeys table place) (setting_of bare_outside world locals) named (record { named = tt }))

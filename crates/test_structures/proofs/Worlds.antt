@@ -4,7 +4,7 @@ use Rattle.std.specs.List.{All}
 use Rattle.std.proofs.lemmas.List.Elements.{All-nil}
 use Rattle.icn_value.specs.Limited.{Bounds}
 use Rattle.icn_value.specs.declared.val.Val.{Val}
-use Rattle.icn_value.specs.Store.{World as StoreWorld, outside_of}
+use Rattle.icn_value.specs.Store.{World as StoreWorld, bare_outside}
 use Rattle.icn_heap.specs.declared.heap.Heap.{Heap as HeldHeap}
 use Rattle.icn_heap.specs.Extents.{IsLive, KeepsValues, value_in}
 use Rattle.icn_heap.specs.Heaps.{empty_heap, extent_of, heap_of}
@@ -71,7 +71,7 @@ module _ (old new : World) (locals : List Val) (heap : new.heap ≡ old.heap) (w
 pub held_named : (old : World) (heap : HeldHeap) (locals : List Val) → AllNamed old locals → KeepsValues (extent_of old.heap) (extent_of heap)
     → heap_of heap ≡ heap_of old.heap
     → All (IsLive (extent_of old.heap)) old.globals.items → All (IsLive (extent_of old.heap)) old.statics.items → locals ≡ []
-    → SettingNamed one_record (setting_over (outside_of []) heap old.pair old.words old.globals.items old.statics.items locals)
+    → SettingNamed one_record (setting_over bare_outside heap old.pair old.words old.globals.items old.statics.items locals)
 held_named old heap locals named keeps same live_globals live_statics none = record {
   world = record {
     heap = rw same named.world.heap;

@@ -1,5 +1,4 @@
-use Rattle.std.proofs.Common.{[]}
-use Rattle.icn_value.specs.Store.{outside_of}
+use Rattle.icn_value.specs.Store.{bare_outside}
 use Rattle.icn_heap.specs.Heaps.{extent_of}
 use Rattle.icn_defs.specs.Applying.{again}
 use Rattle.icn_vars.specs.Outcomes.{residual_in}
@@ -23,7 +22,7 @@ returns-clause-named g c =
     c.resume.result
     (λ was. rows_keep_names.resumed (g.N.Names.known c.args.names.now) (residual_in (extent_of c.args.w.now.heap) c.args.rest)
     (setting_of was c.args.w.now (g.L.Locals.items c.args.l.now))
-    (elsewhere (g.N.Names.known c.args.names.now) c.args.w.now (g.L.Locals.items c.args.l.now) (outside_of []) was c.requires.named) c.requires.rest_named)
+    (elsewhere (g.N.Names.known c.args.names.now) c.args.w.now (g.L.Locals.items c.args.l.now) bare_outside was c.requires.named) c.requires.rest_named)
     c.resume.ensures.applies
 
 pub returns-clause-memory : goal.returns-clause-memory

@@ -1,5 +1,5 @@
-use Rattle.std.proofs.Common.{map, []}
-use Rattle.icn_value.specs.Store.{outside_of}
+use Rattle.std.proofs.Common.{map}
+use Rattle.icn_value.specs.Store.{bare_outside}
 use Rattle.icn_heap.specs.Heaps.{extent_of}
 use Rattle.icn_defs.specs.Applying.{operation_row}
 use Rattle.icn_vars.specs.Worlds.{item_in, setting_of}
@@ -23,7 +23,7 @@ returns-in-Op-clause-named g c =
     c.apply_operation.result
     (λ was. rows_keep_names.operations (g.N.Names.known c.args.names.now) c.in-Op.op (map (item_in (extent_of c.args.w.now.heap)) c.args.args.now)
     (setting_of was c.args.w.now (g.L.Locals.items c.args.l.now))
-    (elsewhere (g.N.Names.known c.args.names.now) c.args.w.now (g.L.Locals.items c.args.l.now) (outside_of []) was c.requires.named) c.requires.args_named)
+    (elsewhere (g.N.Names.known c.args.names.now) c.args.w.now (g.L.Locals.items c.args.l.now) bare_outside was c.requires.named) c.requires.args_named)
     c.apply_operation.ensures
 
 pub returns-in-Func-clause-applies : goal.returns-in-Func-clause-applies

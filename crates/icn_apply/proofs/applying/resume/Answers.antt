@@ -32,7 +32,8 @@ returns-in-UndoAssign-clause-applies g c = rw c.in-UndoAssign.is
     c.args.w.now c.undo_assign_again.new.w (g.L.Locals.items c.args.l.now) (g.L.Locals.items c.undo_assign_again.new.l)
     (g.S.Streams.state c.args.streams.now)
     c.undo_assign_again.result
-    (λ was. c.undo_assign_again.ensures.row was) c.undo_assign_again.ensures.live c.undo_assign_again.ensures.kept.locals c.undo_assign_again.ensures.kept.items)
+    (λ was. c.undo_assign_again.ensures.row was) c.undo_assign_again.ensures.live c.undo_assign_again.ensures.kept.locals
+    c.undo_assign_again.ensures.kept.items)
 
 pub returns-in-UndoAssign-clause-memory : goal.returns-in-UndoAssign-clause-memory
 returns-in-UndoAssign-clause-memory g c = rw c.in-UndoAssign.is c.undo_assign_again.ensures.memory
@@ -79,8 +80,8 @@ returns-in-RecordFields-clause-applies g c = rw c.in-RecordFields.is
     (g.S.Streams.state c.args.streams.now) c.record_fields_from.result (λ was. c.record_fields_from.ensures.row was) c.record_fields_from.ensures.live
     c.requires.locals (keeps_items_refl (reach_of c.args.w.now (g.L.Locals.items c.args.l.now))))
 
-pub returns-in-InputLines-clause-applies : goal.returns-in-InputLines-clause-applies
-returns-in-InputLines-clause-applies g c = rw c.in-InputLines.is c.lines_again.ensures.row
+pub returns-in-FileLines-clause-applies : goal.returns-in-FileLines-clause-applies
+returns-in-FileLines-clause-applies g c = rw c.in-FileLines.is c.lines.ensures.row
 
 pub returns-in-UndoExchange-clause-applies : goal.returns-in-UndoExchange-clause-applies
 returns-in-UndoExchange-clause-applies g c = rw c.in-UndoExchange.is
@@ -136,6 +137,9 @@ returns-in-Sequence-clause-applies g c =
     (λ was. c.sequence_again.ensures.row (extent_of c.args.w.now.heap) (setting_of was c.args.w.now (g.L.Locals.items c.args.l.now)))))
     (c.sequence_again.ensures.live (reach_of c.args.w.now (g.L.Locals.items c.args.l.now))) c.requires.locals
     (keeps_items_refl (reach_of c.args.w.now (g.L.Locals.items c.args.l.now))))
+
+pub lines-requires-clause-live : goal.lines-requires-clause-live
+lines-requires-clause-live g c = let rest = rw c.in-FileLines.is at c.requires.rest in rest.live
 
 pub balanced_again-requires : goal.balanced_again-requires
 balanced_again-requires g c = let rest = rw c.in-Balanced.is at c.requires.rest in rest.live
@@ -204,8 +208,8 @@ returns-in-TableValues-clause-memory g c = rw c.in-TableValues.is (λ in_place. 
 pub returns-in-RecordFields-clause-memory : goal.returns-in-RecordFields-clause-memory
 returns-in-RecordFields-clause-memory g c = rw c.in-RecordFields.is (λ in_place. never in_place)
 
-pub returns-in-InputLines-clause-memory : goal.returns-in-InputLines-clause-memory
-returns-in-InputLines-clause-memory g c = rw c.in-InputLines.is (λ in_place. never in_place)
+pub returns-in-FileLines-clause-memory : goal.returns-in-FileLines-clause-memory
+returns-in-FileLines-clause-memory g c = rw c.in-FileLines.is (λ in_place. never in_place)
 
 pub returns-in-UndoExchange-clause-memory : goal.returns-in-UndoExchange-clause-memory
 returns-in-UndoExchange-clause-memory g c = rw c.in-UndoExchange.is (λ in_place.

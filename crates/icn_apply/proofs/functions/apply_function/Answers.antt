@@ -1,6 +1,6 @@
-use Rattle.std.proofs.Common.{◌∙◌, ap, map, subst, sym, [], List}
+use Rattle.std.proofs.Common.{◌∙◌, ap, map, subst, sym, List}
 use Rattle.std.specs.List.{All}
-use Rattle.icn_value.specs.Store.{outside_of}
+use Rattle.icn_value.specs.Store.{bare_outside}
 use Rattle.icn_value.specs.declared.val.Val.{Val}
 use Rattle.icn_heap.specs.Extents.{IsLive, value_in}
 use Rattle.icn_heap.specs.Heaps.{extent_of}
@@ -36,11 +36,11 @@ apply_to_values-requires-clause-vals g c =
 pub apply_to_values-requires-clause-named : goal.apply_to_values-requires-clause-named
 apply_to_values-requires-clause-named g c =
     vals_named (g.N.Names.known c.args.names.now) (extent_of c.args.w.now.heap) c.deref.result.now
-    (values_named (g.N.Names.known c.args.names.now) (map (item_in (extent_of c.args.w.now.heap)) c.args.args.now) (setting_of (outside_of []) c.args.w.now
+    (values_named (g.N.Names.known c.args.names.now) (map (item_in (extent_of c.args.w.now.heap)) c.args.args.now) (setting_of bare_outside c.args.w.now
     (g.L.Locals.items c.args.l.now)) (map (value_in (extent_of c.args.w.now.heap)) c.deref.result.now) c.requires.named c.requires.args_named
-    (λ next. c.in_ok-vals.ensures.found (outside_of []) next
+    (λ next. c.in_ok-vals.ensures.found bare_outside next
     ∙ ap (λ (vals : List Val). next (map (value_in (extent_of c.args.w.now.heap)) vals)
-    (setting_of (outside_of []) c.args.w.now (g.L.Locals.items c.args.l.now))) (sym c.deref.ensures.value)))
+    (setting_of bare_outside c.args.w.now (g.L.Locals.items c.args.l.now))) (sym c.deref.ensures.value)))
 
 pub apply_to_values-requires-clause-heap_named : goal.apply_to_values-requires-clause-heap_named
 apply_to_values-requires-clause-heap_named g c = c.requires.named.world.heap
@@ -59,18 +59,18 @@ returns-clause-applies g c =
 
 pub returns-clause-named : goal.returns-clause-named
 returns-clause-named g c =
-    let named = values_named (g.N.Names.known c.args.names.now) (map (item_in (extent_of c.args.w.now.heap)) c.args.args.now) (setting_of (outside_of [])
+    let named = values_named (g.N.Names.known c.args.names.now) (map (item_in (extent_of c.args.w.now.heap)) c.args.args.now) (setting_of bare_outside
     c.args.w.now (g.L.Locals.items c.args.l.now)) (map (value_in (extent_of c.args.w.now.heap)) c.deref.result.now) c.requires.named c.requires.args_named
-    (λ next. c.in_ok-vals.ensures.found (outside_of []) next
+    (λ next. c.in_ok-vals.ensures.found bare_outside next
     ∙ ap (λ (vals : List Val). next (map (value_in (extent_of c.args.w.now.heap)) vals)
-    (setting_of (outside_of []) c.args.w.now (g.L.Locals.items c.args.l.now))) (sym c.deref.ensures.value)) in
+    (setting_of bare_outside c.args.w.now (g.L.Locals.items c.args.l.now))) (sym c.deref.ensures.value)) in
     applies_named (g.N.Names.known c.args.names.now)
     (function_of (g.N.Names.known c.args.names.now) c.args.func (map (value_in (extent_of c.args.w.now.heap)) c.deref.result.now))
     (call_state c.args.w.now (g.L.Locals.items c.args.l.now) (g.S.Streams.state c.args.streams.now))
     (call_state c.apply_to_values.new.w (g.L.Locals.items c.args.l.now) (g.S.Streams.state c.apply_to_values.new.streams))
     c.apply_to_values.result
     (λ was. function_named (g.N.Names.known c.args.names.now) c.args.func c.args.w.now (g.L.Locals.items c.args.l.now) was c.deref.result.now
-    (elsewhere (g.N.Names.known c.args.names.now) c.args.w.now (g.L.Locals.items c.args.l.now) (outside_of []) was c.requires.named) named
+    (elsewhere (g.N.Names.known c.args.names.now) c.args.w.now (g.L.Locals.items c.args.l.now) bare_outside was c.requires.named) named
     (subst (λ (vals : List Val). All (IsLive (extent_of c.args.w.now.heap)) vals) (sym c.deref.ensures.value) c.in_ok-vals.ensures.live))
     c.apply_to_values.ensures
 

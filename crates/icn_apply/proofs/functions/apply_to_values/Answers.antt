@@ -42,7 +42,8 @@ pub returns-in-Center : goal.returns-in-Center
 returns-in-Center g c = rw c.in-Center.is
     (halted_applies (center_row (map (value_in (extent_of c.args.w.now.heap)) c.args.vals.now)) c.args.w.now c.field_row.new.w (g.L.Locals.items c.args.l.now)
     (g.S.Streams.state c.args.streams.now)
-    c.field_row.result c.as_answer-in-Center.result c.as_answer-in-Center.ensures c.field_row.ensures.row c.field_row.ensures.live c.field_row.ensures.kept.locals
+    c.field_row.result c.as_answer-in-Center.result c.as_answer-in-Center.ensures c.field_row.ensures.row c.field_row.ensures.live
+    c.field_row.ensures.kept.locals
     c.field_row.ensures.kept.items)
 
 pub returns-in-Char : goal.returns-in-Char
@@ -291,7 +292,8 @@ pub returns-in-String : goal.returns-in-String
 returns-in-String g c = rw c.in-String.is
     (halted_applies (string_row (map (value_in (extent_of c.args.w.now.heap)) c.args.vals.now)) c.args.w.now c.string_row.new.w (g.L.Locals.items c.args.l.now)
     (g.S.Streams.state c.args.streams.now)
-    c.string_row.result c.as_answer-in-String.result c.as_answer-in-String.ensures c.string_row.ensures.row c.string_row.ensures.live c.string_row.ensures.kept.locals
+    c.string_row.result c.as_answer-in-String.result c.as_answer-in-String.ensures c.string_row.ensures.row c.string_row.ensures.live
+    c.string_row.ensures.kept.locals
     c.string_row.ensures.kept.items)
 
 pub returns-in-Tab : goal.returns-in-Tab
@@ -337,3 +339,9 @@ returns-in-ErrorClear g c = rw c.in-ErrorClear.is
     (faultless_applies errorclear_row c.args.w.now c.errorclear_row.new.w (g.L.Locals.items c.args.l.now) (g.L.Locals.items c.args.l.now)
     (g.S.Streams.state c.args.streams.now) c.errorclear_row.result
     (λ was. c.errorclear_row.ensures.row was) c.errorclear_row.ensures.live c.errorclear_row.ensures.kept.locals c.errorclear_row.ensures.kept.items)
+
+pub returns-in-Open : goal.returns-in-Open
+returns-in-Open g c = rw c.in-Open.is c.open_file.ensures.row
+
+pub returns-in-Close : goal.returns-in-Close
+returns-in-Close g c = rw c.in-Close.is c.close_file.ensures.row

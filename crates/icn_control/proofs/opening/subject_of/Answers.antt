@@ -43,7 +43,8 @@ returns-clause-counts g c = text_counted c.args.world.now c.text_of.new.w (held.
 
 pub returns-clause-made : goal.returns-clause-made
 returns-clause-made g c =
-    text_result c.requires.stack.0 c.args.world.now c.text_of.new.w c.args.frames.now.flat c.args.v c.text_of.result c.text_of.ensures.kept.items c.requires.stack.1
+    text_result c.requires.stack.0 c.args.world.now c.text_of.new.w c.args.frames.now.flat c.args.v c.text_of.result c.text_of.ensures.kept.items
+    c.requires.stack.1
     c.local_count.ensures.same (c.in_ok-check_text.ensures.found (extent_of c.args.world.now.heap)) c.text_of.ensures.step
     c.text_of.ensures.text
 

@@ -12,3 +12,6 @@ returns-clause-found c = λ all setting.
 
 pub returns-clause-stops : goal.returns-clause-stops
 returns-clause-stops c = λ all live. c.file_of.ensures.stops all (c.value_or.ensures.live all (record { live = tt }) (c.arg.ensures.live all live))
+
+pub returns-clause-live : goal.returns-clause-live
+returns-clause-live c = λ all live. c.file_of.ensures.live all (c.value_or.ensures.live all (record { live = tt }) (c.arg.ensures.live all live))

@@ -1,83 +1,102 @@
-use Rattle.std.proofs.Common.{◌∙◌, ap, map, sym, Some}
+use Rattle.std.proofs.Common.{◌∙◌, ap, map, sym}
 use Rattle.icn_heap.specs.Extents.{value_in}
 use Rattle.icn_heap.specs.Heaps.{extent_of}
 use Rattle.icn_heap.specs.Keys.{file_of}
-use Rattle.icn_value.specs.Store.{SomeBytes}
+use Rattle.icn_value.specs.Store.{SomeBytes, bare_outside}
 use Rattle.icn_value.specs.Values.{Input, Std, Text}
 use Rattle.icn_defs.specs.Arguments.{arg, arg_or, file}
 use Rattle.icn_defs.specs.InputOutput.{reads_row}
-use Rattle.icn_defs.specs.Lines.{is_input, next_bytes}
-use Rattle.icn_defs.specs.Rows.{check, gives_value}
+use Rattle.icn_defs.specs.Lines.{bytes_from}
+use Rattle.icn_defs.specs.OpenFiles.{readable}
+use Rattle.icn_defs.specs.Rows.{gives_value}
 use Rattle.icn_vars.specs.Worlds.{setting_of}
 use Rattle.icn_streams.specs.Answers.{call_state}
 use Rattle.icn_streams.specs.Handed.{call_streams}
 use Rattle.icn_streams.proofs.RowAnswers.{applies_same, stops_there}
-use Rattle.icn_streams.proofs.SettledRows.{settled_unread}
+use Rattle.icn_streams.proofs.SettledRows.{settled_unread, settled_where_read}
 use Rattle.icn_iofn.specs.ReadParts.{count_read, read_from}
+use Rattle.icn_iofn.proofs.ReadSteps.{bytes_read, input_named}
 use Rattle.icn_iofn.proofs.reads.reads.Goals as goal
 
+pub read_from-requires-clause-file : goal.read_from-requires-clause-file
+read_from-requires-clause-file g c = c.in_ok-file.ensures.live (extent_of c.args.w.now.heap) c.requires.live
+
 pub returns-in_err-file-clause-row : goal.returns-in_err-file-clause-row
-returns-in_err-file-clause-row g c =
+returns-in_err-file-clause-row g c = λ files.
     stops_there (file (arg_or (Std Input) (map (value_in (extent_of c.args.w.now.heap)) c.args.vals.now) 0))
-    (λ from. count_read (map (value_in (extent_of c.args.w.now.heap)) c.args.vals.now)
-    (λ count. check (is_input from) 212 (Some (arg (map (value_in (extent_of c.args.w.now.heap)) c.args.vals.now) 0))
-    (next_bytes count (λ bytes. gives_value (Text bytes)))))
+    (λ named. count_read (map (value_in (extent_of c.args.w.now.heap)) c.args.vals.now)
+    (λ count. readable named (arg (map (value_in (extent_of c.args.w.now.heap)) c.args.vals.now) 0)
+    (λ from. bytes_from count from (λ bytes. gives_value (Text bytes)))))
     (call_state c.args.w.now (g.L.Locals.items c.args.l.now)
-    (call_streams (g.I.Source.left c.args.input.now) (g.I.Source.counts c.args.input.now) (g.O.Sink.state c.args.out.now) (g.E.Sink.state c.args.err.now)))
+    (call_streams files (g.I.Source.left c.args.input.now) (g.I.Source.counts c.args.input.now) (g.O.Sink.state c.args.out.now)
+    (g.E.Sink.state c.args.err.now)))
     c.in_err-file.field-0.0 c.from_residual.result c.from_residual.ensures.1
     (λ was. c.in_err-file.ensures.found (extent_of c.args.w.now.heap) (setting_of was c.args.w.now (g.L.Locals.items c.args.l.now)))
     (c.in_err-file.ensures.stops (extent_of c.args.w.now.heap) c.requires.live) c.requires.locals
 
 pub returns-in_err-count-clause-row : goal.returns-in_err-count-clause-row
-returns-in_err-count-clause-row g c =
+returns-in_err-count-clause-row g c = λ files.
     applies_same (reads_row (map (value_in (extent_of c.args.w.now.heap)) c.args.vals.now))
     (count_read (map (value_in (extent_of c.args.w.now.heap)) c.args.vals.now)
-    (λ count. check (is_input (file_of c.in_ok-file.file)) 212 (Some (arg (map (value_in (extent_of c.args.w.now.heap)) c.args.vals.now) 0))
-    (next_bytes count (λ bytes. gives_value (Text bytes)))))
+    (λ count. readable (file_of c.in_ok-file.file) (arg (map (value_in (extent_of c.args.w.now.heap)) c.args.vals.now) 0)
+    (λ from. bytes_from count from (λ bytes. gives_value (Text bytes)))))
     (call_state c.args.w.now (g.L.Locals.items c.args.l.now)
-    (call_streams (g.I.Source.left c.args.input.now) (g.I.Source.counts c.args.input.now) (g.O.Sink.state c.args.out.now) (g.E.Sink.state c.args.err.now)))
+    (call_streams files (g.I.Source.left c.args.input.now) (g.I.Source.counts c.args.input.now) (g.O.Sink.state c.args.out.now)
+    (g.E.Sink.state c.args.err.now)))
     (call_state c.args.w.now (g.L.Locals.items c.args.l.now)
-    (call_streams (g.I.Source.left c.args.input.now) (g.I.Source.counts c.args.input.now) (g.O.Sink.state c.args.out.now) (g.E.Sink.state c.args.err.now)))
+    (call_streams files (g.I.Source.left c.args.input.now) (g.I.Source.counts c.args.input.now) (g.O.Sink.state c.args.out.now)
+    (g.E.Sink.state c.args.err.now)))
     c.from_residual-in_err-count.result
     (λ was. c.in_ok-file.ensures.found (extent_of c.args.w.now.heap) (setting_of was c.args.w.now (g.L.Locals.items c.args.l.now))
-    (λ from. count_read (map (value_in (extent_of c.args.w.now.heap)) c.args.vals.now)
-    (λ count. check (is_input from) 212 (Some (arg (map (value_in (extent_of c.args.w.now.heap)) c.args.vals.now) 0))
-    (next_bytes count (λ bytes. gives_value (Text bytes))))))
+    (λ named. count_read (map (value_in (extent_of c.args.w.now.heap)) c.args.vals.now)
+    (λ count. readable named (arg (map (value_in (extent_of c.args.w.now.heap)) c.args.vals.now) 0)
+    (λ from. bytes_from count from (λ bytes. gives_value (Text bytes))))))
     (stops_there (count_read (map (value_in (extent_of c.args.w.now.heap)) c.args.vals.now))
-    (λ count. check (is_input (file_of c.in_ok-file.file)) 212 (Some (arg (map (value_in (extent_of c.args.w.now.heap)) c.args.vals.now) 0))
-    (next_bytes count (λ bytes. gives_value (Text bytes))))
+    (λ count. readable (file_of c.in_ok-file.file) (arg (map (value_in (extent_of c.args.w.now.heap)) c.args.vals.now) 0)
+    (λ from. bytes_from count from (λ bytes. gives_value (Text bytes))))
     (call_state c.args.w.now (g.L.Locals.items c.args.l.now)
-    (call_streams (g.I.Source.left c.args.input.now) (g.I.Source.counts c.args.input.now) (g.O.Sink.state c.args.out.now) (g.E.Sink.state c.args.err.now)))
+    (call_streams files (g.I.Source.left c.args.input.now) (g.I.Source.counts c.args.input.now) (g.O.Sink.state c.args.out.now)
+    (g.E.Sink.state c.args.err.now)))
     c.in_err-count.field-0.0 c.from_residual-in_err-count.result c.from_residual-in_err-count.ensures.1
     (λ was. c.in_err-count.ensures.found (setting_of was c.args.w.now (g.L.Locals.items c.args.l.now))) c.in_err-count.ensures.stops c.requires.locals)
 
 pub returns-clause-row : goal.returns-clause-row
-returns-clause-row g c =
+returns-clause-row g c = λ files.
     applies_same (reads_row (map (value_in (extent_of c.args.w.now.heap)) c.args.vals.now))
     (read_from (SomeBytes c.in_ok-count.count) (file_of c.in_ok-file.file) (value_in (extent_of c.args.w.now.heap) c.arg.result))
     (call_state c.args.w.now (g.L.Locals.items c.args.l.now)
-    (call_streams (g.I.Source.left c.args.input.now) (g.I.Source.counts c.args.input.now) (g.O.Sink.state c.args.out.now) (g.E.Sink.state c.args.err.now)))
+    (call_streams files (g.I.Source.left c.args.input.now) (g.I.Source.counts c.args.input.now) (g.O.Sink.state c.args.out.now)
+    (g.E.Sink.state c.args.err.now)))
     (call_state c.read_from.new.w (g.L.Locals.items c.args.l.now)
-    (call_streams (g.I.Source.left c.read_from.new.input) (g.I.Source.counts c.read_from.new.input)
+    (call_streams files (g.I.Source.left c.read_from.new.input) (g.I.Source.counts c.read_from.new.input)
     (g.O.Sink.state c.read_from.new.out) (g.E.Sink.state c.read_from.new.err))) c.read_from.result
     (λ was. c.in_ok-file.ensures.found (extent_of c.args.w.now.heap) (setting_of was c.args.w.now (g.L.Locals.items c.args.l.now))
-    (λ from. count_read (map (value_in (extent_of c.args.w.now.heap)) c.args.vals.now)
-    (λ count. check (is_input from) 212 (Some (arg (map (value_in (extent_of c.args.w.now.heap)) c.args.vals.now) 0))
-    (next_bytes count (λ bytes. gives_value (Text bytes)))))
+    (λ named. count_read (map (value_in (extent_of c.args.w.now.heap)) c.args.vals.now)
+    (λ count. readable named (arg (map (value_in (extent_of c.args.w.now.heap)) c.args.vals.now) 0)
+    (λ from. bytes_from count from (λ bytes. gives_value (Text bytes)))))
     ∙ (c.in_ok-count.ensures.found (setting_of was c.args.w.now (g.L.Locals.items c.args.l.now))
-    (λ count. check (is_input (file_of c.in_ok-file.file)) 212 (Some (arg (map (value_in (extent_of c.args.w.now.heap)) c.args.vals.now) 0))
-    (next_bytes count (λ bytes. gives_value (Text bytes))))
-    ∙ ap (λ value. check (is_input (file_of c.in_ok-file.file)) 212 (Some value) (next_bytes c.in_ok-count.count (λ bytes. gives_value (Text bytes)))
+    (λ count. readable (file_of c.in_ok-file.file) (arg (map (value_in (extent_of c.args.w.now.heap)) c.args.vals.now) 0)
+    (λ from. bytes_from count from (λ bytes. gives_value (Text bytes))))
+    ∙ ap (λ value. readable (file_of c.in_ok-file.file) value (λ from. bytes_from c.in_ok-count.count from (λ bytes. gives_value (Text bytes)))
     (setting_of was c.args.w.now (g.L.Locals.items c.args.l.now)))
-    (sym (c.arg.ensures.value (extent_of c.args.w.now.heap)))))
-    c.read_from.ensures.row
+    (sym (c.arg.ensures.value (extent_of c.args.w.now.heap)))
+    ∙ bytes_read c.in_ok-count.count (file_of c.in_ok-file.file) (value_in (extent_of c.args.w.now.heap) c.arg.result)
+    (setting_of was c.args.w.now (g.L.Locals.items c.args.l.now))))
+    (c.read_from.ensures.row files)
 
 pub returns-in_err-file-clause-settled : goal.returns-in_err-file-clause-settled
-returns-in_err-file-clause-settled g c =
+returns-in_err-file-clause-settled g c = λ input.
     settled_unread c.in_err-file.field-0.0 c.from_residual.result (g.O.Sink.pending c.args.out.now) (g.E.Sink.pending c.args.err.now)
     c.from_residual.ensures.1
 
 pub returns-in_err-count-clause-settled : goal.returns-in_err-count-clause-settled
-returns-in_err-count-clause-settled g c =
+returns-in_err-count-clause-settled g c = λ input.
     settled_unread c.in_err-count.field-0.0 c.from_residual-in_err-count.result (g.O.Sink.pending c.args.out.now) (g.E.Sink.pending c.args.err.now)
     c.from_residual-in_err-count.ensures.1
+
+pub returns-clause-settled : goal.returns-clause-settled
+returns-clause-settled g c = λ input.
+    settled_where_read c.read_from.result (g.O.Sink.pending c.read_from.new.out) (g.E.Sink.pending c.read_from.new.err)
+    (c.read_from.ensures.settled (input_named (map (value_in (extent_of c.args.w.now.heap)) c.args.vals.now) c.in_ok-file.file
+    (setting_of bare_outside c.args.w.now (g.L.Locals.items c.args.l.now)) input
+    (c.in_ok-file.ensures.found (extent_of c.args.w.now.heap) (setting_of bare_outside c.args.w.now (g.L.Locals.items c.args.l.now)))))

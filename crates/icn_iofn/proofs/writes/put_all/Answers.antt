@@ -1,52 +1,81 @@
-use Rattle.std.proofs.Common.{ap, map, refl, subst, sym}
+-- The arguments are checked, and then put as a line.
+use Rattle.std.proofs.Common.{◌∙◌, ap, map, refl, subst, sym, true}
 use Rattle.std.specs.Prelude.{if◌then◌else◌, []}
 use Rattle.icn_heap.specs.Extents.{value_in}
-use Rattle.icn_heap.specs.Heaps.{extent_of}
+use Rattle.icn_heap.specs.Heaps.{extent_of, heap_of}
 use Rattle.icn_value.specs.Values.{Output, Val}
-use Rattle.icn_defs.specs.InputOutput.{last_of, newline, pieces, puts_line}
-use Rattle.icn_defs.specs.Rows.{Gives, gives_value}
+use Rattle.icn_defs.specs.InputOutput.{last_of, line_put, newline, pieces}
+use Rattle.icn_defs.specs.Rows.{Gives, changes, gives_value}
 use Rattle.icn_value.specs.declared.item.Item.TheVariants.{Val as HeldVal}
 use Rattle.icn_vars.specs.Worlds.{setting_of}
 use Rattle.icn_vars.specs.declared.outcome.Outcome.TheVariants.{Gives as HeldGives}
 use Rattle.icn_streams.specs.Answers.{call_state}
 use Rattle.icn_streams.specs.Handed.{call_streams}
-use Rattle.icn_streams.proofs.RowAnswers.{stops_there}
+use Rattle.icn_streams.proofs.RowAnswers.{applies_same, stops_there}
 use Rattle.icn_iofn.specs.PutPieces.{BrokenBy, outputs}
+use Rattle.icn_iofn.specs.WriteRows.{write_by}
 use Rattle.icn_iofn.proofs.WriteRows.{write_fails, write_wants, wrote_gives}
 use Rattle.icn_iofn.proofs.writes.put_all.Goals as goal
 
+pub put_line-requires-clause-file : goal.put_line-requires-clause-file
+put_line-requires-clause-file g c = record { live = tt }
+
 pub returns-in_err-check_pieces : goal.returns-in_err-check_pieces
-returns-in_err-check_pieces g c = λ left faults.
-    stops_there (pieces (map (value_in (extent_of c.args.w.now.heap)) c.args.vals.now)) (λ parts. puts_line (if c.args.ends then newline else []) Output parts
+returns-in_err-check_pieces g c = λ files left counts.
+    applies_same (write_by c.args.ends (map (value_in (extent_of c.args.w.now.heap)) c.args.vals.now))
+    (pieces (heap_of c.args.w.now.heap) (map (value_in (extent_of c.args.w.now.heap)) c.args.vals.now)
+    (λ parts. changes (line_put (if c.args.ends then newline else []) true parts Output)
+    (gives_value (last_of (map (value_in (extent_of c.args.w.now.heap)) c.args.vals.now)))))
+    (call_state c.args.w.now (g.L.Locals.items c.args.l.now)
+    (call_streams files left counts (g.O.Sink.state c.args.out.now) (g.E.Sink.state c.args.err.now)))
+    (call_state c.args.w.now (g.L.Locals.items c.args.l.now)
+    (call_streams files left counts (g.O.Sink.state c.args.out.now) (g.E.Sink.state c.args.err.now)))
+    c.from_residual.result (λ was. refl)
+    (stops_there (pieces (heap_of c.args.w.now.heap) (map (value_in (extent_of c.args.w.now.heap)) c.args.vals.now))
+    (λ parts. changes (line_put (if c.args.ends then newline else []) true parts Output)
     (gives_value (last_of (map (value_in (extent_of c.args.w.now.heap)) c.args.vals.now))))
-    (call_state c.args.w.now (g.L.Locals.items c.args.l.now) (call_streams left faults (g.O.Sink.state c.args.out.now) (g.E.Sink.state c.args.err.now)))
+    (call_state c.args.w.now (g.L.Locals.items c.args.l.now)
+    (call_streams files left counts (g.O.Sink.state c.args.out.now) (g.E.Sink.state c.args.err.now)))
     c.in_err-check_pieces.field-0.0 c.from_residual.result c.from_residual.ensures.1
-    (λ was. c.in_err-check_pieces.ensures.found (extent_of c.args.w.now.heap) (setting_of was c.args.w.now (g.L.Locals.items c.args.l.now)))
-    (c.in_err-check_pieces.ensures.stops (extent_of c.args.w.now.heap) c.requires.live) c.requires.locals
+    (λ was. c.in_err-check_pieces.ensures.found (setting_of was c.args.w.now (g.L.Locals.items c.args.l.now)))
+    c.in_err-check_pieces.ensures.stops c.requires.locals)
 
 pub returns-in-Ok : goal.returns-in-Ok
-returns-in-Ok g c = λ left faults.
+returns-in-Ok g c = λ files left counts.
     wrote_gives (if c.args.ends then newline else []) Output (map (value_in (extent_of c.args.w.now.heap)) c.args.vals.now)
-    (gives_value (last_of (map (value_in (extent_of c.args.w.now.heap)) c.args.vals.now))) (λ s. refl)
-    (λ s. c.in_ok-check_pieces.ensures.found (extent_of c.args.w.now.heap) s) c.args.w.now (g.L.Locals.items c.args.l.now) left faults
-    (g.O.Sink.state c.args.out.now) (g.O.Sink.state c.put_line.new.out) (g.E.Sink.state c.args.err.now) (g.E.Sink.state c.put_line.new.err) c.requires.locals
-    (HeldGives (HeldVal c.last_of.result)) (λ s. ap (λ v. Gives (Val v) s) (sym (c.last_of.ensures.value (extent_of c.args.w.now.heap)))) c.in-Ok.ensures.ok
-    c.in-Ok.ensures.counts (record { live = record { live = c.last_of.ensures.live (extent_of c.args.w.now.heap) c.requires.live } })
+    (gives_value (last_of (map (value_in (extent_of c.args.w.now.heap)) c.args.vals.now))) (λ s. refl) c.args.w.now c.put_line.new.w
+    (g.L.Locals.items c.args.l.now)
+    c.in_ok-check_pieces.ensures.found files left counts
+    (g.O.Sink.state c.args.out.now) (g.O.Sink.state c.put_line.new.out) (g.E.Sink.state c.args.err.now) (g.E.Sink.state c.put_line.new.err)
+    c.put_line.ensures.kept.locals c.put_line.ensures.kept.items
+    c.in-Ok.ensures.ok c.in-Ok.ensures.counts (HeldGives (HeldVal c.last_of.result))
+    (λ s. ap (λ v. Gives (Val v) s) (sym (c.last_of.ensures.value (extent_of c.args.w.now.heap))
+    ∙ sym (c.put_line.ensures.kept.items.extent.value c.last_of.result (c.last_of.ensures.live (extent_of c.args.w.now.heap) c.requires.live))))
+    (record {
+      live = record {
+        live = c.put_line.ensures.kept.items.extent.live c.last_of.result
+            (c.last_of.ensures.live (extent_of c.args.w.now.heap) c.requires.live);
+      };
+    })
 
 pub returns-in-Err-Failed : goal.returns-in-Err-Failed
-returns-in-Err-Failed g c = λ left faults.
+returns-in-Err-Failed g c = λ files left counts.
     write_fails (if c.args.ends then newline else []) Output (map (value_in (extent_of c.args.w.now.heap)) c.args.vals.now)
-    (gives_value (last_of (map (value_in (extent_of c.args.w.now.heap)) c.args.vals.now))) (λ s. refl)
-    (λ s. c.in_ok-check_pieces.ensures.found (extent_of c.args.w.now.heap) s) c.args.w.now (g.L.Locals.items c.args.l.now) left faults
-    (g.O.Sink.state c.args.out.now) (g.O.Sink.state c.put_line.new.out) (g.E.Sink.state c.args.err.now) (g.E.Sink.state c.put_line.new.err) c.requires.locals
+    (gives_value (last_of (map (value_in (extent_of c.args.w.now.heap)) c.args.vals.now))) (λ s. refl) c.args.w.now c.put_line.new.w
+    (g.L.Locals.items c.args.l.now)
+    c.in_ok-check_pieces.ensures.found files left counts
+    (g.O.Sink.state c.args.out.now) (g.O.Sink.state c.put_line.new.out) (g.E.Sink.state c.args.err.now) (g.E.Sink.state c.put_line.new.err)
+    c.put_line.ensures.kept.locals c.put_line.ensures.kept.items
     c.in-Err-Failed.ensures.err (subst (BrokenBy (outputs (g.O.Sink.state c.args.out.now) (g.E.Sink.state c.args.err.now))
     (outputs (g.O.Sink.state c.put_line.new.out) (g.E.Sink.state c.put_line.new.err))) c.in-Err-Failed.field-0-is c.in-Err-Failed.ensures.cause)
 
 pub returns-in-Err-NoMemory : goal.returns-in-Err-NoMemory
-returns-in-Err-NoMemory g c = λ left faults.
+returns-in-Err-NoMemory g c = λ files left counts.
     write_wants (if c.args.ends then newline else []) Output (map (value_in (extent_of c.args.w.now.heap)) c.args.vals.now)
-    (gives_value (last_of (map (value_in (extent_of c.args.w.now.heap)) c.args.vals.now))) (λ s. refl)
-    (λ s. c.in_ok-check_pieces.ensures.found (extent_of c.args.w.now.heap) s) c.args.w.now (g.L.Locals.items c.args.l.now) left faults
-    (g.O.Sink.state c.args.out.now) (g.O.Sink.state c.put_line.new.out) (g.E.Sink.state c.args.err.now) (g.E.Sink.state c.put_line.new.err) c.requires.locals
+    (gives_value (last_of (map (value_in (extent_of c.args.w.now.heap)) c.args.vals.now))) (λ s. refl) c.args.w.now c.put_line.new.w
+    (g.L.Locals.items c.args.l.now)
+    c.in_ok-check_pieces.ensures.found files left counts
+    (g.O.Sink.state c.args.out.now) (g.O.Sink.state c.put_line.new.out) (g.E.Sink.state c.args.err.now) (g.E.Sink.state c.put_line.new.err)
+    c.put_line.ensures.kept.locals c.put_line.ensures.kept.items
     c.in-Err-NoMemory.ensures.err (subst (BrokenBy (outputs (g.O.Sink.state c.args.out.now) (g.E.Sink.state c.args.err.now))
     (outputs (g.O.Sink.state c.put_line.new.out) (g.E.Sink.state c.put_line.new.err))) c.in-Err-NoMemory.field-0-is c.in-Err-NoMemory.ensures.cause)

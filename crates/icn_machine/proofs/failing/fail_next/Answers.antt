@@ -1,5 +1,5 @@
-use Rattle.std.proofs.Common.{◌≡◌, ◌∙◌, subst, [], rules}
-use Rattle.icn_value.specs.Store.{Names, Outside, outside_of}
+use Rattle.std.proofs.Common.{◌≡◌, ◌∙◌, subst, rules}
+use Rattle.icn_value.specs.Store.{Names, Outside, bare_outside}
 use Rattle.law_names.specs.NamedSettings.{WorldNamed}
 use Rattle.icn_vars.specs.Worlds.{world_of}
 use Rattle.icn_vars.specs.Outcomes.{residual_in}
@@ -23,7 +23,7 @@ fail_once-requires-clause-stands g c = record {
 
 pub fail_once-requires-clause-goes_on : goal.fail_once-requires-clause-goes_on
 fail_once-requires-clause-goes_on g c =
-    (c.requires.ready.0, (outside_of [], never_failed c.requires.ready.0 c.args.m.now c.requires.ready.1.1.kept (outside_of [])))
+    (c.requires.ready.0, (bare_outside, never_failed c.requires.ready.0 c.args.m.now c.requires.ready.1.1.kept bare_outside))
 
 pub begin_again-requires : goal.begin_again-requires
 begin_again-requires g c = record { bounds = (c.fail_once.ensures.sound c.requires.ready.0 c.requires.ready.1.1.sound).bounds }
@@ -56,26 +56,26 @@ pub resume-answer-requires-clause-named : goal.resume-answer-requires-clause-nam
 resume-answer-requires-clause-named g c = record {
   stack_named = (
       let tables = c.requires.ready.0 in
-      let k = kept_seen tables c.args.m.now c.requires.ready.1.1.kept (outside_of []) in
+      let k = kept_seen tables c.args.m.now c.requires.ready.1.1.kept bare_outside in
       subst (λ (n : Names). StackNamed n (stack_seen c.fail_once.new.m)) c.requires.ready.1.0 (c.fail_once.ensures.named.stack (all_names tables) k.named.0).0);
   world_named = (
       let tables = c.requires.ready.0 in
-      let k = kept_seen tables c.args.m.now c.requires.ready.1.1.kept (outside_of []) in
+      let k = kept_seen tables c.args.m.now c.requires.ready.1.1.kept bare_outside in
       subst (λ (n : Names). WorldNamed n (world_of c.fail_once.new.m.world)) c.requires.ready.1.0
-      (c.fail_once.ensures.named.store (all_names tables) tables (outside_of []) k.named.1).world);
+      (c.fail_once.ensures.named.store (all_names tables) tables bare_outside k.named.1).world);
 }
 
 pub resume-answer-requires-clause-rest_named : goal.resume-answer-requires-clause-rest_named
 resume-answer-requires-clause-rest_named g c =
     let tables = c.requires.ready.0 in
-    let k = kept_seen tables c.args.m.now c.requires.ready.1.1.kept (outside_of []) in
+    let k = kept_seen tables c.args.m.now c.requires.ready.1.1.kept bare_outside in
     due_named _ c.fail_once.new.m c.fail_once.result (AfterFailures.Resuming c.in-Resuming.rest) c.in-Resuming.is
     (c.fail_once.ensures.named.stack _ (subst (λ (n : Names). StackNamed n (stack_seen c.args.m.now)) c.requires.ready.1.0 k.named.0)).1
 
 pub end_failing-requires-clause-goes_on : goal.end_failing-requires-clause-goes_on
 end_failing-requires-clause-goes_on g c =
     let tables = c.requires.ready.0 in
-    let o : Outside = outside_of [] in
+    let o : Outside = bare_outside in
     let due : failed tables c.args.m.now o ≡ without_mark flat tables (stack_seen c.fail_once.new.m) (store_seen tables o c.fail_once.new.m)
     = at_due tables o (failed tables c.args.m.now o) c.fail_once.new.m c.fail_once.result AfterFailures.Leaving c.in-Leaving.is
     (c.fail_once.ensures.step tables o) in

@@ -1,6 +1,6 @@
 use Rattle.std.proofs.Common.{rules}
 use Rattle.std.specs.Prelude.{[], map}
-use Rattle.icn_value.specs.Store.{outside_of}
+use Rattle.icn_value.specs.Store.{bare_outside}
 use Rattle.icn_heap.specs.Heaps.{extent_of}
 use Rattle.icn_vars.specs.Worlds.{item_in, reach_of, setting_of}
 use Rattle.icn_frames.specs.Stacks as flat
@@ -81,7 +81,7 @@ returns-in-Ok-clause-named g c =
     named_with c.requires.here.stack.0 names c.args.world.now v c.args.frames.now.flat k _ _ _ c.in_ok-outcome.outcome c.in_ok-outcome.ensures.applies
     c.in_ok-outcome.ensures.stack c.requires.here.stack.1 c.requires.here.stack_named c.in_ok-outcome.ensures.named
     in
-    (c.in-Ok.ensures.named names (extent_of v.heap) (setting_of (outside_of []) v (flat.locals k)) there.stack there.outcome, there.world)
+    (c.in-Ok.ensures.named names (extent_of v.heap) (setting_of bare_outside v (flat.locals k)) there.stack there.outcome, there.world)
 
 pub returns-in-Err-clause-row : goal.returns-in-Err-clause-row
 returns-in-Err-clause-row g c =

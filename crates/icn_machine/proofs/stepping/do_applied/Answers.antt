@@ -1,5 +1,5 @@
-use Rattle.std.proofs.Common.{sym, subst, []}
-use Rattle.icn_value.specs.Store.{outside_of}
+use Rattle.std.proofs.Common.{sym, subst}
+use Rattle.icn_value.specs.Store.{bare_outside}
 use Rattle.icn_code.specs.CodeTables.{tables_of}
 use Rattle.icn_code.specs.declared.instr.Instr.{Instr}
 use Rattle.icn_code.specs.declared.instr.Instr.TheVariants as Instrs
@@ -68,7 +68,7 @@ pub field-requires-clause-operand : goal.field-requires-clause-operand
 field-requires-clause-operand g c = field_operand (tables_of c.args.code.now) c.args.m.now c.args.instr c.in-Field.place c.in-Field.is c.requires.doing
 
 pub field-requires-clause-sizes : goal.field-requires-clause-sizes
-field-requires-clause-sizes g c = c.requires.doing.fits (outside_of [])
+field-requires-clause-sizes g c = c.requires.doing.fits bare_outside
 
 pub invoke-requires-clause-operands : goal.invoke-requires-clause-operands
 invoke-requires-clause-operands g c = invoke_operands (tables_of c.args.code.now) c.args.m.now c.args.instr c.in-Invoke.count c.in-Invoke.is c.requires.doing

@@ -1,5 +1,5 @@
 use Rattle.std.proofs.Common.{[]}
-use Rattle.icn_value.specs.Store.{outside_of}
+use Rattle.icn_value.specs.Store.{bare_outside}
 use Rattle.icn_code.specs.CodeTables.{tables_of}
 use Rattle.icn_control.specs.Machines.{does}
 use Rattle.icn_machine.proofs.DoingSteps.{whole_done}
@@ -19,7 +19,7 @@ pub do_stack_instruction-requires-clause-sound : goal.do_stack_instruction-requi
 do_stack_instruction-requires-clause-sound g c = c.requires.doing.sound
 
 pub do_stack_instruction-requires-clause-goes_on : goal.do_stack_instruction-requires-clause-goes_on
-do_stack_instruction-requires-clause-goes_on g c = ((outside_of []), (c.requires.doing.always (outside_of []) []).goes_on)
+do_stack_instruction-requires-clause-goes_on g c = (bare_outside, (c.requires.doing.always bare_outside []).goes_on)
 
 pub do_stack_instruction-requires-clause-in_range : goal.do_stack_instruction-requires-clause-in_range
 do_stack_instruction-requires-clause-in_range g c = c.requires.doing.in_range
@@ -28,7 +28,7 @@ pub do_stack_instruction-requires-clause-case_mark : goal.do_stack_instruction-r
 do_stack_instruction-requires-clause-case_mark g c = c.requires.doing.mark
 
 pub do_stack_instruction-requires-clause-variables : goal.do_stack_instruction-requires-clause-variables
-do_stack_instruction-requires-clause-variables g c = ((outside_of []), c.requires.doing.variables (outside_of []))
+do_stack_instruction-requires-clause-variables g c = (bare_outside, c.requires.doing.variables bare_outside)
 
 pub returns-clause-step : goal.returns-clause-step
 returns-clause-step g c = c.do_stack_instruction.ensures.step

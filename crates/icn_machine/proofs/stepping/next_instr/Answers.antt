@@ -1,5 +1,5 @@
-use Rattle.std.proofs.Common.{◌≢◌, ap, subst, refl, [], Option, Some}
-use Rattle.icn_value.specs.Store.{Outside, outside_of}
+use Rattle.std.proofs.Common.{◌≢◌, ap, subst, refl, Option, Some}
+use Rattle.icn_value.specs.Store.{Outside, bare_outside}
 use Rattle.icn_code.specs.Codes.{Tables}
 use Rattle.icn_code.specs.CodeTables.{tables_of}
 use Rattle.icn_frames.specs.Stacks.{FlatStack}
@@ -20,7 +20,7 @@ frames-requires g c = c.requires.ready.stack
 pub take_instr-requires : goal.take_instr-requires
 take_instr-requires g c =
     let tables : Tables = (tables_of c.args.code.now) in
-    let o : Outside = outside_of [] in
+    let o : Outside = bare_outside in
     let d = never_running tables c.args.m.now c.requires.ready.kept o in
     record {
       there = instr_within tables _ c.frames.result.now.flat (store_seen tables o c.args.m.now) (subst (λ (x : Option FlatStack). step flat

@@ -37,7 +37,8 @@ returns-then-size-gt0-clause-row g c = λ outside.
     (setting_of outside c.text_of.new.w (g.L.Locals.items c.args.l.now)) (option_map (variable_in (extent_of c.text_of.new.w.heap)) c.text_holder-holder.result)
     (item_in (extent_of c.text_of.new.w.heap) c.part_item.result) c.pick-place.result c.random_step-w.result
     (c.text_length-size.ensures.count ∙ ap length c.in_ok-text.ensures.text) (omega arith) c.random_step-w.ensures.stepped c.pick-place.ensures.picked
-    c.part_item.ensures.item (c.text_holder-holder.ensures.holder (extent_of c.text_of.new.w.heap)) (item_kept c.text_of.ensures.kept.items c.args.x c.requires.item)
+    c.part_item.ensures.item (c.text_holder-holder.ensures.holder (extent_of c.text_of.new.w.heap))
+    (item_kept c.text_of.ensures.kept.items c.args.x c.requires.item)
     (c.text_of.ensures.kept.items.extent.value c.args.val c.requires.val) c.in_ok-text.ensures.text
 
 pub returns-else-size-gt0-clause-row : goal.returns-else-size-gt0-clause-row
@@ -53,7 +54,8 @@ returns-else-size-gt0-clause-row g c = λ outside.
 
 pub part_item-requires-clause-live : goal.part_item-requires-clause-live
 part_item-requires-clause-live g c =
-    c.text_holder-holder.ensures.live (reach_of c.text_of.new.w (g.L.Locals.items c.args.l.now)) (item_stays c.text_of.ensures.kept.items c.args.x c.requires.item)
+    c.text_holder-holder.ensures.live (reach_of c.text_of.new.w (g.L.Locals.items c.args.l.now))
+    (item_stays c.text_of.ensures.kept.items c.args.x c.requires.item)
 
 pub part_item-requires-clause-short : goal.part_item-requires-clause-short
 part_item-requires-clause-short g c = c.text_holder-holder.ensures.short c.requires.short

@@ -105,7 +105,8 @@ returns-in-None-clause-row g c = λ outside.
 
 pub part_item-requires-clause-live : goal.part_item-requires-clause-live
 part_item-requires-clause-live g c =
-    c.text_holder-holder.ensures.live (reach_of c.text_of.new.w (g.L.Locals.items c.args.l.now)) (item_stays c.text_of.ensures.kept.items c.args.x c.requires.item)
+    c.text_holder-holder.ensures.live (reach_of c.text_of.new.w (g.L.Locals.items c.args.l.now))
+    (item_stays c.text_of.ensures.kept.items c.args.x c.requires.item)
 
 pub part_item-requires-clause-short : goal.part_item-requires-clause-short
 part_item-requires-clause-short g c = c.text_holder-holder.ensures.short c.requires.short

@@ -74,7 +74,8 @@ returns-in-Some-clause-row g c = λ outside.
     c.args.val) (value_in (extent_of c.text_of.new.w.heap) c.args.val) (the_text (value_in (extent_of c.args.w.now.heap) c.args.val))
     (text_in (extent_of c.text_of.new.w.heap) c.in_ok-text.text) (option_map (variable_in (extent_of c.text_of.new.w.heap)) c.text_holder-holder.result)
     (item_in (extent_of c.text_of.new.w.heap) c.part_item.result) c.in-Some.place 1 (setting_of outside c.text_of.new.w (g.L.Locals.items c.args.l.now))
-    c.part_item.ensures.item (c.text_holder-holder.ensures.holder (extent_of c.text_of.new.w.heap)) (item_kept c.text_of.ensures.kept.items c.args.x c.requires.item)
+    c.part_item.ensures.item (c.text_holder-holder.ensures.holder (extent_of c.text_of.new.w.heap))
+    (item_kept c.text_of.ensures.kept.items c.args.x c.requires.item)
     (c.text_of.ensures.kept.items.extent.value c.args.val c.requires.val) c.in_ok-text.ensures.text))
 
 pub returns-in-None-clause-row : goal.returns-in-None-clause-row
@@ -96,7 +97,8 @@ returns-in-None-clause-row g c = λ outside.
 
 pub part_item-requires-clause-live : goal.part_item-requires-clause-live
 part_item-requires-clause-live g c =
-    c.text_holder-holder.ensures.live (reach_of c.text_of.new.w (g.L.Locals.items c.args.l.now)) (item_stays c.text_of.ensures.kept.items c.args.x c.requires.item)
+    c.text_holder-holder.ensures.live (reach_of c.text_of.new.w (g.L.Locals.items c.args.l.now))
+    (item_stays c.text_of.ensures.kept.items c.args.x c.requires.item)
 
 pub part_item-requires-clause-short : goal.part_item-requires-clause-short
 part_item-requires-clause-short g c = c.text_holder-holder.ensures.short c.requires.short

@@ -1,6 +1,6 @@
-use Rattle.std.proofs.Common.{◌∙◌, []}
+use Rattle.std.proofs.Common.{◌∙◌}
 use Rattle.icn_value.specs.Values.{Value, Variable, Var}
-use Rattle.icn_value.specs.Store.{outside_of}
+use Rattle.icn_value.specs.Store.{bare_outside}
 use Rattle.icn_defs.specs.ReadAndAssign.{assigns, the_value, the_variable}
 use Rattle.icn_defs.specs.Rows.{UndoAssign, fails, suspends}
 use Rattle.icn_defs.specs.Variables.{reversible_assign_row}
@@ -132,8 +132,8 @@ returns-in-Done-clause-live g c =
             live_value = c.assign.ensures.kept.items.extent.live c.in_ok-old.old c.in_ok-old.ensures.live;
             holds = still_holds (extent_of c.args.w.now.heap) c.args.x c.in_ok-target.target (variable_in (extent_of c.assign.new.w.heap) c.in-Done.variable)
                 (value_in (extent_of c.args.w.now.heap) c.in_ok-old.old) (value_in (extent_of c.assign.new.w.heap) c.in_ok-old.old)
-                (setting_of (outside_of []) c.args.w.now (g.L.Locals.items c.args.l.now)) c.in_ok-target.ensures.item
-                (c.in_ok-old.ensures.value (outside_of [])) holds
+                (setting_of bare_outside c.args.w.now (g.L.Locals.items c.args.l.now)) c.in_ok-target.ensures.item
+                (c.in_ok-old.ensures.value bare_outside) holds
                 (c.assign.ensures.kept.items.extent.value c.in_ok-old.old c.in_ok-old.ensures.live);
           };
         },

@@ -1,6 +1,6 @@
-use Rattle.std.proofs.Common.{◌∙◌, []}
+use Rattle.std.proofs.Common.{◌∙◌}
 use Rattle.icn_value.specs.Values.{Value, Variable, Var}
-use Rattle.icn_value.specs.Store.{outside_of}
+use Rattle.icn_value.specs.Store.{bare_outside}
 use Rattle.icn_defs.specs.ReadAndAssign.{exchanges, mover_of as defined_mover, the_value, the_variable}
 use Rattle.icn_defs.specs.Rows.{UndoExchange, fails, suspends}
 use Rattle.icn_defs.specs.Variables.{reversible_swap_row}
@@ -225,8 +225,8 @@ returns-in-Done-clause-live g c =
               live_value = c.exchange.ensures.kept.items.extent.live c.in_ok-old_left.old_left c.in_ok-old_left.ensures.live;
               holds = still_holds (extent_of c.args.w.now.heap) c.args.x c.in_ok-left.left (variable_in (extent_of c.exchange.new.w.heap) c.in-Done.left)
                   (value_in (extent_of c.args.w.now.heap) c.in_ok-old_left.old_left) (value_in (extent_of c.exchange.new.w.heap) c.in_ok-old_left.old_left)
-                  (setting_of (outside_of []) c.args.w.now (g.L.Locals.items c.args.l.now)) c.in_ok-left.ensures.item
-                  (c.in_ok-old_left.ensures.value (outside_of [])) holds.0
+                  (setting_of bare_outside c.args.w.now (g.L.Locals.items c.args.l.now)) c.in_ok-left.ensures.item
+                  (c.in_ok-old_left.ensures.value bare_outside) holds.0
                   (c.exchange.ensures.kept.items.extent.value c.in_ok-old_left.old_left c.in_ok-old_left.ensures.live);
             },
             record {
@@ -234,8 +234,8 @@ returns-in-Done-clause-live g c =
               live_value = c.exchange.ensures.kept.items.extent.live c.in_ok-old_right.old_right c.in_ok-old_right.ensures.live;
               holds = still_holds (extent_of c.args.w.now.heap) c.args.y c.in_ok-right.right (variable_in (extent_of c.exchange.new.w.heap) c.in-Done.right)
                   (value_in (extent_of c.args.w.now.heap) c.in_ok-old_right.old_right) (value_in (extent_of c.exchange.new.w.heap) c.in_ok-old_right.old_right)
-                  (setting_of (outside_of []) c.args.w.now (g.L.Locals.items c.args.l.now)) c.in_ok-right.ensures.item
-                  (c.in_ok-old_right.ensures.value (outside_of [])) holds.1
+                  (setting_of bare_outside c.args.w.now (g.L.Locals.items c.args.l.now)) c.in_ok-right.ensures.item
+                  (c.in_ok-old_right.ensures.value bare_outside) holds.1
                   (c.exchange.ensures.kept.items.extent.value c.in_ok-old_right.old_right c.in_ok-old_right.ensures.live);
             },
           );

@@ -1,8 +1,8 @@
-use Rattle.std.proofs.Common.{ap, ◌∙◌}
+use Rattle.std.proofs.Common.{ap, ◌∙◌, subst}
 use Rattle.icn_defs.specs.Conversions.{group_of}
 use Rattle.icn_defs.specs.Elements.{elements_of, elements_row}
 use Rattle.icn_defs.specs.ReadAndAssign.{the_value}
-use Rattle.icn_heap.specs.Extents.{value_in}
+use Rattle.icn_heap.specs.Extents.{IsLive, value_in}
 use Rattle.icn_heap.specs.Heaps.{extent_of}
 use Rattle.icn_vars.specs.Worlds.{item_in, setting_of}
 use Rattle.icn_ops.proofs.OtherKinds.{no_file}
@@ -18,7 +18,8 @@ returns-in_err-val g c =
     stops_there (the_value (item_in (extent_of c.args.w.now.heap) c.args.x)) (λ v. elements_of (item_in (extent_of c.args.w.now.heap) c.args.x) v (group_of v))
     (call_state c.args.w.now
     (g.L.Locals.items c.args.l.now) (g.S.Streams.state c.args.streams.now))
-    c.in_err-val.field-0.0 c.from_residual.result c.from_residual.ensures.1 (λ was. c.in_err-val.ensures.value was) c.in_err-val.ensures.stops c.requires.live.locals
+    c.in_err-val.field-0.0 c.from_residual.result c.from_residual.ensures.1 (λ was. c.in_err-val.ensures.value was) c.in_err-val.ensures.stops
+    c.requires.live.locals
 
 pub returns-in-Std : goal.returns-in-Std
 returns-in-Std g c =
@@ -41,6 +42,9 @@ returns-in_default g c =
     (group_of (value_in (extent_of c.args.w.now.heap) c.in_ok-val.val))) c.args.w.now c.elements_of.new.w (g.L.Locals.items c.args.l.now)
     (g.L.Locals.items c.args.l.now) (g.S.Streams.state c.args.streams.now) c.elements_of.result
     (λ was. c.elements_of.ensures.row was) c.elements_of.ensures.live c.elements_of.ensures.kept.locals c.elements_of.ensures.kept.items)
+
+pub lines-requires-clause-live : goal.lines-requires-clause-live
+lines-requires-clause-live g c = subst (IsLive (extent_of c.args.w.now.heap)) c.in-Std.is c.in_ok-val.ensures.live
 
 pub elements_of-requires-clause-no_file : goal.elements_of-requires-clause-no_file
 elements_of-requires-clause-no_file g c = no_file (extent_of c.args.w.now.heap) c.in_ok-val.val c.in_default.not-Std

@@ -6,7 +6,7 @@ use Rattle.icn_prep.proofs.source.included_content.Goals as goal
 
 pub returns-in-Ok-2-clause-exact : goal.returns-in-Ok-2-clause-exact
 returns-in-Ok-2-clause-exact g c =
-    if_some_weaker (g.F.Files.held c.args.files.now)
+    if_some_weaker (g.F.Files.state c.args.files.now).held
     (λ held read.
     let inner = included_there held c.args.depth c.args.name.now read.0 (state_of c.args.reading.now) (cursor_of c.args.cursor.now)
     (omega (arith, c.if-depth-ge-DEEPEST.false)) read.1 in
@@ -15,6 +15,6 @@ returns-in-Ok-2-clause-exact g c =
 
 pub returns-in-Err-NotThere-clause-exact : goal.returns-in-Err-NotThere-clause-exact
 returns-in-Err-NotThere-clause-exact g c =
-    if_some_weaker (g.F.Files.held c.args.files.now) (λ held none. absent_answers held _ c.args.name.now (state_of c.args.reading.now)
+    if_some_weaker (g.F.Files.state c.args.files.now).held (λ held none. absent_answers held _ c.args.name.now (state_of c.args.reading.now)
     (cursor_of c.args.cursor.now) c.refusal-in-Err-NotThere.result none c.refusal-in-Err-NotThere.ensures)
     (c.in-Err-NotThere.ensures.absent (ap Err c.in-Err-NotThere.field-0-is))

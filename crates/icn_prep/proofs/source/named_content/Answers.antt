@@ -4,7 +4,7 @@ use Rattle.icn_prep.proofs.source.named_content.Goals as goal
 
 pub returns-in-Ok-clause-exact : goal.returns-in-Ok-clause-exact
 returns-in-Ok-clause-exact g c =
-    if_some_weaker (g.F.Files.held c.args.files.now)
+    if_some_weaker (g.F.Files.state c.args.files.now).held
     (λ held read.
     let inner = named_there held c.args.name.now read.0 read.1 in
     answers held c.args.name.now c.read.new.into.items c.not_longer.result _ inner.0 read.0 read.1 (read.2 ∙ ap (λ had. had ++ take 16777217 read.0)

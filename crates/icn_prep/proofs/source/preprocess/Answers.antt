@@ -32,7 +32,7 @@ returns-in_err-included-clause-exact g c =
     (cursor_of c.read_lines.new.cursor) _ c.in-Some-stop.at (c.loop-file.invariant.so held told) c.in-Some.ensures.items (rw c.deref.ensures.value at stops) in
     let depth : c.len.result ≡ length c.pop.new.self.items = omega (arith, c.len.ensures, c.pop.new.self.ok.0) in
     let named : c.deref-in-Some-stop.result.now ≡ string_bytes c.in-Some-stop.name = c.deref-in-Some-stop.ensures in
-    let now : g.F.Files.held c.loop-file.files ≡ Some held = c.loop-file.invariant.same ∙ told in
+    let now : (g.F.Files.state c.loop-file.files).held ≡ Some held = c.loop-file.invariant.same ∙ told in
     let answer = some_of _ held _ now c.in_err-included.ensures.exact in
     answered (named_file held c.args.name.now (held c.args.name.now)) _ c.in_err-included.field-0.0 e.0 e.1 e.2
     (including_refused held _ c.pop.new.self.items (cursor_of c.read_lines.new.cursor) (drop c.in-Some-stop.at c.in-Some.file.content.items) (include_file held
@@ -51,7 +51,7 @@ returns-in_err-leave_empty-clause-exact g c =
     (cursor_of c.read_lines.new.cursor) _ c.in-Some-stop.at (c.loop-file.invariant.so held told) c.in-Some.ensures.items (rw c.deref.ensures.value at stops) in
     let depth : c.len.result ≡ length c.pop.new.self.items = omega (arith, c.len.ensures, c.pop.new.self.ok.0) in
     let named : c.deref-in-Some-stop.result.now ≡ string_bytes c.in-Some-stop.name = c.deref-in-Some-stop.ensures in
-    let now : g.F.Files.held c.loop-file.files ≡ Some held = c.loop-file.invariant.same ∙ told in
+    let now : (g.F.Files.state c.loop-file.files).held ≡ Some held = c.loop-file.invariant.same ∙ told in
     let there : held (string_bytes c.in-Some-stop.name)
     ≡ Some c.in_ok-included.included.items = rw named at (some_of _ held _ now c.in_ok-included.ensures.exact) in
     let short : length c.in_ok-included.included.items ≤ 16777216 = omega (arith, c.in_ok-included.ensures.short, c.in_ok-included.included.ok.0) in
@@ -74,7 +74,7 @@ loop-file-preserved-in-Some-stop g c = record {
       (rw c.deref.ensures.value at stops) in
       let depth : c.len.result ≡ length c.pop.new.self.items = omega (arith, c.len.ensures, c.pop.new.self.ok.0) in
       let named : c.deref-in-Some-stop.result.now ≡ string_bytes c.in-Some-stop.name = c.deref-in-Some-stop.ensures in
-      let now : g.F.Files.held c.loop-file.files ≡ Some held = c.loop-file.invariant.same ∙ told in
+      let now : (g.F.Files.state c.loop-file.files).held ≡ Some held = c.loop-file.invariant.same ∙ told in
       let there : held (string_bytes c.in-Some-stop.name)
       ≡ Some c.in_ok-included.included.items = rw named at (some_of _ held _ now c.in_ok-included.ensures.exact) in
       let short : length c.in_ok-included.included.items ≤ 16777216 = omega (arith, c.in_ok-included.ensures.short, c.in_ok-included.included.ok.0) in

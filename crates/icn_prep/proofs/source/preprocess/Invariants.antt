@@ -8,11 +8,12 @@ use Rattle.icn_prep.proofs.source.preprocess.Given as goal
 
 abbrev pub invariant-loop-file : goal.invariant-loop-file
 invariant-loop-file g l = record {
-  so : (held : FileMap) → g.F.Files.held l.fn.files ≡ Some held → StackSo held (named_file held l.name (held l.name)) l.stack.items (state_of l.reading);
-  same : g.F.Files.held l.files ≡ g.F.Files.held l.fn.files;
-  faults : g.F.Files.faults l.files ≡ g.F.Files.faults l.fn.files;
-  wants : g.F.Files.wants l.files ≡ g.F.Files.wants l.fn.files;
-  absences : g.F.Files.absences l.fn.files ≤ g.F.Files.absences l.files;
+  so : (held : FileMap) → (g.F.Files.state l.fn.files).held ≡ Some held
+      → StackSo held (named_file held l.name (held l.name)) l.stack.items (state_of l.reading);
+  same : (g.F.Files.state l.files).held ≡ (g.F.Files.state l.fn.files).held;
+  faults : (g.F.Files.state l.files).counts.faults ≡ (g.F.Files.state l.fn.files).counts.faults;
+  wants : (g.F.Files.state l.files).counts.wants ≡ (g.F.Files.state l.fn.files).counts.wants;
+  absences : (g.F.Files.state l.fn.files).counts.absences ≤ (g.F.Files.state l.files).counts.absences;
   named : All (λ f. f.cursor.file < vec_len l.reading.names) l.stack.items;
   first : slice_get l.reading.names.items 0 ≡ Some l.name;
 }

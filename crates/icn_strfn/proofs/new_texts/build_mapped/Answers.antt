@@ -1,47 +1,37 @@
--- The text that is made is the row's, and where the limit refuses it, that was found before.
-use Rattle.std.proofs.Common.{◌≡◌, ◌∙◌, sym, ap, List, ℕ, length, map, arith}
-use Rattle.std.proofs.lemmas.List.{length-map}
-use Rattle.icn_defs.specs.Rows.{builds}
-use Rattle.icn_heap.specs.Extents.{text_in}
-use Rattle.icn_heap.specs.Heaps.{extent_of}
-use Rattle.icn_vars.specs.Worlds.{setting_of}
-use Rattle.icn_strfn.proofs.RowAnswers.{row_goes_on}
+-- The images make the row's text.
+use Rattle.std.proofs.Common.{◌≡◌, ◌∙◌, List, ℕ, ◌<◌, map, ap, subst}
+use Rattle.std.specs.Prelude.{slice_index}
 use Rattle.icn_defs.specs.Strings.{map_byte}
+use Rattle.icn_heap.specs.Extents.{text_in}
+use Rattle.icn_heap.specs.Heaps.{extent_of, heap_of}
 use Rattle.icn_strfn.specs.TextArguments.{argument_bytes}
-use Rattle.icn_strfn.proofs.TooLong.{too_long}
+use Rattle.icn_strfn.proofs.MadePieces.{gives_as, refuses_as}
+use Rattle.icn_strfn.proofs.MappedBytes.{same_map}
 use Rattle.icn_strfn.proofs.new_texts.build_mapped.Goals as goal
 
-pub returns-then-lacks_room-clause-row : goal.returns-then-lacks_room-clause-row
-returns-then-lacks_room-clause-row g c = λ outside.
-    let text : List ℕ = text_in (extent_of c.args.w.now.heap) c.args.span in
-    let same : length c.bytes.result.now ≡ length text = ap length c.bytes.ensures in
-    let images : ℕ → ℕ = map_byte (argument_bytes (extent_of c.args.w.now.heap) c.args.from) (argument_bytes (extent_of c.args.w.now.heap) c.args.to) in
-    too_long (map images text) (setting_of outside c.args.w.now (g.L.Locals.items c.args.l.now))
-    (omega (arith, c.if-lacks_room.ensures.room, same, length-map text images))
+-- the images of the table are those of the two texts
+table_is : (text from to one two table : List ℕ) → one ≡ from → two ≡ to → ((k : ℕ) → slice_index text k < 256)
+    → ((byte : ℕ) → byte < 256 → slice_index table byte ≡ map_byte one two byte) → map (slice_index table) text ≡ map (map_byte from to) text
+table_is text from to one two table same also small are =
+    same_map (slice_index table) (map_byte from to) text (λ k within. small k)
+    (λ byte below. are byte below ∙ (ap (λ bytes. map_byte bytes two byte) same ∙ ap (λ bytes. map_byte from bytes byte) also))
 
 pub returns-clause-row : goal.returns-clause-row
-returns-clause-row g c = λ outside.
-    row_goes_on (extent_of c.build_text.new.w.heap) (builds (map (map_byte (argument_bytes (extent_of c.args.w.now.heap) c.args.from) (argument_bytes
-    (extent_of c.args.w.now.heap) c.args.to)) (text_in (extent_of c.args.w.now.heap) c.args.span))) (builds c.deref.result.now)
-    (setting_of outside c.args.w.now (g.L.Locals.items c.args.l.now)) (setting_of outside c.args.w.now (g.L.Locals.items c.args.l.now)) (setting_of outside
-    c.build_text.new.w (g.L.Locals.items c.args.l.now)) c.build_text.result
-    (ap (λ (bytes : List ℕ). builds bytes (setting_of outside c.args.w.now (g.L.Locals.items c.args.l.now))) (ap (λ (bytes : List ℕ). map (map_byte
-    (argument_bytes (extent_of c.args.w.now.heap) c.args.from) (argument_bytes (extent_of c.args.w.now.heap) c.args.to)) bytes) (sym c.bytes-2.ensures)
-    ∙ (ap (λ (bytes : List ℕ). map (map_byte bytes (argument_bytes (extent_of c.args.w.now.heap) c.args.to)) c.bytes-2.result.now) (sym c.bytes-3.ensures)
-    ∙ (ap (λ (bytes : List ℕ). map (map_byte c.bytes-3.result.now bytes) c.bytes-2.result.now) (sym c.bytes-4.ensures) ∙ (sym c.in_ok-made.ensures ∙ sym
-    c.deref.ensures.value)))))
-    (c.build_text.ensures.row outside)
-
-pub returns-in_err-made-clause-limits : goal.returns-in_err-made-clause-limits
-returns-in_err-made-clause-limits g c = λ over.
-    let text : List ℕ = text_in (extent_of c.args.w.now.heap) c.args.span in
-    let same : length c.bytes.result.now ≡ length text = ap length c.bytes.ensures in
-    let images : ℕ → ℕ = map_byte (argument_bytes (extent_of c.args.w.now.heap) c.args.from) (argument_bytes (extent_of c.args.w.now.heap) c.args.to) in
-    absurd (omega (arith, over, c.if-lacks_room.ensures.room, same, length-map text images))
+returns-clause-row g c =
+    let all = extent_of c.args.w.now.heap in
+    let text : List ℕ = text_in all c.args.span in
+    let small : (k : ℕ) → slice_index text k < 256 =
+    subst (λ (bytes : List ℕ). (k : ℕ) → slice_index bytes k < 256) c.bytes.ensures c.bytes_are_small.ensures in
+    gives_as c.args.w.now c.build_by_table.new.w (g.L.Locals.items c.args.l.now) _ _ c.build_by_table.result
+    (table_is text (argument_bytes all c.args.from) (argument_bytes all c.args.to) c.bytes-2.result.now c.bytes-3.result.now c.images-table.result
+    c.bytes-2.ensures c.bytes-3.ensures small c.images-table.ensures) c.build_by_table.ensures.row
 
 pub returns-clause-limits : goal.returns-clause-limits
-returns-clause-limits g c = λ over.
-    let text : List ℕ = text_in (extent_of c.args.w.now.heap) c.args.span in
-    let same : length c.bytes.result.now ≡ length text = ap length c.bytes.ensures in
-    let images : ℕ → ℕ = map_byte (argument_bytes (extent_of c.args.w.now.heap) c.args.from) (argument_bytes (extent_of c.args.w.now.heap) c.args.to) in
-    absurd (omega (arith, over, c.if-lacks_room.ensures.room, same, length-map text images))
+returns-clause-limits g c =
+    let all = extent_of c.args.w.now.heap in
+    let text : List ℕ = text_in all c.args.span in
+    let small : (k : ℕ) → slice_index text k < 256 =
+    subst (λ (bytes : List ℕ). (k : ℕ) → slice_index bytes k < 256) c.bytes.ensures c.bytes_are_small.ensures in
+    refuses_as (heap_of c.args.w.now.heap) _ _ c.build_by_table.result
+    (table_is text (argument_bytes all c.args.from) (argument_bytes all c.args.to) c.bytes-2.result.now c.bytes-3.result.now c.images-table.result
+    c.bytes-2.ensures c.bytes-3.ensures small c.images-table.ensures) c.build_by_table.ensures.limits

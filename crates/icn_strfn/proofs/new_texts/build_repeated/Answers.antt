@@ -1,46 +1,28 @@
--- The text that is made is the row's, and where the limit refuses it, that was found before.
-use Rattle.std.proofs.Common.{◌≡◌, ◌∙◌, ◌*◌, sym, ap, List, ℕ, length, replicate, arith}
+-- The piece makes the row's text.
+use Rattle.std.proofs.Common.{List, ℕ, replicate, ap}
 use Rattle.std.specs.List.{concat}
-use Rattle.icn_defs.specs.Rows.{builds}
+use Rattle.icn_strings.specs.declared.piece.StringPiece.TheVariants.{Copies}
 use Rattle.icn_heap.specs.Extents.{text_in}
-use Rattle.icn_heap.specs.Heaps.{extent_of}
-use Rattle.icn_vars.specs.Worlds.{setting_of}
-use Rattle.icn_strfn.proofs.RowAnswers.{row_goes_on}
-use Rattle.icn_strfn.proofs.Fillings.{length-copies}
-use Rattle.icn_strfn.proofs.TooLong.{too_long}
+use Rattle.icn_heap.specs.Heaps.{extent_of, heap_of}
+use Rattle.icn_strfn.proofs.MadePieces.{gives_as, one_is, one_made, refuses_as}
 use Rattle.icn_strfn.proofs.new_texts.build_repeated.Goals as goal
 
-pub returns-then-lacks_copies-clause-row : goal.returns-then-lacks_copies-clause-row
-returns-then-lacks_copies-clause-row g c = λ outside.
-    let text : List ℕ = text_in (extent_of c.args.w.now.heap) c.args.span in
-    let same : length c.bytes.result.now ≡ length text = ap length c.bytes.ensures in
-    let turned : c.args.count * length c.bytes.result.now ≡ c.args.count * length text = ap (λ (k : ℕ). c.args.count * k) same in
-    let whole : length (concat (replicate c.args.count text)) ≡ c.args.count * length text = length-copies c.args.count text in
-    too_long (concat (replicate c.args.count text)) (setting_of outside c.args.w.now (g.L.Locals.items c.args.l.now))
-    (omega (arith, c.if-lacks_copies.ensures, turned, whole))
+pub build_pieces-requires-clause-pieces : goal.build_pieces-requires-clause-pieces
+build_pieces-requires-clause-pieces g c =
+    let all = extent_of c.args.w.now.heap in one_is all.strings (Copies c.held.result c.args.count) (c.held.ensures.of all c.requires.text) tt
 
 pub returns-clause-row : goal.returns-clause-row
-returns-clause-row g c = λ outside.
-    row_goes_on (extent_of c.build_text.new.w.heap) (builds (concat (replicate c.args.count (text_in (extent_of c.args.w.now.heap) c.args.span)))) (builds
-    c.deref.result.now)
-    (setting_of outside c.args.w.now (g.L.Locals.items c.args.l.now)) (setting_of outside c.args.w.now (g.L.Locals.items c.args.l.now)) (setting_of outside
-    c.build_text.new.w (g.L.Locals.items c.args.l.now)) c.build_text.result
-    (ap (λ (bytes : List ℕ). builds bytes (setting_of outside c.args.w.now (g.L.Locals.items c.args.l.now))) (ap (λ (bytes : List ℕ). concat (replicate
-    c.args.count bytes)) (sym c.bytes-2.ensures) ∙ (sym c.in_ok-made.ensures ∙ sym c.deref.ensures.value)))
-    (c.build_text.ensures.row outside)
-
-pub returns-in_err-made-clause-limits : goal.returns-in_err-made-clause-limits
-returns-in_err-made-clause-limits g c = λ over.
-    let text : List ℕ = text_in (extent_of c.args.w.now.heap) c.args.span in
-    let same : length c.bytes.result.now ≡ length text = ap length c.bytes.ensures in
-    let turned : c.args.count * length c.bytes.result.now ≡ c.args.count * length text = ap (λ (k : ℕ). c.args.count * k) same in
-    let whole : length (concat (replicate c.args.count text)) ≡ c.args.count * length text = length-copies c.args.count text in
-    absurd (omega (arith, over, c.if-lacks_copies.ensures, turned, whole))
+returns-clause-row g c =
+    let all = extent_of c.args.w.now.heap in
+    let text : List ℕ = text_in all c.args.span in
+    gives_as c.args.w.now c.build_pieces.new.w (g.L.Locals.items c.args.l.now) _ _ c.build_pieces.result
+    (one_made all.strings (Copies c.held.result c.args.count) (concat (replicate c.args.count text)) (ap (λ (ys : List ℕ). concat (replicate c.args.count ys)) (c.held.ensures.bytes all)))
+    c.build_pieces.ensures.row
 
 pub returns-clause-limits : goal.returns-clause-limits
-returns-clause-limits g c = λ over.
-    let text : List ℕ = text_in (extent_of c.args.w.now.heap) c.args.span in
-    let same : length c.bytes.result.now ≡ length text = ap length c.bytes.ensures in
-    let turned : c.args.count * length c.bytes.result.now ≡ c.args.count * length text = ap (λ (k : ℕ). c.args.count * k) same in
-    let whole : length (concat (replicate c.args.count text)) ≡ c.args.count * length text = length-copies c.args.count text in
-    absurd (omega (arith, over, c.if-lacks_copies.ensures, turned, whole))
+returns-clause-limits g c =
+    let all = extent_of c.args.w.now.heap in
+    let text : List ℕ = text_in all c.args.span in
+    refuses_as (heap_of c.args.w.now.heap) _ _ c.build_pieces.result
+    (one_made all.strings (Copies c.held.result c.args.count) (concat (replicate c.args.count text)) (ap (λ (ys : List ℕ). concat (replicate c.args.count ys)) (c.held.ensures.bytes all)))
+    c.build_pieces.ensures.limits

@@ -30,7 +30,8 @@ returns-clause-kept g c = record {
   items = record {
     extent = c.make_rec.ensures.kept;
     fields = fields_new (1 + length (map (value_in (extent_of c.args.w.now.heap)) c.args.fields.now)) c.args.kind
-        (map (value_in (extent_of c.args.w.now.heap)) c.args.fields.now) (heap_of c.args.w.now.heap) (heap_of c.make_rec.new.self) c.in_ok-make_rec.ensures.step;
+        (map (value_in (extent_of c.args.w.now.heap)) c.args.fields.now) (heap_of c.args.w.now.heap) (heap_of c.make_rec.new.self)
+        c.in_ok-make_rec.ensures.step;
     globals = refl;
     statics = refl;
     locals = refl;

@@ -69,7 +69,8 @@ returns-in-Neither-clause-exchanged g c = rw c.in-Neither.is (λ outside.
     (variable_in (extent_of c.assign.new.w.heap) c.in-Done.now) (value_in (extent_of c.args.w.now.heap) c.args.to_left)
     (value_in (extent_of c.args.w.now.heap) c.args.to_right) (value_in (extent_of c.assign.new.w.heap) c.args.to_right)
     (setting_of outside c.args.w.now (g.L.Locals.items c.args.l.now)) (setting_of outside c.assign.new.w (g.L.Locals.items c.assign.new.l)) (setting_of outside
-    c.assign_right.new.w (g.L.Locals.items c.assign_right.new.l)) c.assign_right.result tt (variable_kept c.assign.ensures.kept.items c.args.right c.requires.right)
+    c.assign_right.new.w (g.L.Locals.items c.assign_right.new.l)) c.assign_right.result tt
+    (variable_kept c.assign.ensures.kept.items c.args.right c.requires.right)
     (c.assign.ensures.kept.items.extent.value c.args.to_right c.requires.to_right) assigned (c.assign_right.ensures.exchanged outside))
 
 pub returns-in-Neither-clause-holds : goal.returns-in-Neither-clause-holds
@@ -89,7 +90,8 @@ returns-in-Right-clause-exchanged g c = rw c.in-Right.is (λ outside.
     (value_in (extent_of c.args.w.now.heap) c.args.to_right) (value_in (extent_of c.assign.new.w.heap) c.args.to_right)
     (setting_of outside c.args.w.now (g.L.Locals.items c.args.l.now)) (setting_of outside c.assign.new.w (g.L.Locals.items c.assign.new.l))
     (setting_of outside c.assign_right-in-Right.new.w (g.L.Locals.items c.assign_right-in-Right.new.l)) c.assign_right-in-Right.result tt
-    (variable_kept c.assign.ensures.kept.items c.args.right c.requires.right) (c.assign.ensures.kept.items.extent.value c.args.to_right c.requires.to_right) assigned
+    (variable_kept c.assign.ensures.kept.items c.args.right c.requires.right)
+    (c.assign.ensures.kept.items.extent.value c.args.to_right c.requires.to_right) assigned
     (c.assign_right-in-Right.ensures.exchanged outside))
 
 pub returns-in-Right-clause-holds : goal.returns-in-Right-clause-holds

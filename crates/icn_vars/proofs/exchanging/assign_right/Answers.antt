@@ -42,8 +42,11 @@ returns-in-To-clause-exchanged g c = rw c.in-Right.is (λ outside.
 
 pub returns-in-To-clause-live : goal.returns-in-To-clause-live
 returns-in-To-clause-live g c =
-    let live = rw c.in-Done.is at c.in_ok-now.ensures.live in
-    (c.in-To.ensures.live (reach_of c.assign.new.w (g.L.Locals.items c.assign.new.l)) (variable_stays c.assign.ensures.kept.items c.args.left c.requires.left), live)
+    let live = rw c.in-Done.is at c.in_ok-now.ensures.live in (
+      c.in-To.ensures.live (reach_of c.assign.new.w (g.L.Locals.items c.assign.new.l))
+          (variable_stays c.assign.ensures.kept.items c.args.left c.requires.left),
+      live,
+    )
 
 pub returns-in-To-clause-holds : goal.returns-in-To-clause-holds
 returns-in-To-clause-holds g c =

@@ -1,6 +1,6 @@
-use Rattle.std.proofs.Common.{sym, ap, Some, []}
+use Rattle.std.proofs.Common.{sym, ap, Some}
 use Rattle.icn_value.specs.declared.val.Val.TheVariants.{Null}
-use Rattle.icn_value.specs.Store.{outside_of}
+use Rattle.icn_value.specs.Store.{bare_outside}
 use Rattle.icn_heap.specs.Heaps.{extent_of, heap_of}
 use Rattle.icn_vars.proofs.ReadValues.{field_there, value_read}
 use Rattle.icn_vars.proofs.reading.read_root.Goals as goal
@@ -30,4 +30,4 @@ returns-in-Local-clause-value g c =
 
 pub returns-in-Keyword-clause-value : goal.returns-in-Keyword-clause-value
 returns-in-Keyword-clause-value g c =
-    rw c.in-Keyword.is (ap Some (sym (c.read_keyword.ensures.value (outside_of []) (g.L.Locals.items c.args.l.now))))
+    rw c.in-Keyword.is (ap Some (sym (c.read_keyword.ensures.value bare_outside (g.L.Locals.items c.args.l.now))))

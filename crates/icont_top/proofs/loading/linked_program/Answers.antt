@@ -11,8 +11,8 @@ use Rattle.icont_top.proofs.loading.linked_program.Goals as goal
 
 pub returns-in-Ok-make-clause-program : goal.returns-in-Ok-make-clause-program
 returns-in-Ok-make-clause-program g c =
-    if_some_intro (g.F.Files.held c.args.files.now) _ (λ held e.
-    let loaded = if_some_elim _ (g.F.Files.held c.args.files.now) held e c.in-Ok-load.ensures.loaded in
+    if_some_intro (g.F.Files.state c.args.files.now).held _ (λ held e.
+    let loaded = if_some_elim _ (g.F.Files.state c.args.files.now).held held e c.in-Ok-load.ensures.loaded in
     let named : files_seen c.deref.result.now ≡ files_named (texts c.args.names.now) = ap files_seen c.deref.ensures.value ∙ c.in-Ok.ensures in
     let load : Load held (files_named (texts c.args.names.now)) (Ok loaded.0) = subst (λ files. Load held files (Ok loaded.0)) named loaded.1.0 in (
       loaded.0,
@@ -31,8 +31,8 @@ returns-in-Ok-make-clause-program g c =
 
 pub returns-in-Ok-load-clause-program : goal.returns-in-Ok-load-clause-program
 returns-in-Ok-load-clause-program g c =
-    if_some_intro (g.F.Files.held c.args.files.now) _ (λ held e.
-    let loaded = if_some_elim _ (g.F.Files.held c.args.files.now) held e c.in-Ok-load.ensures.loaded in
+    if_some_intro (g.F.Files.state c.args.files.now).held _ (λ held e.
+    let loaded = if_some_elim _ (g.F.Files.state c.args.files.now).held held e c.in-Ok-load.ensures.loaded in
     let named : files_seen c.deref.result.now ≡ files_named (texts c.args.names.now) = ap files_seen c.deref.ensures.value ∙ c.in-Ok.ensures in
     no_program_of (Load held (files_named (texts c.args.names.now))) loaded.0 c.in-Err-make.answer
     (subst (λ files. Load held files (Ok loaded.0)) named loaded.1.0)

@@ -13,8 +13,8 @@ use Rattle.icont_top.proofs.loading.translate_sources.Goals as goal
 
 pub returns-in-Ok-ucode_texts-clause-translated : goal.returns-in-Ok-ucode_texts-clause-translated
 returns-in-Ok-ucode_texts-clause-translated g c =
-    if_some_intro (g.F.Files.held c.args.files.now) _ (λ held e.
-    let come = if_some_elim _ (g.F.Files.held c.args.files.now) held e c.in-Ok-load_named.ensures.come in
+    if_some_intro (g.F.Files.state c.args.files.now).held _ (λ held e.
+    let come = if_some_elim _ (g.F.Files.state c.args.files.now).held held e c.in-Ok-load_named.ensures.come in
     let comes : FilesCome held (sources_in (files_named (texts c.args.names.now))) (Ok come.0) =
     subst (λ files. FilesCome held files (Ok come.0)) (ap files_seen c.deref.ensures.value ∙ c.in-Ok.ensures) come.1.0 in
     let names : bases (files_seen c.deref-in-Ok-load_named.result.now) ≡ unit_names (units_of come.0) =

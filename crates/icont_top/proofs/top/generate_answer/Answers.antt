@@ -12,13 +12,13 @@ use Rattle.icont_top.proofs.top.generate_answer.Goals as goal
 
 pub returns-in-Ok-clause-done : goal.returns-in-Ok-clause-done
 returns-in-Ok-clause-done g c words asks =
-    if_some_intro (g.F.Files.held c.args.files.now) _ (λ held e.
+    if_some_intro (g.F.Files.state c.args.files.now).held _ (λ held e.
     let made = c.in-Ok.ensures.program in
     c.image_answer.ensures.done words held made.0 (record { plans = of_number c.args.number c.args.turns (Ok made.0) asks made.1.0; is = made.1.1.1 }) e)
 
 pub returns-in-Err-clause-done : goal.returns-in-Err-clause-done
 returns-in-Err-clause-done g c words asks =
-    if_some_intro (g.F.Files.held c.args.files.now) _ (λ held e.
+    if_some_intro (g.F.Files.state c.args.files.now).held _ (λ held e.
     refused_done c.in-Err.answer c.refuse.result _ _ _ _ _ _ _ (loading_no_image c.in-Err.answer c.in-Err.ensures.others)
     (loading_no_write c.in-Err.answer c.in-Err.ensures.others) (loading_no_read c.in-Err.answer c.in-Err.ensures.others)
     (asked_program (GeneratedComes c.args.number) _ c.in-Err.answer (λ result comes. of_number c.args.number c.args.turns result asks comes)

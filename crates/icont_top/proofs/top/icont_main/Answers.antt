@@ -1,7 +1,6 @@
 use Rattle.std.proofs.Common.{map}
 use Rattle.std.specs.Prelude.{string_bytes}
 use Rattle.std.specs.Option.{option_map}
-use Rattle.icn_answer.specs.FilesRead.{files_state}
 use Rattle.icn_run_answer.proofs.CountCauses.{faultless_of}
 use Rattle.icn_run_answer.proofs.Reports.{line_of_reports}
 use Rattle.icn_answer.proofs.ToldContent.{if_some_elim, if_some_intro}
@@ -15,7 +14,7 @@ use Rattle.icont_top.proofs.top.icont_main.Goals as goal
 
 pub returns-in-Ok-Translate-clause-outcome : goal.returns-in-Ok-Translate-clause-outcome
 returns-in-Ok-Translate-clause-outcome g c =
-    outcome_of (map string_bytes c.args.words.now) c.translate_answer.result _ _ (g.F.Files.held c.args.files.now)
+    outcome_of (map string_bytes c.args.words.now) c.translate_answer.result _ _ (g.F.Files.state c.args.files.now).held
     (c.translate_answer.ensures.done (map string_bytes c.args.words.now) (g.I.Source.left c.args.input.now) (g.I.Source.counts c.args.input.now)
     (g.O.Sink.state c.args.out.now)
     (names_asked (map string_bytes c.args.words.now) Translate c.deref.result.now c.in-Ok-Translate.names.items c.deref.ensures.value
@@ -24,7 +23,7 @@ returns-in-Ok-Translate-clause-outcome g c =
 
 pub returns-in-Ok-Translate-clause-headline : goal.returns-in-Ok-Translate-clause-headline
 returns-in-Ok-Translate-clause-headline g c written =
-    headline_of (map string_bytes c.args.words.now) c.translate_answer.result _ _ (g.F.Files.held c.args.files.now)
+    headline_of (map string_bytes c.args.words.now) c.translate_answer.result _ _ (g.F.Files.state c.args.files.now).held
     (c.translate_answer.ensures.done (map string_bytes c.args.words.now) (g.I.Source.left c.args.input.now) (g.I.Source.counts c.args.input.now)
     (g.O.Sink.state c.args.out.now)
     (names_asked (map string_bytes c.args.words.now) Translate c.deref.result.now c.in-Ok-Translate.names.items c.deref.ensures.value
@@ -33,7 +32,7 @@ returns-in-Ok-Translate-clause-headline g c written =
 
 pub returns-in-Ok-Translate-clause-answered : goal.returns-in-Ok-Translate-clause-answered
 returns-in-Ok-Translate-clause-answered g c =
-    answered_of (map string_bytes c.args.words.now) c.translate_answer.result _ _ (g.F.Files.held c.args.files.now)
+    answered_of (map string_bytes c.args.words.now) c.translate_answer.result _ _ (g.F.Files.state c.args.files.now).held
     (c.translate_answer.ensures.done (map string_bytes c.args.words.now) (g.I.Source.left c.args.input.now) (g.I.Source.counts c.args.input.now)
     (g.O.Sink.state c.args.out.now)
     (names_asked (map string_bytes c.args.words.now) Translate c.deref.result.now c.in-Ok-Translate.names.items c.deref.ensures.value
@@ -42,7 +41,7 @@ returns-in-Ok-Translate-clause-answered g c =
 
 pub returns-in-Ok-Translate-clause-ran : goal.returns-in-Ok-Translate-clause-ran
 returns-in-Ok-Translate-clause-ran g c =
-    ran_of (map string_bytes c.args.words.now) c.translate_answer.result _ _ (g.F.Files.held c.args.files.now)
+    ran_of (map string_bytes c.args.words.now) c.translate_answer.result _ _ (g.F.Files.state c.args.files.now).held
     (c.translate_answer.ensures.done (map string_bytes c.args.words.now) (g.I.Source.left c.args.input.now) (g.I.Source.counts c.args.input.now)
     (g.O.Sink.state c.args.out.now)
     (names_asked (map string_bytes c.args.words.now) Translate c.deref.result.now c.in-Ok-Translate.names.items c.deref.ensures.value
@@ -52,7 +51,7 @@ returns-in-Ok-Translate-clause-ran g c =
 pub returns-in-Ok-Translate-clause-complete : goal.returns-in-Ok-Translate-clause-complete
 returns-in-Ok-Translate-clause-complete g c =
     complete_by (map string_bytes c.args.words.now) c.translate_answer.result _ _ c.one_reading.ensures.one c.one_fault.ensures.one_fault
-    c.one_fault.ensures.no_fault (g.F.Files.held c.args.files.now)
+    c.one_fault.ensures.no_fault (g.F.Files.state c.args.files.now).held
     (c.translate_answer.ensures.done (map string_bytes c.args.words.now) (g.I.Source.left c.args.input.now) (g.I.Source.counts c.args.input.now)
     (g.O.Sink.state c.args.out.now)
     (names_asked (map string_bytes c.args.words.now) Translate c.deref.result.now c.in-Ok-Translate.names.items c.deref.ensures.value
@@ -81,7 +80,7 @@ returns-in-Ok-Translate-clause-command g c =
 
 pub returns-in-Ok-Translate-clause-links : goal.returns-in-Ok-Translate-clause-links
 returns-in-Ok-Translate-clause-links g c =
-    if_some_intro (g.F.Files.held c.args.files.now) _ (λ held e. units_miss c.one_reading.ensures.one (map string_bytes c.args.words.now) (texts
+    if_some_intro (g.F.Files.state c.args.files.now).held _ (λ held e. units_miss c.one_reading.ensures.one (map string_bytes c.args.words.now) (texts
     c.deref.result.now) held
     (names_asked (map string_bytes c.args.words.now) Translate c.deref.result.now c.in-Ok-Translate.names.items c.deref.ensures.value
     (task_asked (map string_bytes c.args.words.now) c.in-Ok-Translate.field-0 (Held.Translate c.in-Ok-Translate.names) c.in-Ok-Translate.field-0-is
@@ -93,7 +92,7 @@ returns-in-Ok-Translate-clause-causes g c =
 
 pub returns-in-Ok-Link-clause-outcome : goal.returns-in-Ok-Link-clause-outcome
 returns-in-Ok-Link-clause-outcome g c =
-    outcome_of (map string_bytes c.args.words.now) c.link_answer.result _ _ (g.F.Files.held c.args.files.now)
+    outcome_of (map string_bytes c.args.words.now) c.link_answer.result _ _ (g.F.Files.state c.args.files.now).held
     (c.link_answer.ensures.done (map string_bytes c.args.words.now) (names_asked (map string_bytes c.args.words.now) (λ names. Link names
     (option_map (λ name. name.now) c.in-Ok-Link.image) (option_map run_seen c.in-Ok-Link.run'))
     c.deref-in-Ok-Link.result.now c.in-Ok-Link.names.items c.deref-in-Ok-Link.ensures.value
@@ -102,7 +101,7 @@ returns-in-Ok-Link-clause-outcome g c =
 
 pub returns-in-Ok-Link-clause-headline : goal.returns-in-Ok-Link-clause-headline
 returns-in-Ok-Link-clause-headline g c written =
-    headline_of (map string_bytes c.args.words.now) c.link_answer.result _ _ (g.F.Files.held c.args.files.now)
+    headline_of (map string_bytes c.args.words.now) c.link_answer.result _ _ (g.F.Files.state c.args.files.now).held
     (c.link_answer.ensures.done (map string_bytes c.args.words.now) (names_asked (map string_bytes c.args.words.now) (λ names. Link names
     (option_map (λ name. name.now) c.in-Ok-Link.image) (option_map run_seen c.in-Ok-Link.run'))
     c.deref-in-Ok-Link.result.now c.in-Ok-Link.names.items c.deref-in-Ok-Link.ensures.value
@@ -111,7 +110,7 @@ returns-in-Ok-Link-clause-headline g c written =
 
 pub returns-in-Ok-Link-clause-answered : goal.returns-in-Ok-Link-clause-answered
 returns-in-Ok-Link-clause-answered g c =
-    answered_of (map string_bytes c.args.words.now) c.link_answer.result _ _ (g.F.Files.held c.args.files.now)
+    answered_of (map string_bytes c.args.words.now) c.link_answer.result _ _ (g.F.Files.state c.args.files.now).held
     (c.link_answer.ensures.done (map string_bytes c.args.words.now) (names_asked (map string_bytes c.args.words.now) (λ names. Link names
     (option_map (λ name. name.now) c.in-Ok-Link.image) (option_map run_seen c.in-Ok-Link.run'))
     c.deref-in-Ok-Link.result.now c.in-Ok-Link.names.items c.deref-in-Ok-Link.ensures.value
@@ -120,7 +119,7 @@ returns-in-Ok-Link-clause-answered g c =
 
 pub returns-in-Ok-Link-clause-ran : goal.returns-in-Ok-Link-clause-ran
 returns-in-Ok-Link-clause-ran g c =
-    ran_of (map string_bytes c.args.words.now) c.link_answer.result _ _ (g.F.Files.held c.args.files.now)
+    ran_of (map string_bytes c.args.words.now) c.link_answer.result _ _ (g.F.Files.state c.args.files.now).held
     (c.link_answer.ensures.done (map string_bytes c.args.words.now) (names_asked (map string_bytes c.args.words.now) (λ names. Link names
     (option_map (λ name. name.now) c.in-Ok-Link.image) (option_map run_seen c.in-Ok-Link.run'))
     c.deref-in-Ok-Link.result.now c.in-Ok-Link.names.items c.deref-in-Ok-Link.ensures.value
@@ -130,7 +129,7 @@ returns-in-Ok-Link-clause-ran g c =
 pub returns-in-Ok-Link-clause-complete : goal.returns-in-Ok-Link-clause-complete
 returns-in-Ok-Link-clause-complete g c =
     complete_by (map string_bytes c.args.words.now) c.link_answer.result _ _ c.one_reading.ensures.one c.one_fault.ensures.one_fault
-    c.one_fault.ensures.no_fault (g.F.Files.held c.args.files.now)
+    c.one_fault.ensures.no_fault (g.F.Files.state c.args.files.now).held
     (c.link_answer.ensures.done (map string_bytes c.args.words.now) (names_asked (map string_bytes c.args.words.now) (λ names. Link names
     (option_map (λ name. name.now) c.in-Ok-Link.image) (option_map run_seen c.in-Ok-Link.run'))
     c.deref-in-Ok-Link.result.now c.in-Ok-Link.names.items c.deref-in-Ok-Link.ensures.value
@@ -155,42 +154,42 @@ returns-in-Ok-Link-clause-command g c =
 
 pub returns-in-Ok-Link-clause-links : goal.returns-in-Ok-Link-clause-links
 returns-in-Ok-Link-clause-links g c =
-    if_some_intro (g.F.Files.held c.args.files.now) _ (λ held e. link_misses c.one_reading.ensures.one (map string_bytes c.args.words.now) (texts
+    if_some_intro (g.F.Files.state c.args.files.now).held _ (λ held e. link_misses c.one_reading.ensures.one (map string_bytes c.args.words.now) (texts
     c.deref-in-Ok-Link.result.now) _ _ held
     (names_asked (map string_bytes c.args.words.now) (λ names. Link names (option_map (λ name. name.now) c.in-Ok-Link.image) (option_map run_seen
     c.in-Ok-Link.run'))
     c.deref-in-Ok-Link.result.now c.in-Ok-Link.names.items c.deref-in-Ok-Link.ensures.value
     (task_asked (map string_bytes c.args.words.now) c.in-Ok-Link.field-0 (Held.Link c.in-Ok-Link.names c.in-Ok-Link.image c.in-Ok-Link.run')
-    c.in-Ok-Link.field-0-is c.in-Ok-Link.ensures)) (if_some_elim _ (g.F.Files.held c.args.files.now) held e c.link_answer.ensures.links))
+    c.in-Ok-Link.field-0-is c.in-Ok-Link.ensures)) (if_some_elim _ (g.F.Files.state c.args.files.now).held held e c.link_answer.ensures.links))
 
 pub returns-in-Ok-Generate-clause-outcome : goal.returns-in-Ok-Generate-clause-outcome
 returns-in-Ok-Generate-clause-outcome g c =
-    outcome_of (map string_bytes c.args.words.now) c.generate_answer.result _ _ (g.F.Files.held c.args.files.now)
+    outcome_of (map string_bytes c.args.words.now) c.generate_answer.result _ _ (g.F.Files.state c.args.files.now).held
     (c.generate_answer.ensures.done (map string_bytes c.args.words.now) (task_asked (map string_bytes c.args.words.now) c.in-Ok-Generate.field-0
     (Held.Generate c.in-Ok-Generate.number c.in-Ok-Generate.turns) c.in-Ok-Generate.field-0-is c.in-Ok-Generate.ensures))
 
 pub returns-in-Ok-Generate-clause-headline : goal.returns-in-Ok-Generate-clause-headline
 returns-in-Ok-Generate-clause-headline g c written =
-    headline_of (map string_bytes c.args.words.now) c.generate_answer.result _ _ (g.F.Files.held c.args.files.now)
+    headline_of (map string_bytes c.args.words.now) c.generate_answer.result _ _ (g.F.Files.state c.args.files.now).held
     (c.generate_answer.ensures.done (map string_bytes c.args.words.now) (task_asked (map string_bytes c.args.words.now) c.in-Ok-Generate.field-0
     (Held.Generate c.in-Ok-Generate.number c.in-Ok-Generate.turns) c.in-Ok-Generate.field-0-is c.in-Ok-Generate.ensures)) written
 
 pub returns-in-Ok-Generate-clause-answered : goal.returns-in-Ok-Generate-clause-answered
 returns-in-Ok-Generate-clause-answered g c =
-    answered_of (map string_bytes c.args.words.now) c.generate_answer.result _ _ (g.F.Files.held c.args.files.now)
+    answered_of (map string_bytes c.args.words.now) c.generate_answer.result _ _ (g.F.Files.state c.args.files.now).held
     (c.generate_answer.ensures.done (map string_bytes c.args.words.now) (task_asked (map string_bytes c.args.words.now) c.in-Ok-Generate.field-0
     (Held.Generate c.in-Ok-Generate.number c.in-Ok-Generate.turns) c.in-Ok-Generate.field-0-is c.in-Ok-Generate.ensures))
 
 pub returns-in-Ok-Generate-clause-ran : goal.returns-in-Ok-Generate-clause-ran
 returns-in-Ok-Generate-clause-ran g c =
-    ran_of (map string_bytes c.args.words.now) c.generate_answer.result _ _ (g.F.Files.held c.args.files.now)
+    ran_of (map string_bytes c.args.words.now) c.generate_answer.result _ _ (g.F.Files.state c.args.files.now).held
     (c.generate_answer.ensures.done (map string_bytes c.args.words.now) (task_asked (map string_bytes c.args.words.now) c.in-Ok-Generate.field-0
     (Held.Generate c.in-Ok-Generate.number c.in-Ok-Generate.turns) c.in-Ok-Generate.field-0-is c.in-Ok-Generate.ensures))
 
 pub returns-in-Ok-Generate-clause-complete : goal.returns-in-Ok-Generate-clause-complete
 returns-in-Ok-Generate-clause-complete g c =
     complete_by (map string_bytes c.args.words.now) c.generate_answer.result _ _ c.one_reading.ensures.one c.one_fault.ensures.one_fault
-    c.one_fault.ensures.no_fault (g.F.Files.held c.args.files.now)
+    c.one_fault.ensures.no_fault (g.F.Files.state c.args.files.now).held
     (c.generate_answer.ensures.done (map string_bytes c.args.words.now) (task_asked (map string_bytes c.args.words.now) c.in-Ok-Generate.field-0
     (Held.Generate c.in-Ok-Generate.number c.in-Ok-Generate.turns) c.in-Ok-Generate.field-0-is c.in-Ok-Generate.ensures))
 
@@ -210,68 +209,62 @@ returns-in-Ok-Generate-clause-command g c =
 
 pub returns-in-Ok-Generate-clause-links : goal.returns-in-Ok-Generate-clause-links
 returns-in-Ok-Generate-clause-links g c =
-    if_some_intro (g.F.Files.held c.args.files.now) _ (λ held e. number_misses c.one_reading.ensures.one (map string_bytes c.args.words.now)
+    if_some_intro (g.F.Files.state c.args.files.now).held _ (λ held e. number_misses c.one_reading.ensures.one (map string_bytes c.args.words.now)
     c.in-Ok-Generate.number c.in-Ok-Generate.turns held
     (task_asked (map string_bytes c.args.words.now) c.in-Ok-Generate.field-0 (Held.Generate c.in-Ok-Generate.number c.in-Ok-Generate.turns)
     c.in-Ok-Generate.field-0-is c.in-Ok-Generate.ensures))
 
 pub returns-in-Err-clause-outcome : goal.returns-in-Err-clause-outcome
 returns-in-Err-clause-outcome g c =
-    outcome_of (map string_bytes c.args.words.now) c.refuse.result _ _ (g.F.Files.held c.args.files.now)
+    outcome_of (map string_bytes c.args.words.now) c.refuse.result _ _ (g.F.Files.state c.args.files.now).held
     (words_done (map string_bytes c.args.words.now) c.in-Err.fault c.words_answer.result c.refuse.result c.words_answer.ensures
-    c.refuse.ensures.line (files_state (g.F.Files.held c.args.files.now) (g.F.Files.faults c.args.files.now) (g.F.Files.wants c.args.files.now)
-    (g.F.Files.absences c.args.files.now)) (g.I.Source.left c.args.input.now) (g.I.Source.counts c.args.input.now) (g.O.Sink.state
+    c.refuse.ensures.line (g.F.Files.state c.args.files.now) (g.I.Source.left c.args.input.now) (g.I.Source.counts c.args.input.now) (g.O.Sink.state
     c.args.out.now)
     c.in-Err.ensures)
 
 pub returns-in-Err-clause-headline : goal.returns-in-Err-clause-headline
 returns-in-Err-clause-headline g c written =
-    headline_of (map string_bytes c.args.words.now) c.refuse.result _ _ (g.F.Files.held c.args.files.now)
+    headline_of (map string_bytes c.args.words.now) c.refuse.result _ _ (g.F.Files.state c.args.files.now).held
     (words_done (map string_bytes c.args.words.now) c.in-Err.fault c.words_answer.result c.refuse.result c.words_answer.ensures
-    c.refuse.ensures.line (files_state (g.F.Files.held c.args.files.now) (g.F.Files.faults c.args.files.now) (g.F.Files.wants c.args.files.now)
-    (g.F.Files.absences c.args.files.now)) (g.I.Source.left c.args.input.now) (g.I.Source.counts c.args.input.now) (g.O.Sink.state
+    c.refuse.ensures.line (g.F.Files.state c.args.files.now) (g.I.Source.left c.args.input.now) (g.I.Source.counts c.args.input.now) (g.O.Sink.state
     c.args.out.now)
     c.in-Err.ensures) written
 
 pub returns-in-Err-clause-answered : goal.returns-in-Err-clause-answered
 returns-in-Err-clause-answered g c =
-    answered_of (map string_bytes c.args.words.now) c.refuse.result _ _ (g.F.Files.held c.args.files.now)
+    answered_of (map string_bytes c.args.words.now) c.refuse.result _ _ (g.F.Files.state c.args.files.now).held
     (words_done (map string_bytes c.args.words.now) c.in-Err.fault c.words_answer.result c.refuse.result c.words_answer.ensures
-    c.refuse.ensures.line (files_state (g.F.Files.held c.args.files.now) (g.F.Files.faults c.args.files.now) (g.F.Files.wants c.args.files.now)
-    (g.F.Files.absences c.args.files.now)) (g.I.Source.left c.args.input.now) (g.I.Source.counts c.args.input.now) (g.O.Sink.state
+    c.refuse.ensures.line (g.F.Files.state c.args.files.now) (g.I.Source.left c.args.input.now) (g.I.Source.counts c.args.input.now) (g.O.Sink.state
     c.args.out.now)
     c.in-Err.ensures)
 
 pub returns-in-Err-clause-ran : goal.returns-in-Err-clause-ran
 returns-in-Err-clause-ran g c =
-    ran_of (map string_bytes c.args.words.now) c.refuse.result _ _ (g.F.Files.held c.args.files.now)
+    ran_of (map string_bytes c.args.words.now) c.refuse.result _ _ (g.F.Files.state c.args.files.now).held
     (words_done (map string_bytes c.args.words.now) c.in-Err.fault c.words_answer.result c.refuse.result c.words_answer.ensures
-    c.refuse.ensures.line (files_state (g.F.Files.held c.args.files.now) (g.F.Files.faults c.args.files.now) (g.F.Files.wants c.args.files.now)
-    (g.F.Files.absences c.args.files.now)) (g.I.Source.left c.args.input.now) (g.I.Source.counts c.args.input.now) (g.O.Sink.state
+    c.refuse.ensures.line (g.F.Files.state c.args.files.now) (g.I.Source.left c.args.input.now) (g.I.Source.counts c.args.input.now) (g.O.Sink.state
     c.args.out.now)
     c.in-Err.ensures)
 
 pub returns-in-Err-clause-complete : goal.returns-in-Err-clause-complete
 returns-in-Err-clause-complete g c =
     complete_by (map string_bytes c.args.words.now) c.refuse.result _ _ c.one_reading.ensures.one c.one_fault.ensures.one_fault
-    c.one_fault.ensures.no_fault (g.F.Files.held c.args.files.now)
+    c.one_fault.ensures.no_fault (g.F.Files.state c.args.files.now).held
     (words_done (map string_bytes c.args.words.now) c.in-Err.fault c.words_answer.result c.refuse.result c.words_answer.ensures
-    c.refuse.ensures.line (files_state (g.F.Files.held c.args.files.now) (g.F.Files.faults c.args.files.now) (g.F.Files.wants c.args.files.now)
-    (g.F.Files.absences c.args.files.now)) (g.I.Source.left c.args.input.now) (g.I.Source.counts c.args.input.now) (g.O.Sink.state
+    c.refuse.ensures.line (g.F.Files.state c.args.files.now) (g.I.Source.left c.args.input.now) (g.I.Source.counts c.args.input.now) (g.O.Sink.state
     c.args.out.now)
     c.in-Err.ensures)
 
 pub returns-in-Err-clause-causes : goal.returns-in-Err-clause-causes
 returns-in-Err-clause-causes g c =
     words_end (map string_bytes c.args.words.now) c.in-Err.fault c.words_answer.result c.refuse.result c.words_answer.ensures c.refuse.ensures.line
-    (g.F.Files.held c.args.files.now) (g.F.Files.faults c.args.files.now) (g.F.Files.wants c.args.files.now) (g.F.Files.absences c.args.files.now)
+    (g.F.Files.state c.args.files.now)
     (g.I.Source.counts c.args.input.now) (g.I.Source.left c.args.input.now) (g.O.Sink.state c.args.out.now)
 
 pub returns-in-Err-clause-faultless : goal.returns-in-Err-clause-faultless
 returns-in-Err-clause-faultless g c =
     faultless_of c.refuse.result (words_end (map string_bytes c.args.words.now) c.in-Err.fault c.words_answer.result c.refuse.result
-    c.words_answer.ensures c.refuse.ensures.line (g.F.Files.held c.args.files.now) (g.F.Files.faults c.args.files.now) (g.F.Files.wants c.args.files.now)
-    (g.F.Files.absences c.args.files.now)
+    c.words_answer.ensures c.refuse.ensures.line (g.F.Files.state c.args.files.now)
     (g.I.Source.counts c.args.input.now) (g.I.Source.left c.args.input.now) (g.O.Sink.state c.args.out.now))
 
 pub returns-in-Err-clause-line : goal.returns-in-Err-clause-line
@@ -291,13 +284,13 @@ returns-in-Err-clause-command g c =
 
 pub returns-in-Err-clause-links : goal.returns-in-Err-clause-links
 returns-in-Err-clause-links g c =
-    if_some_intro (g.F.Files.held c.args.files.now) _ (λ held e. words_miss (map string_bytes c.args.words.now) c.in-Err.fault c.words_answer.result
+    if_some_intro (g.F.Files.state c.args.files.now).held _ (λ held e. words_miss (map string_bytes c.args.words.now) c.in-Err.fault c.words_answer.result
     c.refuse.result c.words_answer.ensures c.refuse.ensures.line
     c.one_reading.ensures.one held c.in-Err.ensures)
 
 pub returns-in-Ok-Translate-clause-written : goal.returns-in-Ok-Translate-clause-written
 returns-in-Ok-Translate-clause-written g c =
-    written_of (map string_bytes c.args.words.now) c.translate_answer.result _ _ (g.F.Files.held c.args.files.now)
+    written_of (map string_bytes c.args.words.now) c.translate_answer.result _ _ (g.F.Files.state c.args.files.now).held
     (c.translate_answer.ensures.done (map string_bytes c.args.words.now) (g.I.Source.left c.args.input.now) (g.I.Source.counts c.args.input.now)
     (g.O.Sink.state c.args.out.now)
     (names_asked (map string_bytes c.args.words.now) Translate c.deref.result.now c.in-Ok-Translate.names.items c.deref.ensures.value
@@ -306,7 +299,7 @@ returns-in-Ok-Translate-clause-written g c =
 
 pub returns-in-Ok-Link-clause-written : goal.returns-in-Ok-Link-clause-written
 returns-in-Ok-Link-clause-written g c =
-    written_of (map string_bytes c.args.words.now) c.link_answer.result _ _ (g.F.Files.held c.args.files.now)
+    written_of (map string_bytes c.args.words.now) c.link_answer.result _ _ (g.F.Files.state c.args.files.now).held
     (c.link_answer.ensures.done (map string_bytes c.args.words.now) (names_asked (map string_bytes c.args.words.now) (λ names. Link names
     (option_map (λ name. name.now) c.in-Ok-Link.image) (option_map run_seen c.in-Ok-Link.run'))
     c.deref-in-Ok-Link.result.now c.in-Ok-Link.names.items c.deref-in-Ok-Link.ensures.value
@@ -315,16 +308,15 @@ returns-in-Ok-Link-clause-written g c =
 
 pub returns-in-Ok-Generate-clause-written : goal.returns-in-Ok-Generate-clause-written
 returns-in-Ok-Generate-clause-written g c =
-    written_of (map string_bytes c.args.words.now) c.generate_answer.result _ _ (g.F.Files.held c.args.files.now)
+    written_of (map string_bytes c.args.words.now) c.generate_answer.result _ _ (g.F.Files.state c.args.files.now).held
     (c.generate_answer.ensures.done (map string_bytes c.args.words.now) (task_asked (map string_bytes c.args.words.now) c.in-Ok-Generate.field-0
     (Held.Generate c.in-Ok-Generate.number c.in-Ok-Generate.turns) c.in-Ok-Generate.field-0-is c.in-Ok-Generate.ensures))
 
 pub returns-in-Err-clause-written : goal.returns-in-Err-clause-written
 returns-in-Err-clause-written g c =
-    written_of (map string_bytes c.args.words.now) c.refuse.result _ _ (g.F.Files.held c.args.files.now)
+    written_of (map string_bytes c.args.words.now) c.refuse.result _ _ (g.F.Files.state c.args.files.now).held
     (words_done (map string_bytes c.args.words.now) c.in-Err.fault c.words_answer.result c.refuse.result c.words_answer.ensures
-    c.refuse.ensures.line (files_state (g.F.Files.held c.args.files.now) (g.F.Files.faults c.args.files.now) (g.F.Files.wants c.args.files.now)
-    (g.F.Files.absences c.args.files.now)) (g.I.Source.left c.args.input.now) (g.I.Source.counts c.args.input.now) (g.O.Sink.state
+    c.refuse.ensures.line (g.F.Files.state c.args.files.now) (g.I.Source.left c.args.input.now) (g.I.Source.counts c.args.input.now) (g.O.Sink.state
     c.args.out.now)
     c.in-Err.ensures)
 

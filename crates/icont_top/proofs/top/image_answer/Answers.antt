@@ -1,30 +1,32 @@
-use Rattle.std.proofs.Common.{◌∙◌, ap, arith, refl, inl}
+use Rattle.std.proofs.Common.{◌∙◌, ap, arith, refl}
 use Rattle.std.specs.Option.{option_map}
 use Rattle.icn_answer.specs.declared.answer.Answer.TheVariants.{Wrote}
-use Rattle.icn_run_answer.proofs.CountCauses.{run_no_absence, run_no_file, torn_ends, written_ends}
+use Rattle.icn_run_answer.proofs.CountCauses.{after_files, run_ends, torn_ends, written_ends}
 use Rattle.icn_run_answer.proofs.OutsideLeft.{leaves_both}
 use Rattle.icn_answer.proofs.NoFaults.{wrote_no_fault}
 use Rattle.icn_answer.proofs.TornAnswers.{is_torn}
 use Rattle.icn_run_answer.proofs.Reports.{own_reports}
-use Rattle.icn_answer.proofs.ToldContent.{if_some_elim, if_some_intro}
 use Rattle.icont_words.specs.Asking.{run_seen}
 use Rattle.icont_top.proofs.AnswersGiven.{said_name}
 use Rattle.icont_top.proofs.CallOutcomes.{image_torn, ran_done, writes_image, writes_part, wrote_done}
-use Rattle.icont_top.proofs.InputLeft.{run_lost}
-use Rattle.icn_answer.proofs.FaultCounts.{counts_if}
 use Rattle.icont_top.proofs.top.image_answer.Goals as goal
 
 pub returns-in-Some-clause-done : goal.returns-in-Some-clause-done
 returns-in-Some-clause-done g c words held members ready e =
-    ran_done _ _ members c.args.plan c.args.program.now (run_seen c.in-Some.asked) c.ran_answer.result _ _ c.one_spelling.ensures.read_back
-    c.same_ends.ensures.on_stacks ready e
+    ran_done _ _ _ _ _ _ members c.args.plan c.args.program.now (run_seen c.in-Some.asked) c.ran_answer.result _ c.one_spelling.ensures.read_back
+    c.same_ends.ensures.on_stacks c.outsides_grow.ensures.on_stacks ready e
     (writes_image _ _ c.args.plan members (said_name c.args.plan.image c.args.program.now.base _ members c.unwrap_or.ensures ready.is.base)
     (c.deref.ensures.value ∙ ready.is.made.bytes) c.in-Ok.ensures.ok)
+    (record {
+      faults = c.in-Ok.ensures.cause.stayed (λ e. cc);
+      wants = c.in-Ok.ensures.want.stayed (λ e. cc);
+      absences = omega (arith, c.in-Ok.ensures.absences);
+    })
     (ap (option_map run_seen) c.in-Some.is) c.ran_answer.ensures.others c.ran_answer.ensures.ran c.ran_answer.ensures.over
 
 pub returns-in-None-clause-done : goal.returns-in-None-clause-done
 returns-in-None-clause-done g c words held members ready e =
-    wrote_done _ _ members c.args.plan c.args.program.now _ c.one_spelling.ensures.read_back c.same_ends.ensures.on_stacks ready e
+    wrote_done _ _ members c.args.plan c.args.program.now _ _ _ _ c.one_spelling.ensures.read_back c.same_ends.ensures.on_stacks ready e
     (writes_image _ _ c.args.plan members (said_name c.args.plan.image c.args.program.now.base _ members c.unwrap_or.ensures ready.is.base)
     (c.deref.ensures.value ∙ ready.is.made.bytes) c.in-Ok.ensures.ok) c.in-None.is
 
@@ -41,23 +43,14 @@ returns-in-Err-clause-reported g c =
 
 pub returns-in-Some-clause-leaves : goal.returns-in-Some-clause-leaves
 returns-in-Some-clause-leaves g c = record {
-  causes = record {
-    file_fault = record {
-      later = c.in-Ok.ensures.cause.later;
-      rose = λ e. absurd (run_no_file c.ran_answer.result c.ran_answer.ensures.others e);
-      stayed = λ _. c.in-Ok.ensures.cause.stayed (λ e. cc);
-    };
-    absence = record {
-      later = omega (arith, c.in-Ok.ensures.absences);
-      rose = λ a. absurd (run_no_absence c.ran_answer.result c.ran_answer.ensures.others a);
-    };
-    file_want = counts_if c.in-Ok.ensures.want.later (inl (c.in-Ok.ensures.want.stayed (λ e. cc)));
-    others = c.ran_answer.ensures.causes;
-    want_alone = inl (c.in-Ok.ensures.want.stayed (λ e. cc));
-  };
-  input = if_some_intro (g.I.Source.left c.args.input.now) _ (λ left d.
-      run_lost c.outsides_grow.ensures.on_stacks (run_seen c.in-Some.asked) left
-      (if_some_elim _ (g.I.Source.left c.args.input.now) left d c.ran_answer.ensures.ran));
+  causes = after_files c.ran_answer.result
+      (record {
+        faults = c.in-Ok.ensures.cause.stayed (λ e. cc);
+        wants = c.in-Ok.ensures.want.stayed (λ e. cc);
+        absences = omega (arith, c.in-Ok.ensures.absences);
+      })
+      (run_ends c.ran_answer.result c.ran_answer.ensures.others c.ran_answer.ensures.causes);
+  input = c.ran_answer.ensures.taken;
   refused = λ none. absurd (none c.ran_answer.ensures.others);
   unread = λ none. absurd (none c.ran_answer.ensures.others);
   uncalled = λ none. absurd (none c.ran_answer.ensures.others);
@@ -65,8 +58,11 @@ returns-in-Some-clause-leaves g c = record {
 
 pub returns-in-None-clause-leaves : goal.returns-in-None-clause-leaves
 returns-in-None-clause-leaves g c =
-    leaves_both refl refl refl (written_ends Wrote wrote_no_fault (λ absent. absent) (c.in-Ok.ensures.cause.stayed (λ e. cc))
-    (c.in-Ok.ensures.want.stayed (λ e. cc)) c.in-Ok.ensures.absences)
+    leaves_both refl refl refl (written_ends Wrote wrote_no_fault (λ absent. absent) (record {
+      faults = c.in-Ok.ensures.cause.stayed (λ e. cc);
+      wants = c.in-Ok.ensures.want.stayed (λ e. cc);
+      absences = omega (arith, c.in-Ok.ensures.absences);
+    }))
 
 pub returns-in-Err-clause-leaves : goal.returns-in-Err-clause-leaves
 returns-in-Err-clause-leaves g c =

@@ -2,7 +2,7 @@ use Rattle.std.proofs.Common.{◌∙◌, inr, Ok, refl}
 use Rattle.icn_answer.specs.declared.answer.Answer.TheVariants.{FileFault, NoMemory}
 use Rattle.icn_answer.proofs.FaultCounts.{err_counts, err_wants}
 use Rattle.icn_run_answer.proofs.CountCauses.{refused_ends, absence_of}
-use Rattle.icn_run_answer.proofs.OutsideLeft.{leaves_after, leaves_both}
+use Rattle.icn_run_answer.proofs.OutsideLeft.{leaves_after, leaves_both, read_kept}
 use Rattle.icn_run_answer.proofs.Reports.{reports_of}
 use Rattle.icn_answer.proofs.ToldContent.{if_some_elim, if_some_intro}
 use Rattle.icn_answer.proofs.TornAnswers.{only_read}
@@ -17,32 +17,32 @@ use Rattle.icont_top.proofs.top.link_answer.Goals as goal
 
 pub returns-in-Ok-clause-done : goal.returns-in-Ok-clause-done
 returns-in-Ok-clause-done g c words asks =
-    if_some_intro (g.F.Files.held c.args.files.now) _ (λ held e.
-    let loaded = if_some_elim _ (g.F.Files.held c.args.files.now) held e c.in-Ok.ensures.program in
-    held_as _ _ (only_read c.in-Ok.ensures.reads) (c.image_answer.ensures.done words held loaded.0
+    if_some_intro (g.F.Files.state c.args.files.now).held _ (λ held e.
+    let loaded = if_some_elim _ (g.F.Files.state c.args.files.now).held held e c.in-Ok.ensures.program in
+    held_as _ _ (only_read c.in-Ok.ensures.reads) e (c.image_answer.ensures.done words held loaded.0
     (record { plans = of_files (texts c.args.names.now) _ _ (Ok loaded.0) asks loaded.1.0; is = loaded.1.1.1 }) (c.in-Ok.ensures.reads.files ∙ e)))
 
 pub returns-in-Err-clause-done : goal.returns-in-Err-clause-done
 returns-in-Err-clause-done g c words asks =
-    if_some_intro (g.F.Files.held c.args.files.now) _ (λ held e.
+    if_some_intro (g.F.Files.state c.args.files.now).held _ (λ held e.
     refused_done c.in-Err.answer c.refuse.result _ _ _ _ _ _ _ (loading_no_image c.in-Err.answer c.in-Err.ensures.others)
     (loading_no_write c.in-Err.answer c.in-Err.ensures.others) (loading_no_read c.in-Err.answer c.in-Err.ensures.others)
     (asked_program (Load held (files_named (texts c.args.names.now))) _ c.in-Err.answer (λ result load. of_files (texts c.args.names.now) _ _ result asks load)
-    (if_some_elim _ (g.F.Files.held c.args.files.now) held e c.in-Err.ensures.program)) c.in-Err.ensures.reads.files c.refuse.ensures.line)
+    (if_some_elim _ (g.F.Files.state c.args.files.now).held held e c.in-Err.ensures.program)) c.in-Err.ensures.reads.files c.refuse.ensures.line)
 
 pub returns-in-Ok-clause-links : goal.returns-in-Ok-clause-links
 returns-in-Ok-clause-links g c =
-    if_some_intro (g.F.Files.held c.args.files.now) _ (λ held e.
-    let loaded = if_some_elim _ (g.F.Files.held c.args.files.now) held e c.in-Ok.ensures.program in
+    if_some_intro (g.F.Files.state c.args.files.now).held _ (λ held e.
+    let loaded = if_some_elim _ (g.F.Files.state c.args.files.now).held held e c.in-Ok.ensures.program in
     λ members load. inr (told_again _ _ _ held (files_named (texts c.args.names.now)) loaded.0 members loaded.1.0 loaded.1.1.0
     c.image_answer.ensures.leaves.causes.absence.later load))
 
 pub returns-in-Err-clause-links : goal.returns-in-Err-clause-links
 returns-in-Err-clause-links g c =
-    if_some_intro (g.F.Files.held c.args.files.now) _ (λ held e. λ members load.
+    if_some_intro (g.F.Files.state c.args.files.now).held _ (λ held e. λ members load.
     given_or_told c.in-Err.answer c.refuse.result c.refuse.ensures.line
     (told_refused _ _ held (files_named (texts c.args.names.now)) c.in-Err.answer members
-    (if_some_elim _ (g.F.Files.held c.args.files.now) held e c.in-Err.ensures.program) load))
+    (if_some_elim _ (g.F.Files.state c.args.files.now).held held e c.in-Err.ensures.program) load))
 
 pub returns-in-Err-clause-reported : goal.returns-in-Err-clause-reported
 returns-in-Err-clause-reported g c = reports_of (loading_no_run c.in-Err.answer c.in-Err.ensures.others) c.refuse.ensures.line
@@ -55,8 +55,7 @@ returns-in-Err-clause-command g c is = no_command c.in-Err.answer c.refuse.resul
 
 pub returns-in-Ok-clause-leaves : goal.returns-in-Ok-clause-leaves
 returns-in-Ok-clause-leaves g c =
-    leaves_after c.image_answer.result (c.in-Ok.ensures.reads.file_fault.stayed (λ e. cc)) (c.in-Ok.ensures.reads.file_want.stayed (λ e. cc))
-    c.in-Ok.ensures.reads.absence.later c.image_answer.ensures.leaves
+    leaves_after c.image_answer.result (read_kept (only_read c.in-Ok.ensures.reads)) c.image_answer.ensures.leaves
 
 pub returns-in-Err-clause-leaves : goal.returns-in-Err-clause-leaves
 returns-in-Err-clause-leaves g c =

@@ -1,3 +1,4 @@
+use Rattle.std.proofs.Common.{arith}
 use Rattle.icn_answer.specs.declared.answer.Answer.TheVariants.{Wrote}
 use Rattle.icn_run_answer.proofs.CountCauses.{torn_ends, written_ends}
 use Rattle.icn_answer.proofs.NoFaults.{wrote_no_fault}
@@ -9,7 +10,7 @@ use Rattle.icont_top.proofs.top.texts_answer.Goals as goal
 
 pub returns-in-Ok-clause-done : goal.returns-in-Ok-clause-done
 returns-in-Ok-clause-done g c words held members left input out is e read h =
-    units_done _ _ members (texts_seen c.args.texts.now) _ is e read h c.in-Ok.ensures.all
+    units_done _ _ members (texts_seen c.args.texts.now) left input out _ is e read h c.in-Ok.ensures.all
 
 pub returns-in-Err-clause-done : goal.returns-in-Err-clause-done
 returns-in-Err-clause-done g c words held members left input out is e read h =
@@ -23,8 +24,11 @@ returns-in-Err-clause-reported g c =
 
 pub returns-in-Ok-clause-causes : goal.returns-in-Ok-clause-causes
 returns-in-Ok-clause-causes g c left input out =
-    written_ends Wrote wrote_no_fault (λ absent. absent) (c.in-Ok.ensures.cause.stayed (λ e. cc)) (c.in-Ok.ensures.want.stayed (λ e. cc))
-    c.in-Ok.ensures.absences
+    written_ends Wrote wrote_no_fault (λ absent. absent) (record {
+      faults = c.in-Ok.ensures.cause.stayed (λ e. cc);
+      wants = c.in-Ok.ensures.want.stayed (λ e. cc);
+      absences = omega (arith, c.in-Ok.ensures.absences);
+    })
 
 pub returns-in-Err-clause-causes : goal.returns-in-Err-clause-causes
 returns-in-Err-clause-causes g c left input out =

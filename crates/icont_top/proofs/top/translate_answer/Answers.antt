@@ -1,7 +1,8 @@
 use Rattle.std.proofs.Common.{◌∙◌, ap}
 use Rattle.icn_answer.specs.declared.answer.Answer.TheVariants.{FileFault, NoMemory}
 use Rattle.icn_answer.proofs.FaultCounts.{err_counts, err_wants}
-use Rattle.icn_run_answer.proofs.CountCauses.{after_read, refused_ends, absence_of}
+use Rattle.icn_run_answer.proofs.CountCauses.{after_files, refused_ends, absence_of}
+use Rattle.icn_run_answer.proofs.OutsideLeft.{read_kept}
 use Rattle.icn_run_answer.proofs.Reports.{reports_of}
 use Rattle.icn_answer.proofs.ToldContent.{if_some_elim, if_some_intro}
 use Rattle.icn_answer.proofs.TornAnswers.{only_read}
@@ -15,19 +16,19 @@ use Rattle.icont_top.proofs.top.translate_answer.Goals as goal
 
 pub returns-in-Ok-clause-done : goal.returns-in-Ok-clause-done
 returns-in-Ok-clause-done g c words left input out asks =
-    if_some_intro (g.F.Files.held c.args.files.now) _ (λ held e.
-    let made = if_some_elim _ (g.F.Files.held c.args.files.now) held e c.in-Ok.ensures.translated in
-    held_as _ _ (only_read c.in-Ok.ensures.reads) (c.texts_answer.ensures.done words held made.0 left input out
+    if_some_intro (g.F.Files.state c.args.files.now).held _ (λ held e.
+    let made = if_some_elim _ (g.F.Files.state c.args.files.now).held held e c.in-Ok.ensures.translated in
+    held_as _ _ (only_read c.in-Ok.ensures.reads) e (c.texts_answer.ensures.done words held made.0 left input out
     (record { names = texts c.args.names.now; asks = asks; come = made.1.0 }) (ap texts_seen c.deref.ensures.value ∙ made.1.1.0) made.1.1.1
     (c.in-Ok.ensures.reads.files ∙ e)))
 
 pub returns-in-Err-clause-done : goal.returns-in-Err-clause-done
 returns-in-Err-clause-done g c words left input out asks =
-    if_some_intro (g.F.Files.held c.args.files.now) _ (λ held e.
+    if_some_intro (g.F.Files.state c.args.files.now).held _ (λ held e.
     refused_done c.in-Err.answer c.refuse.result _ _ left input out _ _ (loading_no_image c.in-Err.answer (of_loading c.in-Err.answer c.in-Err.ensures.others))
     (loading_no_write c.in-Err.answer (of_loading c.in-Err.answer c.in-Err.ensures.others))
     (loading_no_read c.in-Err.answer (of_loading c.in-Err.answer c.in-Err.ensures.others))
-    (units_asked (texts c.args.names.now) c.in-Err.answer asks (if_some_elim _ (g.F.Files.held c.args.files.now) held e c.in-Err.ensures.translated))
+    (units_asked (texts c.args.names.now) c.in-Err.answer asks (if_some_elim _ (g.F.Files.state c.args.files.now).held held e c.in-Err.ensures.translated))
     c.in-Err.ensures.reads.files c.refuse.ensures.line)
 
 pub returns-in-Err-clause-reported : goal.returns-in-Err-clause-reported
@@ -41,8 +42,7 @@ returns-in-Err-clause-command g c is = no_command c.in-Err.answer c.refuse.resul
 
 pub returns-in-Ok-clause-causes : goal.returns-in-Ok-clause-causes
 returns-in-Ok-clause-causes g c left input out =
-    after_read c.texts_answer.result (c.in-Ok.ensures.reads.file_fault.stayed (λ e. cc)) (c.in-Ok.ensures.reads.file_want.stayed (λ e. cc))
-    c.in-Ok.ensures.reads.absence.later (c.texts_answer.ensures.causes left input out)
+    after_files c.texts_answer.result (read_kept (only_read c.in-Ok.ensures.reads)) (c.texts_answer.ensures.causes left input out)
 
 pub returns-in-Err-clause-causes : goal.returns-in-Err-clause-causes
 returns-in-Err-clause-causes g c left input out =

@@ -5,10 +5,10 @@ use Rattle.icont_top.proofs.writing.write_all.Given as goal
 
 abbrev pub invariant-loop-text : goal.invariant-loop-text
 invariant-loop-text g l = record {
-  some : WritesSome (g.F.Files.held l.initial.files) (g.F.Files.held l.files) (texts_seen l.texts) (texts_seen l.rest);
-  faults : g.F.Files.faults l.files ≡ g.F.Files.faults l.initial.files;
-  wants : g.F.Files.wants l.files ≡ g.F.Files.wants l.initial.files;
-  absences : g.F.Files.absences l.files ≡ g.F.Files.absences l.initial.files;
+  some : WritesSome (g.F.Files.state l.initial.files).held (g.F.Files.state l.files).held (texts_seen l.texts) (texts_seen l.rest);
+  faults : (g.F.Files.state l.files).counts.faults ≡ (g.F.Files.state l.initial.files).counts.faults;
+  wants : (g.F.Files.state l.files).counts.wants ≡ (g.F.Files.state l.initial.files).counts.wants;
+  absences : (g.F.Files.state l.files).counts.absences ≡ (g.F.Files.state l.initial.files).counts.absences;
 }
 
 abbrev pub decreases-loop-text : goal.decreases-loop-text

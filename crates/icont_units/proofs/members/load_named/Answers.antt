@@ -7,9 +7,9 @@ use Rattle.icont_units.proofs.members.load_named.Goals as goal
 
 pub returns-in_err-add_file-clause-come : goal.returns-in_err-add_file-clause-come
 returns-in_err-add_file-clause-come g c =
-    if_some_intro (g.F.Files.held c.args.files.now) _ (λ held e.
+    if_some_intro (g.F.Files.state c.args.files.now).held _ (λ held e.
     let so = c.loop-file.invariant.came held e in
-    let read = if_some_elim _ (g.F.Files.held c.loop-file.files) held (c.loop-file.invariant.same ∙ e)
+    let read = if_some_elim _ (g.F.Files.state c.loop-file.files).held held (c.loop-file.invariant.same ∙ e)
     c.in_err-add_file.ensures.read in
     come_passed held (files_seen c.args.named.now) c.in_err-add_file.field-0.0 _ c.from_residual.ensures.1
     (came_refused held (files_seen c.args.named.now) (files_seen (drop c.loop-file.file-index c.args.named.now))
@@ -21,7 +21,7 @@ pub loop-file-preserved : goal.loop-file-preserved
 loop-file-preserved g c = record {
   came = λ held e.
       let so = c.loop-file.invariant.came held e in
-      let read = if_some_elim _ (g.F.Files.held c.loop-file.files) held (c.loop-file.invariant.same ∙ e)
+      let read = if_some_elim _ (g.F.Files.state c.loop-file.files).held held (c.loop-file.invariant.same ∙ e)
       c.in_ok-add_file.ensures.read in
       came_more held (files_seen c.args.named.now) (files_seen (drop c.loop-file.file-index c.args.named.now))
       (files_seen (drop (c.loop-file.file-index + 1) c.args.named.now))
@@ -36,7 +36,7 @@ loop-file-preserved g c = record {
 
 pub returns-clause-come : goal.returns-clause-come
 returns-clause-come g c =
-    if_some_intro (g.F.Files.held c.args.files.now) _ (λ held e.
+    if_some_intro (g.F.Files.state c.args.files.now).held _ (λ held e.
     came_all held (files_seen c.args.named.now) (files_seen (drop c.loop-file.file-index c.args.named.now))
     c.loop-file.members (c.loop-file.invariant.came held e)
     (ap files_seen (drop_all c.loop-file.file-index c.args.named.now c.loop-file-test.false)))

@@ -19,10 +19,10 @@ loop-place-init g c =
             (units_seen c.args.members.now.units.items) (texts_in c.in-Ok.known.keys) first,
       );
       grows =
-          subst (λ known. MembersGrow (g.F.Files.absences c.args.files.now) (g.F.Files.absences c.args.files.now)
+          subst (λ known. MembersGrow (g.F.Files.state c.args.files.now).counts.absences (g.F.Files.state c.args.files.now).counts.absences
           c.args.members.now c.args.members.now
           (with_texts [] (unit_names (units_seen c.args.members.now.units.items))) known []) (sym first)
-          (grows_none (g.F.Files.absences c.args.files.now) c.args.members.now
+          (grows_none (g.F.Files.state c.args.files.now).counts.absences c.args.members.now
           (with_texts [] (unit_names (units_seen c.args.members.now.units.items))));
       same = refl;
       faults = refl;
@@ -31,9 +31,9 @@ loop-place-init g c =
 
 pub returns-in_err-gather_unit-clause-gathered : goal.returns-in_err-gather_unit-clause-gathered
 returns-in_err-gather_unit-clause-gathered g c =
-    if_some_intro (g.F.Files.held c.args.files.now) _ (λ held e before s.
+    if_some_intro (g.F.Files.state c.args.files.now).held _ (λ held e before s.
     let so = c.loop-place.invariant.gathered held e in
-    let sought = if_some_elim _ (g.F.Files.held c.loop-place.files) held (c.loop-place.invariant.same ∙ e)
+    let sought = if_some_elim _ (g.F.Files.state c.loop-place.files).held held (c.loop-place.invariant.same ∙ e)
     c.in_err-gather_unit.ensures.sought in
     let small : c.loop-place.place < length c.loop-place.members.units.items = omega
     (arith, c.loop-place-test.true, c.len.ensures, c.loop-place.members.units.ok.0) in
@@ -50,7 +50,7 @@ loop-place-preserved g c =
     record {
       gathered = λ held e.
           let so = c.loop-place.invariant.gathered held e in
-          let sought = if_some_elim _ (g.F.Files.held c.loop-place.files) held (c.loop-place.invariant.same ∙ e)
+          let sought = if_some_elim _ (g.F.Files.state c.loop-place.files).held held (c.loop-place.invariant.same ∙ e)
           c.in_ok-gather_unit.ensures.sought in
           let next = sought so.1 in (
             gathered_more held c.args.members.now c.loop-place.members c.gather_unit.new.members c.loop-place.place
@@ -58,8 +58,8 @@ loop-place-preserved g c =
             next.1,
           );
       grows =
-          grown_more (g.F.Files.absences c.args.files.now) (g.F.Files.absences c.loop-place.files)
-          (g.F.Files.absences c.gather_unit.new.files) c.args.members.now c.loop-place.members
+          grown_more (g.F.Files.state c.args.files.now).counts.absences (g.F.Files.state c.loop-place.files).counts.absences
+          (g.F.Files.state c.gather_unit.new.files).counts.absences c.args.members.now c.loop-place.members
           c.gather_unit.new.members
           (with_texts [] (unit_names (units_seen c.args.members.now.units.items)))
           (texts_in c.loop-place.known.keys) (texts_in c.gather_unit.new.known.keys) c.loop-place.place
@@ -72,7 +72,7 @@ loop-place-preserved g c =
 
 pub returns-clause-gathered : goal.returns-clause-gathered
 returns-clause-gathered g c =
-    if_some_intro (g.F.Files.held c.args.files.now) _ (λ held e before s.
+    if_some_intro (g.F.Files.state c.args.files.now).held _ (λ held e before s.
     let so = c.loop-place.invariant.gathered held e in
     let end : length c.loop-place.members.units.items ≤ c.loop-place.place = omega
     (arith, c.loop-place-test.false, c.len.ensures, c.loop-place.members.units.ok.0) in
@@ -83,7 +83,7 @@ pub returns-clause-absent : goal.returns-clause-absent
 returns-clause-absent g c =
     let end : length c.loop-place.members.units.items ≤ c.loop-place.place = omega
     (arith, c.loop-place-test.false, c.len.ensures, c.loop-place.members.units.ok.0) in
-    are_sought (g.F.Files.absences c.args.files.now) (g.F.Files.absences c.loop-place.files) c.args.members.now
+    are_sought (g.F.Files.state c.args.files.now).counts.absences (g.F.Files.state c.loop-place.files).counts.absences c.args.members.now
     c.loop-place.members (with_texts [] (unit_names (units_seen c.args.members.now.units.items)))
     (texts_in c.loop-place.known.keys) c.loop-place.place
     (held_end c.loop-place.members.units.items c.loop-place.place end) refl c.loop-place.invariant.grows

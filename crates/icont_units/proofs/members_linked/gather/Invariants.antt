@@ -11,15 +11,15 @@ use Rattle.icont_units.proofs.members_linked.gather.Given as goal
 
 abbrev pub invariant-loop-place : goal.invariant-loop-place
 invariant-loop-place g l = record {
-  gathered : (held : FileMap) → g.F.Files.held l.fn.files ≡ Some held
+  gathered : (held : FileMap) → (g.F.Files.state l.fn.files).held ≡ Some held
       → GatheredSo held l.fn.members l.members l.place
       × Knows (IsAbsent held) (units_seen l.members.units.items) (texts_in l.known.keys);
-  grows : MembersGrow (g.F.Files.absences l.fn.files) (g.F.Files.absences l.files) l.fn.members l.members
+  grows : MembersGrow (g.F.Files.state l.fn.files).counts.absences (g.F.Files.state l.files).counts.absences l.fn.members l.members
       (with_texts [] (unit_names (units_seen l.fn.members.units.items)))
       (texts_in l.known.keys) (flat_map links_of (take l.place (units_seen l.members.units.items)));
-  same : g.F.Files.held l.files ≡ g.F.Files.held l.fn.files;
-  faults : g.F.Files.faults l.files ≡ g.F.Files.faults l.fn.files;
-  wants : g.F.Files.wants l.files ≡ g.F.Files.wants l.fn.files;
+  same : (g.F.Files.state l.files).held ≡ (g.F.Files.state l.fn.files).held;
+  faults : (g.F.Files.state l.files).counts.faults ≡ (g.F.Files.state l.fn.files).counts.faults;
+  wants : (g.F.Files.state l.files).counts.wants ≡ (g.F.Files.state l.fn.files).counts.wants;
 }
 
 abbrev pub decreases-loop-place : goal.decreases-loop-place

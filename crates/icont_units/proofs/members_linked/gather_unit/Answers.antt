@@ -6,8 +6,8 @@ use Rattle.icont_units.proofs.members_linked.gather_unit.Goals as goal
 
 pub returns-clause-sought : goal.returns-clause-sought
 returns-clause-sought g c =
-    if_some_intro (g.F.Files.held c.args.files.now) _ (λ held e knows.
-    let sought = if_some_elim _ (g.F.Files.held c.args.files.now) held e c.gather_bases.ensures.sought in
+    if_some_intro (g.F.Files.state c.args.files.now).held _ (λ held e knows.
+    let sought = if_some_elim _ (g.F.Files.state c.args.files.now).held held e c.gather_bases.ensures.sought in
     subst (λ bases. IsSought held c.args.members.now c.gather_bases.new.members bases
     (texts_in c.gather_bases.new.known.keys) c.gather_bases.result)
     (ap texts_in c.deref-2.ensures.value
@@ -18,8 +18,8 @@ returns-clause-sought g c =
 
 pub returns-clause-grows : goal.returns-clause-grows
 returns-clause-grows g c =
-    subst (λ bases. OnOk c.gather_bases.result (MembersGrow (g.F.Files.absences c.args.files.now)
-    (g.F.Files.absences c.gather_bases.new.files) c.args.members.now c.gather_bases.new.members
+    subst (λ bases. OnOk c.gather_bases.result (MembersGrow (g.F.Files.state c.args.files.now).counts.absences
+    (g.F.Files.state c.gather_bases.new.files).counts.absences c.args.members.now c.gather_bases.new.members
     (texts_in c.args.known.now.keys) (texts_in c.gather_bases.new.known.keys) bases))
     (ap texts_in c.deref-2.ensures.value
     ∙ unit_links c.args.members.now.units.items c.args.place c.index.result.now c.deref.result.now _

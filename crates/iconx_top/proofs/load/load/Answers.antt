@@ -5,7 +5,8 @@ use Rattle.iconx_top.proofs.Absences.{judged_absences, missing_absences}
 use Rattle.iconx_top.proofs.load.load.Goals as goal
 
 pub returns-in-Ok-clause-loaded : goal.returns-in-Ok-clause-loaded
-returns-in-Ok-clause-loaded g c = loaded (g.F.Files.held c.args.files.now) c.args.name.now c.new-bytes.result.items c.deref.result.now c.read.new.into.items
+returns-in-Ok-clause-loaded g c = loaded
+    (g.F.Files.state c.args.files.now).held c.args.name.now c.new-bytes.result.items c.deref.result.now c.read.new.into.items
     c.judge.result c.new-bytes.ensures.items c.deref.ensures.value c.in-Ok.ensures.ok c.judge.ensures.judged
 
 pub returns-in-Ok-clause-others : goal.returns-in-Ok-clause-others

@@ -1,4 +1,4 @@
-use Rattle.std.proofs.Common.{◌∙◌, refl}
+use Rattle.std.proofs.Common.{◌∙◌, arith, refl}
 use Rattle.icn_code.specs.CodeTables.{tables_of}
 use Rattle.icn_answer.specs.declared.answer.Answer.TheVariants.{Wrote}
 use Rattle.icn_answer.proofs.FaultCounts.{no_cause, unmoved, unwanted}
@@ -36,8 +36,11 @@ returns-in-Ok-write-clause-answered g c words held asked e =
 
 pub returns-in-Ok-write-clause-causes : goal.returns-in-Ok-write-clause-causes
 returns-in-Ok-write-clause-causes g c left input out =
-    written_ends Wrote wrote_no_fault (λ absent. absent) (c.in-Ok-write.ensures.cause.stayed (λ e. cc)) (c.in-Ok-write.ensures.want.stayed (λ e. cc))
-    c.in-Ok-write.ensures.absences
+    written_ends Wrote wrote_no_fault (λ absent. absent) (record {
+      faults = c.in-Ok-write.ensures.cause.stayed (λ e. cc);
+      wants = c.in-Ok-write.ensures.want.stayed (λ e. cc);
+      absences = omega (arith, c.in-Ok-write.ensures.absences);
+    })
 
 -- It was not written whole
 

@@ -1,8 +1,7 @@
-use Rattle.std.proofs.Common.{[]}
-use Rattle.icn_value.specs.Store.{outside_of}
+use Rattle.icn_value.specs.Store.{bare_outside}
 use Rattle.test_structures.proofs.NamesKept.{key_comes}
 use Rattle.test_structures.proofs.calls.next.Goals as goal
 
 pub returns-in-Table-clause-named : goal.returns-in-Table-clause-named
 returns-in-Table-clause-named c =
-    key_comes c.args.w.now c.args.l.now.vals.items _ _ c.key_again.result c.requires.named (c.key_again.ensures.row (outside_of []))
+    key_comes c.args.w.now c.args.l.now.vals.items _ _ c.key_again.result c.requires.named (c.key_again.ensures.row bare_outside)

@@ -1,24 +1,8 @@
-use Rattle.std.proofs.Common.{◌≡◌, ◌∙◌, ℕ, ◌+◌, ◌-◌, ◌++◌, take, drop, ap, arith}
-use Rattle.std.specs.Prelude.{vec_len}
-use Rattle.icn_strings.proofs.AddedBytes.{did, came, room_behind}
+use Rattle.std.proofs.Common.{arith}
+use Rattle.icn_strings.proofs.HeldRanges.{lies}
 use Rattle.icn_strings.proofs.chunk.Chunk.add_part.Goals as goal
 
-pub unwrap-requires : goal.unwrap-requires
-unwrap-requires c = c.extend_from_within.ensures.succeeds (omega (arith, c.requires.room))
-
-pub returns-clause-bytes : goal.returns-clause-bytes
-returns-clause-bytes c =
-    let old = c.args.self.now in
-    let from : ℕ = c.args.range.start - old.first in
-    let len : (from + c.args.range.len) - from ≡ c.args.range.len = omega arith in
-    did c.extend_from_within.result _ _ _ _ c.unwrap.ensures c.extend_from_within.ensures.items
-    ∙ ap (λ n. old.bytes.items ++ take n (drop from old.bytes.items)) len
-
-pub returns-clause-room : goal.returns-clause-room
-returns-clause-room c count room =
-    let old = c.args.self.now in
-    let from : ℕ = c.args.range.start - old.first in
-    let len : (from + c.args.range.len) - from ≡ c.args.range.len = omega arith in
-    room_behind _ _ _ _ _ count
-    (came c.extend_from_within.result _ c.unwrap.ensures c.extend_from_within.ensures.len ∙ ap (λ n. vec_len old.bytes + n) len)
-    c.extend_from_within.ensures.capacity room
+pub add_again-requires-clause-within : goal.add_again-requires-clause-within
+add_again-requires-clause-within c =
+    let lay = lies c.args.range c.args.self.now c.requires.holds in
+    omega (arith, lay.from, lay.to)

@@ -1,6 +1,5 @@
 use Rattle.std.proofs.Common.{◌≡◌, ◌∙◌, ◌++◌, refl}
 use Rattle.icn_strings.proofs.AddedBytes.{written_more, sound_more}
-use Rattle.icn_strings.proofs.KeptRegions.{keeps_more}
 use Rattle.icn_strings.proofs.region.Region.add.Goals as goal
 
 pub invariant_of-self : goal.invariant_of-self
@@ -15,16 +14,17 @@ invariant_of-self c =
           c.add.ensures.first c.add.ensures.bytes whole c.requires.short;
     }
 
-pub returns-clause-written : goal.returns-clause-written
-returns-clause-written c =
+pub returns : goal.returns
+returns c =
     let old = c.args.self.now in
-    c.up_to-self.ensures
-    ∙ written_more old.written.bytes c.args.bytes.now old.last c.add.new.self old.sound.ends c.add.ensures.first c.add.ensures.bytes
-
-pub returns-clause-kept : goal.returns-clause-kept
-returns-clause-kept c =
-    let old = c.args.self.now in
-    keeps_more c.args.bytes.now refl c.add.ensures.first c.add.ensures.bytes
-    (c.up_to-self.ensures
-    ∙ written_more old.written.bytes c.args.bytes.now old.last c.add.new.self old.sound.ends c.add.ensures.first c.add.ensures.bytes)
-    refl
+    record {
+      closed = refl;
+      first = c.add.ensures.first;
+      bytes = c.add.ensures.bytes;
+      written =
+          c.up_to-self.ensures
+          ∙ written_more old.written.bytes c.args.bytes.now old.last c.add.new.self old.sound.ends c.add.ensures.first c.add.ensures.bytes;
+      room = c.add.ensures.room;
+      sum = refl;
+      limit = refl;
+    }

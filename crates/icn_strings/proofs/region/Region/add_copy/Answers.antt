@@ -5,7 +5,7 @@ use Rattle.icn_strings.specs.declared.region.Region.{Region}
 use Rattle.icn_strings.specs.Chunks.{AreHeld, EndsBefore, HasItsPart}
 use Rattle.icn_strings.specs.Regions.{IsHeld, bytes_of}
 use Rattle.icn_strings.proofs.AddedBytes.{written_more, sound_more}
-use Rattle.icn_strings.proofs.KeptRegions.{keeps_more, bytes_are}
+use Rattle.icn_strings.proofs.KeptRegions.{bytes_are}
 use Rattle.icn_strings.proofs.region.Region.add_copy.Goals as goal
 
 agree : (region : Region) {cs : List Chunk} → cs ≡ region.closed.items → All (HasItsPart region.written.bytes) cs
@@ -32,23 +32,22 @@ invariant_of-self c =
     record {
       sound =
           sound_more old.written.bytes c.up_to-self.result.bytes more old.closed.items old.last new old.sum old.limit old.sound
-          c.copy_behind.ensures.first bytes whole (omega (arith, bytes_are old c.args.range c.requires.of, c.requires.short));
+          c.copy_behind.ensures.first bytes whole (omega (arith, bytes_are old c.args.range c.requires.of, c.requires.can.short));
     }
 
-pub returns-clause-written : goal.returns-clause-written
+pub returns : goal.returns
 unfolding bytes_of
-returns-clause-written c =
-    let old = c.args.self.now in
-    let bytes = c.copy_behind.ensures.bytes old.written.bytes (agree old c.deref.ensures.value) old.sound.ends in
-    c.up_to-self.ensures
-    ∙ written_more old.written.bytes (bytes_of old c.args.range) old.last c.copy_behind.new.last old.sound.ends c.copy_behind.ensures.first bytes
-
-pub returns-clause-kept : goal.returns-clause-kept
-unfolding bytes_of
-returns-clause-kept c =
+returns c =
     let old = c.args.self.now in
     let more = bytes_of old c.args.range in
-    let bytes = c.copy_behind.ensures.bytes old.written.bytes (agree old c.deref.ensures.value) old.sound.ends in
-    keeps_more more refl c.copy_behind.ensures.first bytes
-    (c.up_to-self.ensures ∙ written_more old.written.bytes more old.last c.copy_behind.new.last old.sound.ends c.copy_behind.ensures.first bytes)
-    refl
+    let bytes : c.copy_behind.new.last.bytes.items ≡ old.last.bytes.items ++ more =
+    c.copy_behind.ensures.bytes old.written.bytes (agree old c.deref.ensures.value) old.sound.ends in
+    record {
+      closed = refl;
+      first = c.copy_behind.ensures.first;
+      bytes = bytes;
+      written = c.up_to-self.ensures ∙ written_more old.written.bytes more old.last c.copy_behind.new.last old.sound.ends c.copy_behind.ensures.first bytes;
+      room = λ count room. c.copy_behind.ensures.room count (omega (arith, room, bytes_are old c.args.range c.requires.of));
+      sum = refl;
+      limit = refl;
+    }

@@ -1,0 +1,10 @@
+pub mod WrittenSteps
+pub mod StoreCalls
+pub mod OpenSteps
+pub mod OpenRows
+pub mod CloseSteps
+pub mod NewFiles
+pub mod NamedTexts
+pub mod CsetModes
+pub mod FoundContent
+pub mod LookedUp

@@ -1,0 +1,3 @@
+pub mod OpenParts
+pub mod WrittenFiles
+pub mod ClosedFiles

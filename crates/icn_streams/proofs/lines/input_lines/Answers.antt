@@ -1,0 +1,33 @@
+-- Both outputs are settled, and then a line is read.
+use Rattle.std.proofs.Common.{None}
+use Rattle.icn_host.specs.FileMaps.{store_counts, store_state}
+use Rattle.icn_defs.specs.Lines.{lines_row}
+use Rattle.icn_value.specs.Values.{Input}
+use Rattle.icn_streams.specs.Answers.{call_state}
+use Rattle.icn_streams.specs.Handed.{call_streams}
+use Rattle.icn_streams.proofs.SettledRows.{behind_settling, lines_quiet, settling_stops, unsettled_stops}
+use Rattle.icn_streams.proofs.lines.input_lines.Goals as goal
+
+pub returns-in_err-settle-clause-row : goal.returns-in_err-settle-clause-row
+returns-in_err-settle-clause-row g c = λ files.
+    settling_stops (lines_row Input) lines_quiet c.args.w.now (g.L.Locals.items c.args.l.now)
+    (call_streams files (g.I.Source.left c.args.input.now) (g.I.Source.counts c.args.input.now) (g.O.Sink.state c.args.out.now) (g.E.Sink.state c.args.err.now))
+    (call_streams files (g.I.Source.left c.args.input.now) (g.I.Source.counts c.args.input.now) (g.O.Sink.state c.settle.new.out)
+    (g.E.Sink.state c.settle.new.err))
+    c.in_err-settle.field-0.0 c.from_residual.result c.from_residual.ensures.1 (c.in_err-settle.ensures.settles _ _ _) c.requires
+
+pub returns-clause-row : goal.returns-clause-row
+returns-clause-row g c = λ files.
+    behind_settling (lines_row Input) c.args.w.now (g.L.Locals.items c.args.l.now)
+    (call_streams files (g.I.Source.left c.args.input.now) (g.I.Source.counts c.args.input.now) (g.O.Sink.state c.args.out.now) (g.E.Sink.state c.args.err.now))
+    (call_streams files (g.I.Source.left c.args.input.now) (g.I.Source.counts c.args.input.now) (g.O.Sink.state c.settle.new.out)
+    (g.E.Sink.state c.settle.new.err))
+    (call_state c.next_line.new.w (g.L.Locals.items c.args.l.now) (call_streams files (g.I.Source.left c.next_line.new.input)
+    (g.I.Source.counts c.next_line.new.input) (g.O.Sink.state c.settle.new.out) (g.E.Sink.state c.settle.new.err)))
+    c.next_line.result (c.in_ok-settle.ensures.settles _ _ _) (c.next_line.ensures _ _ _)
+
+pub returns-in_err-settle-clause-settled : goal.returns-in_err-settle-clause-settled
+returns-in_err-settle-clause-settled g c =
+    unsettled_stops _ _ c.in_err-settle.field-0.0 c.from_residual.result (g.O.Sink.pending c.settle.new.out) (g.E.Sink.pending c.settle.new.err)
+    c.from_residual.ensures.1 (c.in_err-settle.ensures.settles (store_state None (store_counts 0 0 0)) (g.I.Source.left c.args.input.now)
+    (g.I.Source.counts c.args.input.now))
