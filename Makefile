@@ -22,6 +22,7 @@ test:
 	@for example in examples/*.icn; do cmp $$example crates/test_program/data/$${example##*/} || exit 1; done
 	python3 tools/names.py
 	python3 tools/type_names.py
+	python3 tools/libraries.py
 	python3 tools/places.py --check
 	python3 tools/file_lists.py --check
 	python3 tools/links.py

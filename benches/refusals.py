@@ -3,8 +3,8 @@
 
 The programs are the built ones, over real files and pipes. A small library in C, which is compiled here and loaded in front of the
 system's, refuses the growth of one number (a call of `malloc` or `realloc`) and counts them all. The jobs are a program that counts
-words, translated and run; the same run from its image; one translated to ucode; one linked from ucode and run; and one with a
-co-expression.
+words, translated and run; the same run from its image; one translated to ucode; one linked from ucode and run; one with a
+co-expression; and one that makes so many texts that memory is given back.
 
 A command of which a growth is refused answers `no memory`, with status 5. Its output is a first part of what it puts with enough memory;
 each file that it writes is whole or not there, an old one of that name stays as it was until then, nothing is left lying beside, and all
@@ -66,8 +66,19 @@ TRANSFERS = """procedure main()
    "b" @ c
 end
 """
+GIVEN_BACK = """procedure main()
+   local i, s, kept
+   kept := []
+   every i := 1 to 400 do {
+      s := repl("0123456789", 200) || i
+      if i % 40 = 0 then put(kept, s[-4:0])
+   }
+   every writes(!kept, " ")
+end
+"""
 INPUT = "to be or not to be\n"
 COUNTED = "to 2\nbe 2\nor 1\nnot 1\n"
+KEPT = "8940 8980 9120 9160 9200 9240 9280 9320 9360 9400 "
 
 # What each job begins with (a source, and commands that make its other files), its command, its output, and the files that it writes.
 JOBS = [
@@ -77,6 +88,7 @@ JOBS = [
     ("from ucode", HELLO, [["icont", "-c", "f.icn"]], ["icont", "f.u1", "-x"], "hi\n", ["f"]),
     ("over an old image", HELLO, [["icont", "f.icn"]], ["icont", "f.icn", "-x"], "hi\n", ["f"]),
     ("a co-expression", TRANSFERS, [], ["icont", "f.icn", "-x"], "a\ngot b\n", ["f"]),
+    ("memory given back", GIVEN_BACK, [["icont", "f.icn"]], ["iconx", "f"], KEPT, []),
     ("a new image", HELLO, [["icont", "f.icn"]], ["iconx", "-m", "new", "f"], "", ["new"]),
 ]
 

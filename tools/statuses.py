@@ -1,4 +1,5 @@
-"""Runs both programs as they are built, once for each status, and compares status, output and error output, each by itself.
+"""Runs both programs as they are built, once for each status, and compares status, output and error output, each by itself. One run reads
+ten million lines in little memory.
 
 python3 tools/statuses.py ICONT ICONX
 
@@ -22,6 +23,7 @@ PROGRAMS = {
     "errs": 'write("out"); write("a" + 1)',
     "loops": 'write("out"); repeat {}',
     "fills": 'L := []; write("out"); every put(L, 1 to 3000000)',
+    "reads": "n := 0; while line := read() do n +:= *line; write(n)",
     "broken": "break",
 }
 REPORT = 'Run-time error 102\nnumeric expected\noffending value: "a"\n'
@@ -63,12 +65,31 @@ COMMANDS = [
     ("iconx", ["new"], 7, "out\n", ""),
 ]
 
+# A thousand lines of 18 bytes, how often they are read by a program that keeps none of them, and the most bytes of memory that it may have.
+LINES = b"".join(b"line %013d\n" % number for number in range(1000))
+TIMES = 10_000
+LITTLE = 8_000_000
+
 
 def run(words, folder, text="", memory=None, output=subprocess.PIPE, errors=subprocess.PIPE):
     """The status, the output and the error output of a command."""
     limit = (lambda: resource.setrlimit(resource.RLIMIT_AS, (memory, memory))) if memory else None
     done = subprocess.run(words, cwd=folder, input=text.encode(), stdout=output, stderr=errors, preexec_fn=limit, timeout=60, check=False)
     return done.returncode, (done.stdout or b"").decode(), (done.stderr or b"").decode()
+
+
+def run_over_lines(iconx, folder):
+    """The status and the output of a program that reads many lines, in little memory."""
+    limit = lambda: resource.setrlimit(resource.RLIMIT_AS, (LITTLE, LITTLE))
+    with subprocess.Popen([iconx, "reads"], cwd=folder, stdin=subprocess.PIPE, stdout=subprocess.PIPE, preexec_fn=limit) as reader:
+        try:
+            for _ in range(TIMES):
+                reader.stdin.write(LINES)
+            reader.stdin.close()
+        except BrokenPipeError:
+            pass
+        output = reader.stdout.read().decode()
+    return reader.returncode, output
 
 
 def told(what, got, want):
@@ -99,6 +120,8 @@ def main():
             others += told(f"iconx {name}, both outputs in one", got, want)
         for name, words, *want in COMMANDS:
             others += told(f"{name} {' '.join(words)}", run([programs[name], *words], folder), tuple(want))
+        run([programs["icont"], "reads.icn"], folder)
+        others += told("iconx reads", run_over_lines(programs["iconx"], folder), (0, f"{TIMES * (len(LINES) - 1000)}\n"))
         with open("/dev/full", "wb") as full:
             words = [programs["iconx"], "seven"]
             others += told("iconx into a full device", run(words, folder, output=full), (2, "", ""))

@@ -6,6 +6,7 @@ pub mod CoexpressionsHold
 pub mod ErrorsHold
 pub mod FailuresHold
 pub mod LibraryHold
+pub mod NamedHold
 pub mod BoundedHold
 pub mod ReadingsHold
 pub mod JoiningsHold

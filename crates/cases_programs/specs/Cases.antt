@@ -160,19 +160,21 @@ just c = record {
   levels = c.bounds.levels;
 }
 
--- the run of the code on flat stacks
+-- the run of the code on flat stacks, in which no text names a procedure that is not kept
 abbrev pub on_flat : ProgramCase → Tables → Bounds → Option Observation
 on_flat c tables bounds =
     Step.observation
-    (Flat.steps tables c.steps (Flat.start tables (launch_of c.words bounds c.input no_files)))
+    (Flat.steps tables c.steps
+    (Flat.start_hiding tables (program c.files).hidden (launch_of c.words bounds c.input no_files)))
 
--- the run of the code on linked marks
+-- such a run on linked marks
 abbrev pub on_linked : ProgramCase → Tables → Bounds → Option Observation
 on_linked c tables bounds =
     let repeats = repeats_of tables in
     Step.observation
     (Linked.steps repeats tables c.steps
-    (Linked.start repeats tables (launch_of c.words bounds c.input no_files)))
+    (Linked.start_hiding repeats tables (program c.files).hidden
+    (launch_of c.words bounds c.input no_files)))
 
 -- where none of it was needed the run ends as ever
 abbrev pub short : ℕ → Ending → Ending → Option Ending

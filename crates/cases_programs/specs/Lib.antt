@@ -9,6 +9,7 @@ pub mod Coexpressions
 pub mod Errors
 pub mod Failures
 pub mod Library
+pub mod Named
 pub mod Bounded
 pub mod Readings
 pub mod Joinings

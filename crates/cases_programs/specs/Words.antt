@@ -1,8 +1,9 @@
 -- Words for the trees of programs.
 use Prim.Native.String.{String}
-use Rattle.std.specs.Prelude.{ℕ, pos, false, true, Bool, List, [], ◌∷◌, codes, map}
+use Rattle.std.specs.Prelude.{ℕ, pos, false, Bool, List, [], ◌∷◌, codes, map}
 use Rattle.icn_tree.specs.declared.token.Operator.{Operator}
 use Rattle.icn_tree.specs.declared.token.Operator.TheVariants.{Assign}
+use Rattle.icn_tree.specs.declared.tree.DeclItem.TheVariants as Items
 use Rattle.icn_tree.specs.declared.tree.Place.{Place}
 use Rattle.icn_tree.specs.declared.tree.Name.{Name}
 use Rattle.icn_tree.specs.declared.tree.Literal.TheVariants as Literals
@@ -206,6 +207,10 @@ globals names = T.Global here (map name_at_one names)
 -- `record x(a, ..)`
 abbrev pub kind : String → List String → Declaration
 kind x fields = T.Record here (name_at_one x) (map name_at_one fields)
+
+-- `invocable "x", ..`
+abbrev pub invocable : List String → Declaration
+invocable names = T.Invocable here (map (λ text. Items.Text (name_at_one text)) names)
 
 -- `local x, ..`
 abbrev pub locals : List String → LocalDecl

@@ -9,6 +9,7 @@ ghost use Rattle.cases_programs.specs.Generators.{generators};
 ghost use Rattle.cases_programs.specs.Joinings.{HasItsCode, joinings};
 ghost use Rattle.cases_programs.specs.Library.{library};
 ghost use Rattle.cases_programs.specs.Loops.{loops};
+ghost use Rattle.cases_programs.specs.Named.{named_calls};
 ghost use Rattle.cases_programs.specs.Plain.{plain};
 ghost use Rattle.cases_programs.specs.Readings.{Reads, readings};
 ghost use Rattle.cases_programs.specs.Scans.{scans};
@@ -51,6 +52,11 @@ pub fn failures()
 /// Reading, structures and functions in programs.
 pub fn library()
     ensures { AllByRecursion Holds library }
+{}
+
+/// Calls by name, and procedures that nothing needs.
+pub fn named_calls()
+    ensures { AllByRecursion Holds named_calls }
 {}
 
 /// Small programs under each bound of turns.

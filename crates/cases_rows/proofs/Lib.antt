@@ -6,5 +6,6 @@ pub mod StructuredHold
 pub mod AssignedHold
 pub mod OutsideHold
 pub mod OpenedFilesHold
+pub mod NamedHold
 pub mod LimitedHold
 pub mod ReportedHold

@@ -64,6 +64,8 @@ names =
     record {
       procedures = codes "main" ∷ codes "abs" ∷ [];
       records = codes "point" ∷ codes "pair" ∷ codes "point" ∷ [];
+      arguments = pos 0 ∷ negsuc 1 ∷ pos 2 ∷ pos 2 ∷ pos 1 ∷ [];
+      hidden = [];
     }
 
 -- two lists, three sets, two tables, three records, a co-expression beside `&main`, and four opened files: one

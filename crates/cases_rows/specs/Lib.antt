@@ -7,5 +7,6 @@ pub mod Structured
 pub mod Assigned
 pub mod Outside
 pub mod OpenedFiles
+pub mod Named
 pub mod Limited
 pub mod Reported

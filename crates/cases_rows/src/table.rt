@@ -4,6 +4,7 @@ ghost use Rattle.cases_rows.specs.Assigned.{variables};
 ghost use Rattle.cases_rows.specs.Cases.{CaseHolds};
 ghost use Rattle.cases_rows.specs.Compared.{comparisons};
 ghost use Rattle.cases_rows.specs.Limited.{limits};
+ghost use Rattle.cases_rows.specs.Named.{named_values};
 ghost use Rattle.cases_rows.specs.Numbers.{arithmetic};
 ghost use Rattle.cases_rows.specs.OpenedFiles.{opened_files};
 ghost use Rattle.cases_rows.specs.Outside.{input_and_output};
@@ -50,6 +51,11 @@ pub fn input_and_output()
 /// Each case of opened files does.
 pub fn opened_files()
     ensures { AllByRecursion CaseHolds opened_files }
+{}
+
+/// Each case of names and of numbers of arguments does.
+pub fn named_values()
+    ensures { AllByRecursion CaseHolds named_values }
 {}
 
 /// Each case that comes to a limit does.

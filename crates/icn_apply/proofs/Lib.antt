@@ -2,4 +2,5 @@ pub mod NameLists
 mod NamesStay
 mod SizesStay
 mod InPlace
-mod HaltedRows
+mod ProcedureRows
+mod RuleCounts

@@ -1,6 +1,6 @@
 pub mod CodeNaming
 pub mod AppliedRows
-pub mod HaltedAnswers
 pub mod NamesAfter
+pub mod ResumedFunctions
 pub mod SizesAfter
 pub mod Undoing

@@ -6,16 +6,18 @@ ghost use Rattle.icn_defs.specs.Applying.{function_of, function_row};
 ghost use Rattle.icn_heap.specs.Extents.{IsLive, value_in};
 ghost use Rattle.icn_heap.specs.Heaps.{extent_of, heap_of};
 ghost use Rattle.icn_convert.specs.ProgramNames.{IsNamed};
-ghost use Rattle.law_names.specs.NamedSettings.{HeapNamed, ItemNamed, SettingNamed};
+ghost use Rattle.law_names.specs.NamedSettings.{HeapNamed, ItemNamed, SettingNamed, ValueNamed};
+ghost use Rattle.icn_vars.specs.Outcomes.{answer_of};
 ghost use Rattle.icn_vars.specs.Worlds.{IsLiveItem, item_in, reach_of, setting_of};
 ghost use Rattle.icn_streams.specs.Answers.{call_state};
 ghost use Rattle.icn_streams.specs.Applies.{Applies};
-ghost use Rattle.icn_apply.specs.HaltedAnswers.{as_answer};
 ghost use Rattle.icn_apply.specs.NamesAfter.{AnswerNamed};
+ghost use Rattle.icn_apply.specs.ResumedFunctions.{GivesOneAtMost};
 ghost use Rattle.icn_apply.specs.SizesAfter.{AnswerKeepsSizes};
 
 use crate::errors::errorclear_row;
-use icn_args::{ValueOutcome, values_of};
+use crate::naming::{args_row, proc_row};
+use icn_args::values_of;
 use icn_convert::Names;
 use icn_iofn::exit;
 use icn_scanfn::{
@@ -29,7 +31,7 @@ use icn_strfn::{
 };
 use icn_text::Func;
 use icn_value::{Item, Val};
-use icn_vars::{Halt, Locals, Outcome, Stop, World};
+use icn_vars::{Halt, Locals, Outcome, ValueOutcome, World};
 
 /// Applies a function to items. `Halt` is the run-time error of its row, the end of the program by `exit`, a reading or a
 /// writing or a call of the store of files that failed, or want of memory.
@@ -75,35 +77,67 @@ fn apply_to_values<L: Locals, N: Names, S: Streams>(
         (call_state w.new (L.items l.now) (S.state streams.new)) result }
 {
     match func {
-        Func::Abs => as_answer(abs_row(w, l, vals)),
+        // What may be resumed is answered at once.
+        Func::Bal => return bal_row(w, l, vals),
+        Func::Find => return find_row(w, l, vals),
+        Func::Key => return icn_structfn::key(w, l, vals),
+        Func::Move => return move_row(w, l, vals),
+        Func::Seq => return seq_row(w, l, vals),
+        Func::Tab => return tab_row(w, l, vals),
+        Func::Upto => return upto_row(w, l, vals),
+        _ => {}
+    }
+    as_answer(value_answer(func, vals, w, l, names, streams))
+}
+
+// Applies a function that gives a value at most.
+fn value_answer<L: Locals, N: Names, S: Streams>(
+    func: Func,
+    vals: &[Val],
+    w: &mut World,
+    l: &L,
+    names: &N,
+    streams: &mut S,
+) -> Result<ValueOutcome, Halt>
+    requires locals { All (IsLive (extent_of w.old.heap)) (L.items l.now) }
+    requires vals { All (IsLive (extent_of w.old.heap)) vals.now }
+    requires named { All (IsNamed (N.known names.now)) vals.now }
+    requires heap_named { HeapNamed (N.known names.now) (heap_of w.old.heap) }
+    requires once { GivesOneAtMost func }
+    ensures { Applies (function_of (N.known names.now) func (map (value_in (extent_of w.old.heap)) vals.now))
+        (call_state w.old (L.items l.now) (S.state streams.old))
+        (call_state w.new (L.items l.now) (S.state streams.new)) (answer_of result) }
+{
+    match func {
+        Func::Abs => abs_row(w, l, vals),
         Func::Any => any_row(w, l, vals),
-        Func::Bal => bal_row(w, l, vals),
-        Func::Center => as_answer(field_row(w, l, Layout::Center, vals)),
-        Func::Char => as_answer(char_row(w, l, vals)),
+        Func::Bal => unreachable!(),
+        Func::Center => field_row(w, l, Layout::Center, vals),
+        Func::Char => char_row(w, l, vals),
         Func::Copy => icn_structfn::copy(w, l, vals),
-        Func::Cset => as_answer(cset_row(w, l, vals)),
+        Func::Cset => cset_row(w, l, vals),
         Func::Delete => icn_structfn::delete(w, l, vals),
         Func::Exit => exit(&w.heap, vals),
-        Func::Find => find_row(w, l, vals),
+        Func::Find => unreachable!(),
         Func::Get => icn_structfn::get(w, l, vals),
-        Func::Iand => as_answer(iand_row(w, l, vals)),
-        Func::Icom => as_answer(icom_row(w, l, vals)),
-        Func::Image => as_answer(image_row(names, w, l, vals)),
+        Func::Iand => iand_row(w, l, vals),
+        Func::Icom => icom_row(w, l, vals),
+        Func::Image => image_row(names, w, l, vals),
         Func::Insert => icn_structfn::insert(w, l, vals),
-        Func::Integer => as_answer(integer_row(w, l, vals)),
-        Func::Ior => as_answer(ior_row(w, l, vals)),
-        Func::Ishift => as_answer(ishift_row(w, l, vals)),
-        Func::Ixor => as_answer(ixor_row(w, l, vals)),
-        Func::Key => icn_structfn::key(w, l, vals),
-        Func::Left => as_answer(field_row(w, l, Layout::Left, vals)),
+        Func::Integer => integer_row(w, l, vals),
+        Func::Ior => ior_row(w, l, vals),
+        Func::Ishift => ishift_row(w, l, vals),
+        Func::Ixor => ixor_row(w, l, vals),
+        Func::Key => unreachable!(),
+        Func::Left => field_row(w, l, Layout::Left, vals),
         Func::List => icn_structfn::list(w, l, vals),
         Func::Many => many_row(w, l, vals),
-        Func::Map => as_answer(map_row(w, l, vals)),
+        Func::Map => map_row(w, l, vals),
         Func::Match => match_row(w, l, vals),
         Func::Member => icn_structfn::member(w, l, vals),
-        Func::Move => move_row(w, l, vals),
-        Func::Numeric => as_answer(integer_row(w, l, vals)),
-        Func::Ord => as_answer(ord_row(w, l, vals)),
+        Func::Move => unreachable!(),
+        Func::Numeric => integer_row(w, l, vals),
+        Func::Ord => ord_row(w, l, vals),
         Func::Pop => icn_structfn::get(w, l, vals),
         Func::Pos => pos_row(w, l, vals),
         Func::Pull => icn_structfn::pull(w, l, vals),
@@ -111,34 +145,62 @@ fn apply_to_values<L: Locals, N: Names, S: Streams>(
         Func::Put => icn_structfn::put(w, l, vals),
         Func::Read => streams.read(vals, w, l),
         Func::Reads => streams.reads(vals, w, l),
-        Func::Repl => as_answer(repl_row(w, l, vals)),
-        Func::Reverse => as_answer(reverse_row(w, l, vals)),
-        Func::Right => as_answer(field_row(w, l, Layout::Right, vals)),
-        Func::Seq => seq_row(w, l, vals),
+        Func::Repl => repl_row(w, l, vals),
+        Func::Reverse => reverse_row(w, l, vals),
+        Func::Right => field_row(w, l, Layout::Right, vals),
+        Func::Seq => unreachable!(),
         Func::Set => icn_structfn::set(w, l, vals),
         Func::Sort => icn_structfn::sort(w, l, names, vals),
         Func::Stop => streams.stop(vals, w, l),
-        Func::String => as_answer(string_row(w, l, vals)),
-        Func::Tab => tab_row(w, l, vals),
+        Func::String => string_row(w, l, vals),
+        Func::Tab => unreachable!(),
         Func::Table => icn_structfn::table(w, l, vals),
-        Func::Trim => as_answer(trim_row(w, l, vals)),
-        Func::TypeOf => as_answer(type_row(names, w, l, vals)),
-        Func::Upto => upto_row(w, l, vals),
+        Func::Trim => trim_row(w, l, vals),
+        Func::TypeOf => type_row(names, w, l, vals),
+        Func::Upto => unreachable!(),
         Func::Write => streams.write(vals, w, l),
         Func::Writes => streams.writes(vals, w, l),
         Func::ErrorClear => errorclear_row(w, l),
         Func::Open => streams.open_file(vals, w, l),
         Func::Close => streams.close_file(vals, w, l),
+        Func::Proc => proc_row(names, w, l, vals),
+        Func::Args => args_row(names, w, l, vals),
     }
 }
 
-// What a row answers that gives a value at most, and neither ends the program nor meets a fault, as an answer that could.
-fn as_answer(answer: Result<ValueOutcome, Stop>) -> Result<Outcome, Halt>
-    ensures { result ≡ as_answer answer }
+/// Applies a function that gives a value at most to the values of its arguments; one that is missing is null. The errors are those
+/// of `apply`.
+#[inline(always)]
+pub fn function_answer<L: Locals, N: Names, S: Streams>(
+    func: Func,
+    vals: &[Val],
+    w: &mut World,
+    l: &L,
+    names: &N,
+    streams: &mut S,
+) -> Result<ValueOutcome, Halt>
+    requires locals { All (IsLive (extent_of w.old.heap)) (L.items l.now) }
+    requires vals { All (IsLive (extent_of w.old.heap)) vals.now }
+    requires named { SettingNamed (N.known names.now) (setting_of bare_outside w.old (L.items l.now)) }
+    requires vals_named { All (ValueNamed (N.known names.now))
+        (map (value_in (extent_of w.old.heap)) vals.now) }
+    requires once { GivesOneAtMost func }
+    ensures applies { Applies (function_of (N.known names.now) func
+        (map (value_in (extent_of w.old.heap)) vals.now))
+        (call_state w.old (L.items l.now) (S.state streams.old))
+        (call_state w.new (L.items l.now) (S.state streams.new)) (answer_of result) }
+    ensures named { AnswerNamed (N.known names.now) w.new (L.items l.now) (answer_of result) }
+    ensures sized { AnswerKeepsSizes w.old w.new (answer_of result) }
+{
+    value_answer(func, vals, w, l, names, streams)
+}
+
+// What a row answers that gives a value at most, as an answer that could suspend.
+fn as_answer(answer: Result<ValueOutcome, Halt>) -> Result<Outcome, Halt>
+    ensures { result ≡ answer_of answer }
 {
     match answer {
         Ok(given) => Ok(given.outcome()),
-        Err(Stop::Error(number, offending)) => Err(Halt::Error(number, offending)),
-        Err(Stop::NoMemory) => Err(Halt::NoMemory),
+        Err(halt) => Err(halt),
     }
 }

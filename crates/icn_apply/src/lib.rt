@@ -7,7 +7,9 @@ mod code_names;
 mod errors;
 mod functions;
 mod names;
+mod naming;
 
 pub use applied::Applied;
 pub use applying::{again, apply};
 pub use code_names::CodeNames;
+pub use functions::function_answer;

@@ -10,7 +10,8 @@ use Rattle.icn_vars.specs.declared.outcome.Halt.{Halt}
 use Rattle.icn_vars.specs.declared.outcome.Halt.TheVariants.{Error as ErrorHalt, Ends as EndsHalt, ReadFault, WriteFault, FileFault, NoMemory as NoMemoryHalt}
 use Rattle.icn_vars.specs.declared.stop.Stop.{Stop}
 use Rattle.icn_vars.specs.declared.stop.Stop.TheVariants.{Error, NoMemory}
-use Rattle.icn_vars.specs.Outcomes.{ComesToAnswer, HaltsRow, IsLiveAnswer, IsLiveHalt}
+use Rattle.icn_vars.specs.declared.outcome.ValueOutcome.{ValueOutcome}
+use Rattle.icn_vars.specs.Outcomes.{ComesToAnswer, HaltsRow, IsLiveAnswer, IsLiveHalt, answer_of}
 use Rattle.icn_vars.specs.Stops.{IsLiveStop, StopsFinding, StopsPassing, halt_of}
 use Rattle.icn_vars.specs.Worlds.{Reach}
 use Rattle.icn_args.specs.RowWords.{IsFound, IsPassed}
@@ -65,6 +66,31 @@ stop_lives reach stop (Err halt) same is = subst (IsLiveHalt reach) (sym same) (
     lives : (stop : Stop) → IsLiveStop reach.extent stop → IsLiveHalt reach (halt_of stop)
     lives (Error number offending) is = is
     lives NoMemory is = tt
+
+-- Rows that give a value at most
+
+-- what such a row stopped with is its answer
+pub same_halt : (halt : Halt) (result : Result ValueOutcome Halt) → IsErrAnd result (λ other. other ≡ halt)
+    → IsErrAnd (answer_of result) (λ other. other ≡ halt)
+same_halt halt (Ok given) same = same
+same_halt halt (Err other) same = same
+
+-- it stops where a thing is looked for
+pub value_row_stops : {A : Type 0} (all : Extent) (find : Finds A) (next : A → Row) (before after : Setting) (stop : Stop) (result : Result ValueOutcome Halt)
+    → IsErrAnd result (λ halt. halt ≡ halt_of stop) → StopsFinding all find before after stop → ComesToAnswer all (find next) before after (answer_of result)
+value_row_stops all find next before after stop result same is =
+    row_stops all find next before after stop (answer_of result) (same_halt (halt_of stop) result same) is
+
+-- it stops at a part of it
+pub value_row_stops_at : (all : Extent) (part : Row → Row) (next : Row) (before after : Setting) (stop : Stop) (result : Result ValueOutcome Halt)
+    → IsErrAnd result (λ halt. halt ≡ halt_of stop) → StopsPassing all part before after stop → ComesToAnswer all (part next) before after (answer_of result)
+value_row_stops_at all part next before after stop result same is =
+    row_stops_at all part next before after stop (answer_of result) (same_halt (halt_of stop) result same) is
+
+-- what it stopped with is of the world
+pub value_stop_lives : (reach : Reach) (stop : Stop) (result : Result ValueOutcome Halt) → IsErrAnd result (λ halt. halt ≡ halt_of stop)
+    → IsLiveStop reach.extent stop → IsLiveAnswer reach (answer_of result)
+value_stop_lives reach stop result same is = stop_lives reach stop (answer_of result) (same_halt (halt_of stop) result same) is
 
 -- what a part of a row stopped with is of the heap
 pub stop_lives_on : {B : Type 0} (all : Extent) (stop : Stop) (result : Result B Stop) → IsErrAnd result (λ other. other ≡ stop) → IsLiveStop all stop

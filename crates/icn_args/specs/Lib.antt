@@ -1,3 +1,2 @@
 pub mod RowWords
 pub mod ItemsLeft
-pub mod ValueOutcomes

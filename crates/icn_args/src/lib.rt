@@ -7,7 +7,6 @@ mod conversions;
 mod kinds;
 mod moving;
 mod structures;
-mod value_outcome;
 
 pub use arguments::{arg, is_null, value_or, values_of};
 pub use charges::{build, build_of, join, text_of, texts_of};
@@ -15,4 +14,3 @@ pub use conversions::{arith_result, check_text, cset_of, integer_of, natural_of,
 pub use kinds::{file_of, list_of};
 pub use moving::{stands, tab_to, undo_position_again};
 pub use structures::new_list;
-pub use value_outcome::ValueOutcome;

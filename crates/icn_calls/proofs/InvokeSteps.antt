@@ -1,12 +1,13 @@
 -- What calls of values come to, by what is called.
-use Rattle.std.proofs.Common.{◌≡◌, ℕ, List, map, Option, Some, None, Result, Err, MatchResult, refl, sym, ap, ◌∙◌, subst}
+use Rattle.std.proofs.Common.{◌≡◌, ℕ, ℤ, List, map, Option, Some, None, Result, Err, MatchResult, refl, sym, ap, ◌∙◌, subst}
 use Rattle.std.specs.Option.{option_map}
 use Rattle.icn_text.specs.declared.func.Func.{Func}
 use Rattle.icn_value.specs.declared.val.Val.{Val}
 use Rattle.icn_value.specs.declared.val.Val.TheVariants as Vals
 use Rattle.icn_value.specs.declared.item.Item.{Item}
 use Rattle.icn_value.specs.Values.{Value}
-use Rattle.icn_defs.specs.Running.{number_of}
+use Rattle.icn_defs.specs.NamedValues.{named_by}
+use Rattle.icn_defs.specs.Running.{number_of, unless_number}
 use Rattle.icn_heap.specs.Extents.{Extent, value_in}
 use Rattle.icn_heap.specs.Heaps.{extent_of}
 use Rattle.icn_vars.specs.declared.outcome.Halt.{Halt}
@@ -17,7 +18,7 @@ use Rattle.icn_code.specs.Codes.{Tables}
 use Rattle.icn_run.specs.Rows as rows
 use Rattle.icn_run.specs.Stacks.{Frames, flat}
 use Rattle.icn_run.specs.Step as code
-use Rattle.icn_run.specs.Step.{State, Store, callee_called, callee_of, choose_item, errs, failing, integer_called, invoke_value, pushed_or_fails, with_world}
+use Rattle.icn_run.specs.Step.{State, Store, callee_called, callee_of, choose_item, errs, failing, integer_called, invoke_value, named_called, pushed_or_fails, with_world}
 use Rattle.icn_control.specs.Soundness.{LeavesWorld}
 use Rattle.icn_control.specs.StackAndWorld.{FailsWith, HaltsWith, RunsWith, StandsWith}
 use Rattle.icn_control.specs.declared.machine.RunState.{RunState}
@@ -51,7 +52,7 @@ nothing_called w tables val n items m st e f same =
 -- Other values
 
 pub by_number : (tables : Tables) (all : Extent) (val : Val) (items : List rows.Item) (m : Frames) (st : Store Frames) → ((n : ℕ) → val ≡ Vals.Proc n → ⊥)
-    → invoke_value flat tables (value_in all val) items m st ≡ integer_called flat (value_in all val) (number_of (value_in all val)) items m st
+    → invoke_value flat tables (value_in all val) items m st ≡ integer_called flat tables (value_in all val) (number_of (value_in all val)) items m st
 by_number tables all Vals.Null items m st h = refl
 by_number tables all (Vals.Integer n) items m st h = refl
 by_number tables all (Vals.Text span) items m st h = refl
@@ -66,12 +67,22 @@ by_number tables all (Vals.Coexp n) items m st h = refl
 
 -- Integers
 
-pub none_runs : (w : World) (value : Value) (n : Option _) (k : _) (items : List rows.Item) (m : FlatStack) (found : Option Item) → n ≡ Some k
+-- what is no number and names nothing can't be called
+pub none_called : (w : World) (tables : Tables) (value : Value) (n : Option ℤ) (items : List rows.Item) (m : Frames) (st : Store Frames) → n ≡ None
+    → unless_number n (named_by st.names value) ≡ None → st.world ≡ world_of w
+    → integer_called flat tables value n items m st ≡ errs 106 (Some value) m (with_world (world_of w) st)
+none_called w tables value n items m st e h same =
+    ap (λ (o : Option ℤ). integer_called flat tables value o items m st) e
+    ∙ ap (λ (o : Option ℕ). named_called flat tables value o items m st)
+    (ap (λ (o : Option ℤ). unless_number o (named_by st.names value)) (sym e) ∙ h)
+    ∙ ap (errs 106 (Some value) m) (same_world w st same)
+
+pub none_runs : (w : World) (tables : Tables) (value : Value) (n : Option _) (k : _) (items : List rows.Item) (m : FlatStack) (found : Option Item) → n ≡ Some k
     → option_map (item_in (extent_of w.heap)) found ≡ choose_item k items → found ≡ None → (st : Store Frames) → st.world ≡ world_of w
-    → FailsWith (integer_called flat value n items (stack_in (extent_of w.heap) m) st) st w m
-none_runs w value n k items m found e f g st same =
+    → FailsWith (integer_called flat tables value n items (stack_in (extent_of w.heap) m) st) st w m
+none_runs w tables value n k items m found e f g st same =
     let all : Extent = extent_of w.heap in
-    ap (λ o. integer_called flat value o items (stack_in all m) st) e
+    ap (λ o. integer_called flat tables value o items (stack_in all m) st) e
     ∙ ap (λ (o : Option rows.Item). pushed_or_fails flat o (stack_in all m) st) (sym f ∙ ap (option_map (item_in all)) g)
     ∙ ap (failing (stack_in all m)) (same_world w st same)
 

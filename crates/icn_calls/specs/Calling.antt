@@ -6,6 +6,8 @@ use Rattle.icn_value.specs.declared.val.Val.{Val}
 use Rattle.icn_value.specs.declared.val.Val.TheVariants.{Null}
 use Rattle.icn_value.specs.declared.val.Val.TheVariants as Vals
 use Rattle.icn_value.specs.Values.{Value}
+use Rattle.icn_value.specs.Store.{Names}
+use Rattle.icn_defs.specs.Running.{name_called}
 use Rattle.icn_heap.specs.Extents.{value_in}
 use Rattle.icn_heap.specs.Heaps.{extent_of}
 use Rattle.icn_vars.specs.declared.stop.Stop.{Stop}
@@ -80,6 +82,10 @@ function_in tables (Vals.List id) = None
 function_in tables (Vals.Set id) = None
 function_in tables (Vals.Table id) = None
 function_in tables (Vals.Coexp number) = None
+
+-- a value is called by number, or it names nothing
+abbrev pub NamesNothing : Names → Value → Type 0
+NamesNothing names value = name_called names value ≡ None
 
 -- it is this number
 abbrev pub is_number : ℕ → ℕ → Bool

@@ -14,7 +14,7 @@ ghost use Rattle.icn_run.specs.Step.{Store, choose_item, integer_called};
 ghost use Rattle.icn_control.specs.LiveStacks.{IsLiveStack, with_locals};
 ghost use Rattle.icn_control.specs.StackAndWorld.{HaltsWith, StandsWith};
 ghost use Rattle.icn_control.specs.StackViews.{stack_in};
-ghost use Rattle.icn_calls.specs.Calling.{IsGoing};
+ghost use Rattle.icn_calls.specs.Calling.{IsGoing, NamesNothing};
 ghost use Rattle.icn_control.specs.Soundness.{UnlessEnded};
 
 use icn_control::RunState;
@@ -66,7 +66,7 @@ pub fn pick_argument(items: &[Item], n: i64) -> Option<Item>
     item_at(items, (place - 1) as usize)
 }
 
-/// Calls a value that is no procedure: the argument that it chooses is pushed, or it fails where there is none.
+/// Calls a value that is no procedure and names none: the argument that it chooses is pushed, or it fails where there is none.
 ///
 /// The error is 106 where the value is no number, or want of memory.
 pub fn call_integer<K: Stack<Cell> + Drop>(
@@ -79,11 +79,12 @@ pub fn call_integer<K: Stack<Cell> + Drop>(
     requires callee { IsLive (extent_of world.now.heap) callee }
     requires items { All (IsLiveItem (with_locals (flat.local_count frames.old.flat) (reach_of world.now [])))
         items.now }
-    ensures step { (st : Store FramesRead) → st.world ≡ world_of world.now
-        → MatchResult result (StandsWith (integer_called calls (value_in (extent_of world.now.heap) callee)
+    ensures step { (tables : Tables) (st : Store FramesRead) → st.world ≡ world_of world.now
+        → NamesNothing st.names (value_in (extent_of world.now.heap) callee)
+        → MatchResult result (StandsWith (integer_called calls tables (value_in (extent_of world.now.heap) callee)
         (number_of (value_in (extent_of world.now.heap) callee)) (map (item_in (extent_of world.now.heap))
         items.now) (stack_in (extent_of world.now.heap) frames.old.flat) st) st world.now frames.new.flat)
-        (HaltsWith (integer_called calls (value_in (extent_of world.now.heap) callee)
+        (HaltsWith (integer_called calls tables (value_in (extent_of world.now.heap) callee)
         (number_of (value_in (extent_of world.now.heap) callee)) (map (item_in (extent_of world.now.heap))
         items.now) (stack_in (extent_of world.now.heap) frames.old.flat) st) st world.now
         (stack_in (extent_of world.now.heap) frames.new.flat)) }

@@ -14,7 +14,7 @@ ghost use Rattle.icn_control.specs.LiveStacks.{IsLiveStack, with_locals};
 ghost use Rattle.icn_control.specs.StackAndWorld.{HaltsWith, StandsWith};
 ghost use Rattle.icn_control.specs.StackViews.{stack_in};
 ghost use Rattle.icn_control.specs.TakenOperands.{with_values_in};
-ghost use Rattle.icn_calls.specs.Calling.{IsGoing, function_in};
+ghost use Rattle.icn_calls.specs.Calling.{IsGoing, NamesNothing, function_in};
 ghost use Rattle.icn_control.specs.Soundness.{LeavesWorld, UnlessEnded};
 
 use crate::callees::{Callee, callee_of};
@@ -98,7 +98,8 @@ fn construct_with<K: Stack<Cell> + Drop>(
 }
 
 /// Calls a value that is no built-in function (`function_of`) with items: a procedure is entered and a record made with their
-/// values, and a number chooses one of them. The room for values is used, whatever it holds.
+/// values, and a number chooses one of them. A text that is no number is taken to name nothing (`named_callee`). The room for values is
+/// used, whatever it holds.
 ///
 /// The error is that of the first item that has no value, 301 where a call is deeper than the limit, 307, 106 where the value
 /// is nothing that can be called, or want of memory.
@@ -119,6 +120,7 @@ pub fn invoke<K: Stack<Cell> + Drop>(
     requires items { All (IsLiveItem (with_locals (flat.local_count frames.old.flat) (reach_of world.old [])))
         items.now }
     ensures step { (st : Store FramesRead) → st.world ≡ world_of world.old
+        → NamesNothing st.names (value_in (extent_of world.old.heap) callee)
         → MatchResult result (StandsWith (invoke_value calls (tables_of code.now)
         (value_in (extent_of world.old.heap) callee) (map (item_in (extent_of world.old.heap)) items.now)
         (stack_in (extent_of world.old.heap) frames.old.flat) st) st world.new frames.new.flat)

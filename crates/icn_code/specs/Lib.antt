@@ -1,3 +1,4 @@
 pub mod Codes
 pub mod Rules
 pub mod CodeTables
+pub mod MainProcedure

@@ -5,5 +5,6 @@ mod entries;
 mod table;
 mod transfer_laws;
 
+pub use entries::{CoexpEntry, RunningStack, Status};
 pub use table::{AfterTransfer, Stacks};
 pub use transfer_laws::transfers_keep_others;

@@ -1,6 +1,7 @@
 // The table of co-expressions.
-ghost use Rattle.std.specs.Prelude.{◌≡◌, ◌≢◌, ◌<◌, ◌^◌, ℕ, Option, Some, length, slice_get, IsSome, is_some, IfOk, OnOk, OnErr};
+ghost use Rattle.std.specs.Prelude.{◌≡◌, ◌≢◌, ◌<◌, ◌^◌, ℕ, Option, Some, length, map, slice_get, IsSome, is_some, IfOk, OnOk, OnErr};
 ghost use Rattle.icn_run.specs.Step.{Fresh, Exhausted};
+ghost use Rattle.icn_coexp.specs.KeptEntries.{coexp_seen, running_seen};
 ghost use Rattle.icn_coexp.specs.Transfers.{first_table, source, status_of, values_of, with_stack, with_new, with_copy, give, exhaust, went_to, Activates, KeepsOthers, KeepsRoom, OneIsActive};
 
 use crate::entries::{
@@ -109,6 +110,20 @@ impl<K: Stack<Cell> + Drop> Stacks<K> {
         ensures { result ≡ is_some self.now.table.running }
     {
         matches!(self.running, RunningStack::On(_))
+    }
+
+    /// All co-expressions by their numbers, to read them.
+    pub fn entries(&self) -> &[CoexpEntry<K>]
+        ensures { self.now.table.coexps ≡ map coexp_seen result.now }
+    {
+        &self.entries
+    }
+
+    /// The stack that runs, or that a hop is due, to read it.
+    pub fn running(&self) -> &RunningStack<K>
+        ensures { self.now.table.running ≡ running_seen result.now }
+    {
+        &self.running
     }
 
     /// How many values a co-expression was made with.

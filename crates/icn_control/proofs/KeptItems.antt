@@ -1,5 +1,5 @@
 -- What is of a world stays of it as the world grows, and stands for the same.
-use Rattle.std.proofs.Common.{◌≡◌, ℕ, ◌+◌, ◌<◌, ◌≤◌, List, [], ◌∷◌, length, map, slice_index, refl, sym, ap, ◌∙◌, subst, arith}
+use Rattle.std.proofs.Common.{◌≡◌, ℕ, ◌+◌, ◌<◌, ◌≤◌, List, [], ◌∷◌, length, slice_index, sym, ap, ◌∙◌, subst, arith}
 use Rattle.icn_value.specs.declared.val.Val.{Val}
 use Rattle.icn_value.specs.declared.val.Val.TheVariants.{List as ListVal, Set as SetVal, Table as TableVal, Rec as RecVal, Std as StdVal}
 use Rattle.icn_value.specs.declared.val.Span.{Span}
@@ -12,24 +12,20 @@ use Rattle.icn_value.specs.declared.item.Item.TheVariants.{Val as HeldVal, Var a
 use Rattle.icn_value.specs.declared.item.Pair.{Pair as HeldPair}
 use Rattle.icn_value.specs.declared.residual.Residual.{Residual as HeldResidual}
 use Rattle.icn_value.specs.declared.residual.Residual.TheVariants.{TextBytes as HeldTextBytes, VariableBytes as HeldVariableBytes, ListItems as HeldListItems, SetMembers as HeldSetMembers, TableValues as HeldTableValues, TableKeys as HeldTableKeys, RecordFields as HeldRecordFields, FileLines as HeldFileLines, UndoAssign as HeldUndoAssign, UndoExchange as HeldUndoExchange, UndoPosition as HeldUndoPosition, Counting as HeldCounting, Sequence as HeldSequence, Balanced as HeldBalanced, Found as HeldFound, Among as HeldAmong}
-use Rattle.icn_value.specs.Members.{members_of}
-use Rattle.icn_value.specs.Values.{Value, Root, Key, Variable, Whole, Part, Item, Val as ItemVal, Var as ItemVar}
+use Rattle.icn_value.specs.Values.{Variable}
 use Rattle.icn_defs.specs.RowFacts.{can_hold}
-use Rattle.icn_defs.specs.Rows.{TextBytes, VariableBytes, UndoAssign, UndoExchange, Balanced, Found, Among}
 use Rattle.icn_heap.specs.Extents.{text_in, value_in}
-use Rattle.icn_vars.specs.Worlds.{Reach, IsLiveRoot, IsLiveVariable, IsLiveItem, KeepsItems, root_in, variable_in, item_in}
-use Rattle.icn_vars.specs.Outcomes.{IsSearch, IsOld, IsLiveResidual, residual_in, mover_of}
+use Rattle.icn_vars.specs.Worlds.{Reach, IsLiveRoot, IsLiveVariable, IsLiveItem, KeepsItems, variable_in}
+use Rattle.icn_vars.specs.Outcomes.{IsSearch, IsOld, IsLiveResidual}
 use Rattle.icn_frames.specs.declared.layout.Why.{Why}
 use Rattle.icn_frames.specs.declared.layout.Why.TheVariants.{Alt, Op, Scan, Escan, Proc}
 use Rattle.icn_frames.specs.declared.layout.Cell.{Cell}
 use Rattle.icn_frames.specs.declared.layout.Cell.TheVariants.{Base, Call, Local, Mark, Limit, Suspension, Operand}
 use Rattle.icn_frames.specs.Stacks.{FlatStack}
-use Rattle.law_frames.specs.ReadStacks.{cell_read, why_read, registers_read}
 use Rattle.icn_code.specs.Codes.{Tables}
-use Rattle.icn_run.specs.Calls as calls
-use Rattle.icn_run.specs.Stacks as code
 use Rattle.icn_control.specs.LiveStacks.{with_locals, IsLivePair, IsLiveWhy, locals_at, AreLive, IsLiveStack}
-use Rattle.icn_control.specs.StackViews.{pair_in, reading_of, stack_in}
+use Rattle.icn_control.specs.StackViews.{stack_in}
+use Rattle.icn_control.proofs.SameReadings as read
 
 -- Items
 
@@ -46,41 +42,21 @@ root_stays old new n (HeldField rec place) k l =
 root_stays old new n (HeldKey table key) k l = record { live = (k.extent.live (TableVal table) l.live.0, k.extent.live key l.live.1) }
 root_stays old new n (HeldKeyword word) k l = record { live = tt }
 
-root_same : (old new : Reach) (n : ℕ) (root : HeldRoot) → KeepsItems old new → IsLiveRoot (with_locals n old) root
-    → root_in new.extent root ≡ root_in old.extent root
-root_same old new n (HeldGlobal place) k l = refl
-root_same old new n (HeldStatic place) k l = refl
-root_same old new n (HeldLocal place) k l = refl
-root_same old new n (HeldElement list number) k l = refl
-root_same old new n (HeldField rec place) k l = refl
-root_same old new n (HeldKey table key) k l = ap (λ (w : Value). Key table w) (k.extent.value key l.live.1)
-root_same old new n (HeldKeyword word) k l = refl
-
 pub variable_stays : (old new : Reach) (n : ℕ) (variable : VarRef) → KeepsItems old new → IsLiveVariable (with_locals n old) variable
     → IsLiveVariable (with_locals n new) variable
 variable_stays old new n (HeldWhole root) k l = record { live = root_stays old new n root k l.live }
 variable_stays old new n (HeldPart root place len) k l = record { live = (root_stays old new n root k l.live.0, l.live.1) }
 
-pub variable_same : (old new : Reach) (n : ℕ) (variable : VarRef) → KeepsItems old new → IsLiveVariable (with_locals n old) variable
-    → variable_in new.extent variable ≡ variable_in old.extent variable
-variable_same old new n (HeldWhole root) k l = ap (λ (w : Root). Whole w) (root_same old new n root k l.live)
-variable_same old new n (HeldPart root place len) k l = ap (λ (w : Root). Part w place len) (root_same old new n root k l.live.0)
-
 pub item_stays : (old new : Reach) (n : ℕ) (item : HeldItem) → KeepsItems old new → IsLiveItem (with_locals n old) item → IsLiveItem (with_locals n new) item
 item_stays old new n (HeldVal val) k l = record { live = k.extent.live val l.live }
 item_stays old new n (HeldVar variable) k l = record { live = variable_stays old new n variable k l.live }
-
-pub item_same : (old new : Reach) (n : ℕ) (item : HeldItem) → KeepsItems old new → IsLiveItem (with_locals n old) item
-    → item_in new.extent item ≡ item_in old.extent item
-item_same old new n (HeldVal val) k l = ap (λ (w : Value). ItemVal w) (k.extent.value val l.live)
-item_same old new n (HeldVar variable) k l = ap (λ (w : Variable). ItemVar w) (variable_same old new n variable k l.live)
 
 -- Residuals
 
 old_stays : (old new : Reach) (n : ℕ) (variable : VarRef) (val : Val) → KeepsItems old new → IsOld (with_locals n old) variable val
     → IsOld (with_locals n new) variable val
 old_stays old new n variable val k l =
-    let one : variable_in new.extent variable ≡ variable_in old.extent variable = variable_same old new n variable k l.live_variable in
+    let one : variable_in new.extent variable ≡ variable_in old.extent variable = read.variable_same old new.extent k.extent.value k.extent.bytes n variable l.live_variable in
     let two : value_in new.extent val ≡ value_in old.extent val = k.extent.value val l.live_value in
     record {
       live_variable = variable_stays old new n variable k l.live_variable;
@@ -115,40 +91,6 @@ residual_stays old new n (HeldFound wanted text place last) k l =
     record { live = (k.extent.text wanted l.live.0, search_stays old new text place last k l.live.1) }
 residual_stays old new n (HeldAmong wanted text place last) k l = record { live = search_stays old new text place last k l.live }
 
-residual_same : (old new : Reach) (n : ℕ) (rest : HeldResidual) → KeepsItems old new → IsLiveResidual (with_locals n old) rest
-    → residual_in new.extent rest ≡ residual_in old.extent rest
-residual_same old new n (HeldTextBytes text place) k l = ap (λ (w : List ℕ). TextBytes w place) (k.extent.bytes text l.live)
-residual_same old new n (HeldVariableBytes variable place) k l = ap (λ (w : Variable). VariableBytes w place) (variable_same old new n variable k l.live)
-residual_same old new n (HeldListItems list place) k l = refl
-residual_same old new n (HeldSetMembers set place) k l = refl
-residual_same old new n (HeldTableValues table place) k l = refl
-residual_same old new n (HeldTableKeys table place) k l = refl
-residual_same old new n (HeldRecordFields rec place) k l = refl
-residual_same old new n (HeldFileLines file) k l = refl
-residual_same old new n (HeldUndoAssign variable val) k l =
-    ap (λ (w : Variable). UndoAssign w (value_in new.extent val)) (variable_same old new n variable k l.live.live_variable)
-    ∙ ap (UndoAssign (variable_in old.extent variable)) (k.extent.value val l.live.live_value)
-residual_same old new n (HeldUndoExchange mover left right old_left old_right) k l =
-    let a = l.live.0 in
-    let b = l.live.1 in
-    ap (λ (w : Variable). UndoExchange (mover_of mover) w (variable_in new.extent right) (value_in new.extent old_left) (value_in new.extent old_right))
-    (variable_same old new n left k a.live_variable)
-    ∙ ap (λ (w : Variable). UndoExchange (mover_of mover) (variable_in old.extent left) w (value_in new.extent old_left) (value_in new.extent old_right))
-    (variable_same old new n right k b.live_variable)
-    ∙ ap (λ (w : Value). UndoExchange (mover_of mover) (variable_in old.extent left) (variable_in old.extent right) w (value_in new.extent old_right))
-    (k.extent.value old_left a.live_value)
-    ∙ ap (UndoExchange (mover_of mover) (variable_in old.extent left) (variable_in old.extent right) (value_in old.extent old_left))
-    (k.extent.value old_right b.live_value)
-residual_same old new n (HeldUndoPosition position) k l = refl
-residual_same old new n (HeldCounting given last step) k l = refl
-residual_same old new n (HeldSequence given step) k l = refl
-residual_same old new n (HeldBalanced wanted opening closing text place last) k l =
-    ap (λ (w : List ℕ). Balanced (members_of wanted) (members_of opening) (members_of closing) w place last) (k.extent.bytes text l.live.of)
-residual_same old new n (HeldFound wanted text place last) k l =
-    ap (λ (w : List ℕ). Found w (text_in new.extent text) place last) (k.extent.bytes wanted l.live.0)
-    ∙ ap (λ (w : List ℕ). Found (text_in old.extent wanted) w place last) (k.extent.bytes text l.live.1.of)
-residual_same old new n (HeldAmong wanted text place last) k l = ap (λ (w : List ℕ). Among (members_of wanted) w place last) (k.extent.bytes text l.live.of)
-
 -- Cells
 
 pair_stays : (old new : Reach) (pair : HeldPair) → KeepsItems old new → IsLivePair old.extent pair → IsLivePair new.extent pair
@@ -157,25 +99,12 @@ pair_stays old new pair k l =
     let high : pair.position ≤ length (text_in new.extent pair.subject) + 1 = omega (arith, same, l.high) in
     record { subject = k.extent.text pair.subject l.subject; low = l.low; high = high }
 
-pair_same : (old new : Reach) (pair : HeldPair) → KeepsItems old new → IsLivePair old.extent pair → pair_in new.extent pair ≡ pair_in old.extent pair
-pair_same old new pair k l =
-    let F : List ℕ → calls.Pair = λ w. record { subject = w; position = pair.position } in
-    ap F (k.extent.bytes pair.subject l.subject)
-
 why_stays : (old new : Reach) (n : ℕ) (why : Why) → KeepsItems old new → IsLiveWhy (with_locals n old) why → IsLiveWhy (with_locals n new) why
 why_stays old new n Alt k l = tt
 why_stays old new n (Op residual) k l = residual_stays old new n residual k l
 why_stays old new n (Scan pair) k l = pair_stays old new pair k l
 why_stays old new n Escan k l = tt
 why_stays old new n Proc k l = tt
-
-why_same : (old new : Reach) (n : ℕ) (why : Why) → KeepsItems old new → IsLiveWhy (with_locals n old) why
-    → why_read (reading_of new.extent) why ≡ why_read (reading_of old.extent) why
-why_same old new n Alt k l = refl
-why_same old new n (Op residual) k l = ap calls.Op (residual_same old new n residual k l)
-why_same old new n (Scan pair) k l = ap calls.Scan (pair_same old new pair k l)
-why_same old new n Escan k l = refl
-why_same old new n Proc k l = refl
 
 pub cells_stay : (t : Tables) (old new : Reach) (n : ℕ) (s : List Cell) → KeepsItems old new → AreLive t old n s → AreLive t new n s
 cells_stay t old new n [] k l = tt
@@ -187,33 +116,10 @@ cells_stay t old new n (Mark label changed r ∷ s) k l = (l.0, cells_stay t old
 cells_stay t old new n (Limit count r ∷ s) k l = (l.0, (l.1.0, cells_stay t old new (locals_at r s) s k l.1.1))
 cells_stay t old new n (Suspension why r place ∷ s) k l = (why_stays old new (locals_at r s) why k l.0, (l.1.0, cells_stay t old new (locals_at r s) s k l.1.1))
 
-pub cells_same : (t : Tables) (old new : Reach) (n : ℕ) (s : List Cell) → KeepsItems old new → AreLive t old n s
-    → map (cell_read (reading_of new.extent)) s ≡ map (cell_read (reading_of old.extent)) s
-cells_same t old new n [] k l = refl
-cells_same t old new n (Operand item ∷ s) k l =
-    ap (λ (w : Item). code.operand w ∷ map (cell_read (reading_of new.extent)) s) (item_same old new n item k l.0)
-    ∙ ap (λ (w : List code.Cell). code.operand (item_in old.extent item) ∷ w) (cells_same t old new n s k l.1)
-cells_same t old new n (Local value ∷ s) k l =
-    ap (λ (w : Value). code.local w ∷ map (cell_read (reading_of new.extent)) s) (k.extent.value value l.0)
-    ∙ ap (λ (w : List code.Cell). code.local (value_in old.extent value) ∷ w) (cells_same t old new n s k l.1)
-cells_same t old new n (Base proc locals ∷ s) k l = ap (λ (w : List code.Cell). code.base proc locals ∷ w) (cells_same t old new 0 s k l.1)
-cells_same t old new n (Call proc locals level r place ∷ s) k l =
-    ap (λ (w : List code.Cell). code.call proc locals level (registers_read r) place ∷ w) (cells_same t old new (locals_at r s) s k l.1.1.1)
-cells_same t old new n (Mark label changed r ∷ s) k l =
-    ap (λ (w : List code.Cell). code.mark label changed (registers_read r) ∷ w) (cells_same t old new (locals_at r s) s k l.1)
-cells_same t old new n (Limit count r ∷ s) k l =
-    ap (λ (w : List code.Cell). code.limit count (registers_read r) ∷ w) (cells_same t old new (locals_at r s) s k l.1.1)
-cells_same t old new n (Suspension why r place ∷ s) k l =
-    ap (λ (w : calls.Why). code.suspension w (registers_read r) place ∷ map (cell_read (reading_of new.extent)) s) (why_same old new (locals_at r s) why k l.0)
-    ∙ ap (λ (w : List code.Cell). code.suspension (why_read (reading_of old.extent) why) (registers_read r) place ∷ w)
-    (cells_same t old new (locals_at r s) s k l.1.1)
-
 -- a stack of the world before is one of the world after
 pub stack_stays : (t : Tables) (old new : Reach) (m : FlatStack) → KeepsItems old new → IsLiveStack t old m → IsLiveStack t new m
 stack_stays t old new m k l = record { root = l.root; cells = cells_stay t old new (locals_at m.registers m.cells) m.cells k l.cells }
 
 -- and it stands for the same stack
 pub stack_same : (t : Tables) (old new : Reach) (m : FlatStack) → KeepsItems old new → IsLiveStack t old m → stack_in new.extent m ≡ stack_in old.extent m
-stack_same t old new m k l =
-    let F : List code.Cell → code.Frames = λ w. record { cells = w; registers = registers_read m.registers; address = m.address } in
-    ap F (cells_same t old new (locals_at m.registers m.cells) m.cells k l.cells)
+stack_same t old new m k l = read.stack_same old new.extent k.extent.value k.extent.bytes t m l

@@ -38,3 +38,7 @@ pub mod CountedSteps
 pub mod ActivationSteps
 pub mod Halts
 pub mod PlainValueSteps
+pub mod SameReadings
+pub mod StackValues
+pub mod CollectedStacks
+pub mod NeededCells

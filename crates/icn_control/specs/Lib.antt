@@ -14,3 +14,4 @@ pub mod TakenOperands
 pub mod Creations
 pub mod Operands
 pub mod PlainValues
+pub mod NeededStacks

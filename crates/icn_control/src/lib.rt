@@ -4,6 +4,7 @@
 mod activation;
 mod coexpression_laws;
 mod coexpressions;
+mod collecting;
 mod failing;
 mod failing_step;
 mod hops;

@@ -3,7 +3,7 @@ use Rattle.std.specs.Prelude.{◌+◌, ℕ, List, slice_get, unwrap_or}
 use Rattle.icn_text.specs.declared.op.Op.{Op}
 use Rattle.icn_text.specs.declared.op.Op.TheVariants.{IsNull, IsNotNull, Dereference, Number, Negate, Size, Complement, Elements, Random, TabMatch, Refresh, Add, Subtract, Multiply, Divide, Remainder, Power, Less, LessOrEqual, Equal, GreaterOrEqual, Greater, NotEqual, LexicallyLess, LexicallyLessOrEqual, LexicallyEqual, LexicallyGreaterOrEqual, LexicallyGreater, LexicallyNotEqual, Equivalent, NotEquivalent, Concatenate, ConcatenateLists, Union, Difference, Intersection, Assign, Swap, ReversibleAssign, ReversibleSwap, Subscript, Section, SectionPlus, SectionMinus, ToBy}
 use Rattle.icn_text.specs.declared.func.Func.{Func}
-use Rattle.icn_text.specs.declared.func.Func.TheVariants.{Abs, Any, Bal, Center, Char, Copy, Cset, Delete, Exit, Find, Get, Iand, Icom, Image, Insert, Integer as IntegerF, Ior, Ishift, Ixor, Key, Left, List as ListF, Many, Map, Match, Member, Move, Numeric, Ord, Pop, Pos, Pull, Push, Put, Read, Reads, Repl, Reverse, Right, Seq, Set, Sort, Stop, String, Tab, Table, Trim, TypeOf, Upto, Write, Writes, ErrorClear, Open, Close}
+use Rattle.icn_text.specs.declared.func.Func.TheVariants.{Abs, Any, Bal, Center, Char, Copy, Cset, Delete, Exit, Find, Get, Iand, Icom, Image, Insert, Integer as IntegerF, Ior, Ishift, Ixor, Key, Left, List as ListF, Many, Map, Match, Member, Move, Numeric, Ord, Pop, Pos, Pull, Push, Put, Read, Reads, Repl, Reverse, Right, Seq, Set, Sort, Stop, String, Tab, Table, Trim, TypeOf, Upto, Write, Writes, ErrorClear, Open, Close, Proc, Args}
 use Rattle.icn_value.specs.Values.{Value, Null, Item, Val}
 use Rattle.icn_value.specs.Store.{Names}
 use Rattle.icn_defs.specs.Rows.{◌>>=◌, Row, fails, Residual, TextBytes, VariableBytes, ListItems, SetMembers, TableValues, TableKeys, RecordFields, FileLines, UndoAssign, UndoExchange, UndoPosition, Counting, Sequence, Balanced, Found, Among}
@@ -18,6 +18,7 @@ use Rattle.icn_defs.specs.Strings.{abs_row, center_row, char_row, cset_row, iand
 use Rattle.icn_defs.specs.Structures.{copy_row, delete_row, get_row, insert_row, key_row, list_row, member_row, pull_row, push_row, put_row, set_row, sort_row, table_row, table_keys_from}
 use Rattle.icn_defs.specs.ErrorRows.{errorclear_row}
 use Rattle.icn_defs.specs.Files.{close_row, open_row}
+use Rattle.icn_defs.specs.NamedValues.{args_row, proc_row}
 use Rattle.icn_defs.specs.InputOutput.{exit_row, read_row, reads_row, stop_row, write_row, writes_row}
 
 -- An operation on up to three operands. The refreshing of a co-expression is no row here; it fails.
@@ -132,6 +133,8 @@ function_of names Writes args = writes_row args
 function_of names ErrorClear args = errorclear_row
 function_of names Open args = open_row args
 function_of names Close args = close_row args
+function_of names Proc args = proc_row names args
+function_of names Args args = args_row names args
 
 -- A function is applied: all its arguments are dereferenced first.
 abbrev pub function_row : Names → Func → List Item → Row

@@ -17,6 +17,8 @@ pub mod Structures
 pub mod InputOutput
 pub mod Files
 pub mod ErrorRows
+pub mod NamedValues
+pub mod KeptProcedures
 pub mod Applying
 pub mod RowFacts
 pub mod Calls

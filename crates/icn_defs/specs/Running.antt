@@ -2,10 +2,11 @@
 use Rattle.std.specs.Prelude.{◌≡◌, ℕ, ℤ, pos, zero, suc, List, [], ◌∷◌, length, map, replicate, Option, None, Some, codes}
 use Rattle.std.specs.List.{sum_by}
 use Rattle.icn_value.specs.Limited.{Bounds}
-use Rattle.icn_value.specs.Values.{Value, Null, Integer, Text}
+use Rattle.icn_value.specs.Values.{Value, Null, Integer, Text, Procedure}
 use Rattle.icn_host.specs.FileMaps.{FileMap}
-use Rattle.icn_value.specs.Store.{ErrorByte, Heap, World, Outside, outside_of, with_events}
+use Rattle.icn_value.specs.Store.{ErrorByte, Heap, Names, World, Outside, outside_of, with_events}
 use Rattle.icn_defs.specs.Conversions.{integer_of}
+use Rattle.icn_defs.specs.NamedValues.{named_by}
 use Rattle.icn_defs.specs.OpenFiles.{all_written_out}
 use Rattle.icn_defs.specs.Rows.{◌>>◌, Row, costs_bytes}
 use Rattle.icn_defs.specs.StepRows.{list_row}
@@ -106,3 +107,17 @@ abbrev pub number_of : Value → Option ℤ
 number_of (Integer n) = Some n
 number_of (Text bytes) = integer_of (Text bytes)
 number_of value = None
+
+-- a name counts where no number is there
+abbrev pub unless_number : Option ℤ → Option ℕ → Option ℕ
+unless_number (Some n) named = None
+unless_number None named = named
+
+-- What a value names, where it is not called by number.
+abbrev pub name_called : Names → Value → Option ℕ
+name_called names value = unless_number (number_of value) (named_by names value)
+
+-- the procedure, the constructor or the function that is called where a value is
+abbrev pub callee_number : Names → Value → Option ℕ
+callee_number names (Procedure number) = Some number
+callee_number names value = name_called names value

@@ -2,12 +2,14 @@
 //! function does, as definitions, and how a run ends.
 #![tactic(auto)]
 
+mod arguments;
 mod arities;
 mod definition_laws;
 mod ending;
 mod error_texts;
 mod numbers;
 
+pub use arguments::function_arguments;
 pub use arities::arity;
 pub use definition_laws::{events_add_up, numbers_lead_back};
 pub use ending::Ending;

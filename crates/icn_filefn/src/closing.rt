@@ -15,6 +15,7 @@ ghost use Rattle.icn_streams.specs.Answers.{call_state};
 ghost use Rattle.icn_streams.specs.Applies.{Applies};
 ghost use Rattle.icn_streams.specs.Handed.{call_streams};
 ghost use Rattle.icn_streams.specs.Settling.{IsSettled};
+ghost use Rattle.icn_vars.specs.Outcomes.{answer_of};
 ghost use Rattle.icn_vars.specs.Worlds.{KeepsLive, setting_of};
 ghost use Rattle.icn_filefn.specs.ClosedFiles.{ClosesBy};
 ghost use Rattle.icn_filefn.specs.OpenParts.{closes_then};
@@ -24,8 +25,8 @@ use icn_args::{arg, file_of};
 use icn_heap::FileEntry;
 use icn_host::{Fault, Files, Sink};
 use icn_streams::{is_open_to_write, settle};
-use icn_value::{File, Item, Val};
-use icn_vars::{Halt, Locals, Outcome, World};
+use icn_value::{File, Val};
+use icn_vars::{Halt, Locals, ValueOutcome, World};
 
 /// `close(f)`: a file that is open to be written is written, once both outputs are settled, and what it holds is let go. Standard files
 /// and closed ones are left as they are. It gives the file. The error is 105 about a value that is no file.
@@ -36,7 +37,7 @@ pub fn close_row<L: Locals, F: Files, O: Sink, E: Sink>(
     files: &mut F,
     out: &mut O,
     err: &mut E,
-) -> Result<Outcome, Halt>
+) -> Result<ValueOutcome, Halt>
     requires locals { All (IsLive (extent_of w.old.heap)) (L.items l.now) }
     requires live { All (IsLive (extent_of w.old.heap)) vals.now }
     ensures { (left : Option (List ℕ)) (counts : SourceCounts)
@@ -44,12 +45,12 @@ pub fn close_row<L: Locals, F: Files, O: Sink, E: Sink>(
         (call_state w.old (L.items l.now)
         (call_streams (F.state files.old) left counts (O.state out.old) (E.state err.old)))
         (call_state w.new (L.items l.now)
-        (call_streams (F.state files.new) left counts (O.state out.new) (E.state err.new))) result }
+        (call_streams (F.state files.new) left counts (O.state out.new) (E.state err.new))) (answer_of result) }
 {
     let file = file_of(arg(vals, 0))?;
     match file {
         File::Opened(number) => close_opened(number, w, l, files, out, err),
-        _ => Ok(Outcome::Gives(Item::Val(Val::Std(file)))),
+        _ => Ok(ValueOutcome::Gives(Val::Std(file))),
     }
 }
 
@@ -61,7 +62,7 @@ fn close_opened<L: Locals, F: Files, O: Sink, E: Sink>(
     files: &mut F,
     out: &mut O,
     err: &mut E,
-) -> Result<Outcome, Halt>
+) -> Result<ValueOutcome, Halt>
     requires locals { All (IsLive (extent_of w.old.heap)) (L.items l.now) }
     requires file { IsLive (extent_of w.old.heap) (Std (Opened number)) }
     ensures applies { (left : Option (List ℕ)) (counts : SourceCounts)
@@ -69,13 +70,13 @@ fn close_opened<L: Locals, F: Files, O: Sink, E: Sink>(
         (call_state w.old (L.items l.now)
         (call_streams (F.state files.old) left counts (O.state out.old) (E.state err.old)))
         (call_state w.new (L.items l.now)
-        (call_streams (F.state files.new) left counts (O.state out.new) (E.state err.new))) result }
+        (call_streams (F.state files.new) left counts (O.state out.new) (E.state err.new))) (answer_of result) }
     ensures settled { is_open_to_write (file_at (heap_of w.old.heap) number) ≡ true
         → IsSettled result (O.pending out.new) (E.pending err.new) }
 {
     write_closed(w.heap.file(number), files, out, err)?;
     shut_file(number, w, l);
-    Ok(Outcome::Gives(Item::Val(Val::Std(File::Opened(number)))))
+    Ok(ValueOutcome::Gives(Val::Std(File::Opened(number))))
 }
 
 // Writes a file that is to be closed, if it is open to be written, once both outputs are settled.

@@ -12,6 +12,7 @@ ghost use Rattle.icn_heap.specs.Extents.{IsLive, IsText, text_in, value_in};
 ghost use Rattle.icn_heap.specs.Heaps.{extent_of};
 ghost use Rattle.icn_vars.specs.Stops.{IsLiveStop};
 ghost use Rattle.icn_vars.specs.declared.stop.Stop.TheVariants.{NoMemory};
+ghost use Rattle.icn_vars.specs.Outcomes.{answer_of};
 ghost use Rattle.icn_vars.specs.Worlds.{KeepsLive, setting_of};
 ghost use Rattle.icn_args.specs.RowWords.{IsFound, IsPassed};
 ghost use Rattle.icn_streams.specs.Answers.{call_state};
@@ -23,8 +24,8 @@ use crate::finding::first_content;
 use crate::modes::mode_arg;
 use icn_args::{arg, check_text, text_of};
 use icn_host::{Files, Sink};
-use icn_value::{FileMode, Item, Span, Val};
-use icn_vars::{Halt, Locals, Outcome, Stop, World};
+use icn_value::{FileMode, Span, Val};
+use icn_vars::{Halt, Locals, Stop, ValueOutcome, World};
 use std::alloc::Global;
 
 /// `open(s1, s2)`: the file of a name, opened in a mode. It fails where the name is no UTF-8, and where there is nothing to be read or
@@ -36,7 +37,7 @@ pub fn open_row<L: Locals, F: Files, O: Sink, E: Sink>(
     files: &mut F,
     out: &mut O,
     err: &mut E,
-) -> Result<Outcome, Halt>
+) -> Result<ValueOutcome, Halt>
     requires locals { All (IsLive (extent_of w.old.heap)) (L.items l.now) }
     requires live { All (IsLive (extent_of w.old.heap)) vals.now }
     ensures { (left : Option (List ℕ)) (counts : SourceCounts)
@@ -44,7 +45,7 @@ pub fn open_row<L: Locals, F: Files, O: Sink, E: Sink>(
         (call_state w.old (L.items l.now)
         (call_streams (F.state files.old) left counts (O.state out.old) (E.state err.old)))
         (call_state w.new (L.items l.now)
-        (call_streams (F.state files.new) left counts (O.state out.new) (E.state err.new))) result }
+        (call_streams (F.state files.new) left counts (O.state out.new) (E.state err.new))) (answer_of result) }
 {
     let named = arg(vals, 0);
     let said = arg(vals, 1);
@@ -84,7 +85,7 @@ fn open_text<L: Locals, F: Files, O: Sink, E: Sink>(
     files: &mut F,
     out: &mut O,
     err: &mut E,
-) -> Result<Outcome, Halt>
+) -> Result<ValueOutcome, Halt>
     requires locals { All (IsLive (extent_of w.old.heap)) (L.items l.now) }
     requires text { IsText (extent_of w.old.heap) text }
     ensures { (left : Option (List ℕ)) (counts : SourceCounts)
@@ -92,12 +93,12 @@ fn open_text<L: Locals, F: Files, O: Sink, E: Sink>(
         (call_state w.old (L.items l.now)
         (call_streams (F.state files.old) left counts (O.state out.old) (E.state err.old)))
         (call_state w.new (L.items l.now)
-        (call_streams (F.state files.new) left counts (O.state out.new) (E.state err.new))) result }
+        (call_streams (F.state files.new) left counts (O.state out.new) (E.state err.new))) (answer_of result) }
 {
     let alloc = *w.globals.allocator();
     match name_of(alloc, w.heap.bytes(text))? {
         Some(name) => open_named(name, mode, w, l, files, out, err),
-        None => Ok(Outcome::Fails),
+        None => Ok(ValueOutcome::Fails),
     }
 }
 
@@ -122,19 +123,19 @@ fn open_named<L: Locals, F: Files, O: Sink, E: Sink>(
     files: &mut F,
     out: &mut O,
     err: &mut E,
-) -> Result<Outcome, Halt>
+) -> Result<ValueOutcome, Halt>
     requires { All (IsLive (extent_of w.old.heap)) (L.items l.now) }
     ensures { (left : Option (List ℕ)) (counts : SourceCounts)
         → Applies (opens_named (string_bytes name) mode)
         (call_state w.old (L.items l.now)
         (call_streams (F.state files.old) left counts (O.state out.old) (E.state err.old)))
         (call_state w.new (L.items l.now)
-        (call_streams (F.state files.new) left counts (O.state out.new) (E.state err.new))) result }
+        (call_streams (F.state files.new) left counts (O.state out.new) (E.state err.new))) (answer_of result) }
 {
     let alloc = *w.globals.allocator();
     match first_content(alloc, &name, mode, files, out, err)? {
-        Some(content) => Ok(Outcome::Gives(Item::Val(make_file(name, mode, content, w, l)?))),
-        None => Ok(Outcome::Fails),
+        Some(content) => Ok(ValueOutcome::Gives(make_file(name, mode, content, w, l)?)),
+        None => Ok(ValueOutcome::Fails),
     }
 }
 

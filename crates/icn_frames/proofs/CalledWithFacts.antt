@@ -17,7 +17,7 @@ use Rattle.icn_frames.specs.declared.slots.StackSlot.TheVariants.{VarLocal}
 use Rattle.icn_frames.specs.Slots.{plain_local, plain_operand, plain_value, value_only}
 use Rattle.icn_frames.specs.Stacks.{FlatStack, frame, level, level_of, locals, locals_down, locals_of, put_above, registers_at}
 use Rattle.icn_frames.specs.StackInvariant.{AFrame, FrameAt, Sound, count_of, shape}
-use Rattle.icn_frames.specs.CalledWith.{EntersWith, Framed, HasOperands, HoldValues, HoldsLocals, HoldsValue, IsArgument, TellsArgument, as_local, as_value, local_variable, operands_above}
+use Rattle.icn_frames.specs.CalledWith.{DropsWith, EntersWith, Framed, HasOperands, HoldValues, HoldsLocals, HoldsValue, IsArgument, TellsArgument, as_local, as_value, local_variable, operands_above}
 use Rattle.icn_frames.proofs.CellFacts.{local_count_at}
 use Rattle.icn_frames.proofs.FrameEntry.{sound_frame}
 use Rattle.icn_frames.proofs.HeightsRead.{some_is}
@@ -450,3 +450,54 @@ own_locals cells r own s e =
     let from : 1 ≤ r.base = s.stands.leads.base.from in
     let at : r.base - 1 + 1 ≡ r.base = omega arith in
     e ∙ ap (λ (h : ℕ). locals_of (cell_at h cells)) at
+
+-- The operand below others is dropped with them
+
+-- some operands, by the lowest one and those above it
+record CalleeBelow (count : ℕ) (cells : List Cell) : Type 0 where
+  callee : Item
+  items : List Item
+  rest : List Cell
+  is : cells ≡ operands_above items (Operand callee ∷ rest)
+  many : length items ≡ count
+
+callee_below : (count : ℕ) (cells : List Cell) → HasOperands (count + 1) cells → CalleeBelow count cells
+callee_below count cells h = let all = operands_are (count + 1) cells h in by_first all.items all.rest all.is all.many
+  where
+    by_first : (items : List Item) (rest : List Cell) → cells ≡ operands_above items rest → length items ≡ count + 1 → CalleeBelow count cells
+    by_first [] rest is many = let none : 0 ≡ count + 1 = many in absurd (omega arith)
+    by_first (x ∷ items) rest is many =
+        let others : suc (length items) ≡ count + 1 = many in
+        record { callee = x; items = items; rest = rest; is = is; many = omega arith }
+
+-- what is left of a stack
+pub record LeftBelow (count : ℕ) (m : FlatStack) (after : List Cell) : Type 0 where
+  pub drops : DropsWith count m (record m { cells = after })
+  pub sound : Sound after m.registers
+
+pub dropped_with : (count n : ℕ) (m : FlatStack) (after : List Cell) → Sound m.cells m.registers → HasOperands (count + 1) m.cells
+    → n ≡ length m.cells → after ≡ cut (n - 1 - count) m.cells → LeftBelow count m after
+dropped_with count n m after s h len is =
+    let all = callee_below count m.cells h in
+    let long : length m.cells ≡ length all.items + suc (length all.rest)
+    = ap length all.is ∙ length_operands all.items (Operand all.callee ∷ all.rest) in
+    let low : n - 1 - count ≡ length all.rest = omega (arith, len, long, all.many) in
+    let high : length all.rest ≤ length all.rest = omega arith in
+    let next : length all.rest ≤ suc (length all.rest) = omega arith in
+    let none : length all.rest - length all.rest ≡ 0 = omega arith in
+    let left : after ≡ all.rest
+    = is ∙ ap (λ (k : ℕ). cut k m.cells) low ∙ ap (λ (w : List Cell). cut (length all.rest) w) all.is
+    ∙ cut_below all.items (Operand all.callee ∷ all.rest) (length all.rest) next ∙ cut_on (Operand all.callee) all.rest (length all.rest) high
+    ∙ ap (λ (k : ℕ). drop k all.rest) none in
+    let under = stands_below m all.items all.callee all.rest s all.is in
+    let F : List Cell → FlatStack = λ w. record m { cells = w } in
+    record {
+      drops = record {
+        callee = all.callee;
+        items = all.items;
+        was = ap F (all.is ∙ ap (λ (w : List Cell). operands_above all.items (Operand all.callee ∷ w)) (sym left));
+        many = all.many;
+        locals_same = under.locals_same ∙ ap (λ (w : List Cell). locals (F w)) (sym left);
+      };
+      sound = subst (λ (w : List Cell). Sound w m.registers) (sym left) under.sound;
+    }

@@ -86,3 +86,11 @@ pub record EntersWith (proc count nulls address : ℕ) (m n : FlatStack) : Type 
   pub depth : level m ≡ level rest
   pub hold : HoldValues (locals rest) items values
   pub is : n ≡ enter proc (values ++ replicate nulls Null) address rest
+
+-- The operand below so many others is dropped, and these; the locals are as they were.
+pub record DropsWith (count : ℕ) (m k : FlatStack) : Type 0 where
+  pub callee : Item
+  pub items : List Item
+  pub was : m ≡ record k { cells = operands_above items (Operand callee ∷ k.cells) }
+  pub many : length items ≡ count
+  pub locals_same : locals m ≡ locals k

@@ -16,6 +16,8 @@ use Rattle.icn_frames.specs.declared.layout.Why.TheVariants as Whys
 use Rattle.icn_frames.specs.declared.layout.NewestKind.{NewestKind}
 use Rattle.icn_frames.specs.declared.layout.NewestKind.TheVariants as NewestKinds
 use Rattle.icn_frames.specs.declared.layout.Cell.{Cell}
+use Rattle.icn_frames.specs.declared.layout.CellContent.{CellContent}
+use Rattle.icn_frames.specs.declared.layout.CellContent.TheVariants as CellContents
 use Rattle.icn_frames.specs.declared.layout.Cell.TheVariants.{Base, Call, Local, Mark, Limit, Suspension, Operand}
 use Rattle.icn_frames.specs.declared.slots.Control.{Control}
 use Rattle.icn_frames.specs.declared.slots.Extra.{Extra}
@@ -152,6 +154,26 @@ IsFree slot = (a b : Control) (x y : Extra) → cell_of a x slot ≡ cell_of b y
 abbrev pub operand_in : Option Cell → Option Item
 operand_in (Some (Operand item)) = Some item
 operand_in cell = None
+
+-- the value of a cell that is a local
+abbrev pub local_in : Option Cell → Option Val
+local_in (Some (Local value)) = Some value
+local_in cell = None
+
+-- what a cell that is a suspension is there for
+abbrev pub why_in : Option Cell → Option Why
+why_in (Some (Suspension why registers address)) = Some why
+why_in cell = None
+
+-- what a cell holds in which a value may stand
+abbrev pub content_of : Cell → CellContent
+content_of (Base proc locals) = CellContents.Nothing
+content_of (Call proc locals level registers address) = CellContents.Nothing
+content_of (Local value) = CellContents.Local value
+content_of (Mark label changed registers) = CellContents.Nothing
+content_of (Limit count registers) = CellContents.Nothing
+content_of (Suspension why registers address) = CellContents.Suspended why
+content_of (Operand item) = CellContents.Operand item
 
 -- whether a cell is a plain mark
 abbrev pub is_plain_cell : Option Cell → Bool

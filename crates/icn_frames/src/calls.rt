@@ -1,11 +1,12 @@
 // The calls of a stack.
 ghost use Rattle.std.specs.Prelude.{◌≡◌, ◌+◌, ◌<◌, ◌≤◌, ◌^◌, ℕ, Option, None, Bool, List, ◌∷◌, true, false, OnOk, OnErr, IsOk, IfOk, IfSome, IsSome, is_some, is_none, length, map, slice_get, slice_set};
+ghost use Rattle.icn_frames.specs.Heights.{cell_at};
 ghost use Rattle.icn_frames.specs.Stacks as flat;
 ghost use Rattle.icn_frames.specs.Stacks.{FlatStack};
 ghost use Rattle.icn_frames.specs.StackInvariant.{shape, IsScan, MayBeAt};
-ghost use Rattle.icn_frames.specs.Slots.{plain_operand, plain_local, why_counting};
+ghost use Rattle.icn_frames.specs.Slots.{content_of, plain_operand, plain_local, why_counting, value_only};
 ghost use Rattle.icn_frames.specs.Newest.{IsCounting, IsNewest};
-ghost use Rattle.icn_frames.specs.CalledWith.{EntersWith, HasOperands, operands_above};
+ghost use Rattle.icn_frames.specs.CalledWith.{DropsWith, EntersWith, HasOperands, operands_above};
 ghost use Rattle.icn_frames.specs.declared.layout.Cell.{Cell};
 ghost use Rattle.icn_frames.specs.declared.layout.Cell.TheVariants as CellVariants;
 ghost use Rattle.icn_frames.specs.declared.layout.Why.{Why};
@@ -15,7 +16,7 @@ ghost use Rattle.icn_value.specs.declared.item.Item.{Item};
 ghost use Rattle.icn_value.specs.declared.val.Val.{Val};
 
 use crate::cells::Cells;
-use crate::layout::{Count, NewFrame, NewestKind, Registers, Why};
+use crate::layout::{CellContent, Count, NewFrame, NewestKind, Registers, Why};
 use crate::slots::StackSlot;
 use crate::stack::Stack;
 use crate::steps::{
@@ -150,6 +151,21 @@ impl<K: Stack<StackSlot> + Drop> Frames<K> {
         ensures spare { self.new.spare ≡ self.old.spare }
     {
         self.address = address;
+    }
+
+    /// How many cells there are.
+    pub fn len(&self) -> u64
+        ensures { result ≡ length self.now.flat.cells }
+    {
+        self.cells.len()
+    }
+
+    /// What the cell above `i` others holds in which a value may stand.
+    pub fn content_at(&self, i: u64) -> CellContent
+        requires { i < length self.now.flat.cells }
+        ensures { (cell : Cell) → cell_at (i + 1) self.now.flat.cells ≡ Some cell → result ≡ content_of cell }
+    {
+        self.cells.content_at(i)
     }
 
     /// Makes room for `n` more cells. Where there is so much room already it takes no memory.
@@ -558,6 +574,41 @@ impl<K: Stack<StackSlot> + Drop> Frames<K> {
             → length items ≡ count → plain_operand result ≡ Some y → x ≡ y }
     {
         self.cells.slot_at(self.cells.len() - 1 - count as u64)
+    }
+
+    /// The value of the operand below `count` others, if it is one, and there must be so many.
+    #[inline(always)]
+    pub fn value_below(&self, count: u32) -> Option<Val>
+        requires { HasOperands (count + 1) self.now.flat.cells }
+        ensures { (x : Item) (items : List Item) (rest : List Cell)
+            → self.now.flat.cells ≡ operands_above items (CellVariants.Operand x ∷ rest)
+            → length items ≡ count → result ≡ value_only x }
+    {
+        self.cells.value_above(self.cells.len() - 1 - count as u64)
+    }
+
+    /// Drops the operand below `count` others, and these; there must be so many.
+    #[inline(always)]
+    pub fn drop_with(&mut self, count: u32)
+        requires { HasOperands (count + 1) self.old.flat.cells }
+        ensures drops { DropsWith count self.old.flat self.new.flat }
+        ensures spare { self.new.spare ≡ self.old.spare + count + 1 }
+    {
+        self.cells.cut(self.cells.len() - 1 - count as u64);
+    }
+
+    /// Puts an operand that is a value on top. `AllocError` is want of memory, which comes only where nothing is spare; the
+    /// stack is as it was then.
+    #[inline(always)]
+    pub fn push_value(&mut self, v: Val) -> Result<(), AllocError>
+        ensures ok { OnOk result (self.new.flat ≡ flat.push (Items.Val v) self.old.flat) }
+        ensures err { OnErr result (self.new.flat ≡ self.old.flat) }
+        ensures spare { self.old.spare ≤ self.new.spare + 1 }
+        ensures succeeds { 0 < self.old.spare → IsOk result }
+    {
+        self.cells.reserve(1)?;
+        self.cells.push_value(v);
+        Ok(())
     }
 
     /// Opens the frame of a procedure in the place of the operand below `count` others, and goes to an address: the values of

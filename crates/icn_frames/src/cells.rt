@@ -1,11 +1,12 @@
 // The cells of a stack over slots, with what is kept beside them.
 ghost use Rattle.std.specs.Prelude.{◌≡◌, ◌+◌, ◌-◌, ◌<◌, ◌≤◌, ◌^◌, ℕ, List, [], ◌∷◌, length, Option, Some, is_some, IsSome, Bool, true, OnOk, IsOk, IfSome};
 ghost use Rattle.icn_frames.specs.Heights.{cut, cell_at, set_cell, with_copy};
-ghost use Rattle.icn_frames.specs.Slots.{operand_in, is_plain_cell, count_in, top_operand, plain_operand, plain_local, why_counting, TellsWhy};
+ghost use Rattle.icn_frames.specs.Slots.{operand_in, content_of, is_plain_cell, count_in, top_operand, plain_operand, plain_local, why_counting, TellsWhy, value_only};
 ghost use Rattle.icn_frames.specs.StackInvariant.{shape, outer_of};
 ghost use Rattle.icn_frames.specs.Stacks as flat;
 ghost use Rattle.icn_value.specs.declared.val.Val.{Val};
 ghost use Rattle.icn_value.specs.declared.item.Item.{Item};
+ghost use Rattle.icn_value.specs.declared.item.Item.TheVariants as Items;
 ghost use Rattle.icn_value.specs.declared.item.Pair.{Pair};
 ghost use Rattle.icn_frames.specs.declared.layout.Why.{Why};
 ghost use Rattle.icn_frames.specs.declared.layout.Why.TheVariants as Whys;
@@ -13,13 +14,13 @@ ghost use Rattle.icn_frames.specs.declared.layout.Registers.{Registers};
 ghost use Rattle.icn_frames.specs.declared.layout.Cell.{Cell};
 ghost use Rattle.icn_frames.specs.declared.layout.Cell.TheVariants as CellVariants;
 
-use crate::layout::{Count, NewestKind, Registers, Why};
+use crate::layout::{CellContent, Count, NewestKind, Registers, Why};
 use crate::slots::{
-    Control, CountRange, Extra, StackSlot, address_of, copy_beside, count_held, count_of, depth_of,
-    is_base_cell, is_operand, is_plain, is_relabelled, keep_local, keep_operand, keep_why, kind_of,
-    label_in, level_of, local_of, locals_of, make_beside, make_controls, mark_slot, operand_of,
-    pair_at, proc_of, put_control, put_counted, put_pair, put_saved, range_of, return_of, saved_of,
-    why_of,
+    Control, CountRange, Extra, StackSlot, address_of, content_of, copy_beside, count_held,
+    count_of, depth_of, is_base_cell, is_operand, is_plain, is_relabelled, keep_local,
+    keep_operand, keep_value, keep_why, kind_of, label_in, level_of, local_of, locals_of,
+    make_beside, make_controls, mark_slot, operand_of, pair_at, proc_of, put_control, put_counted,
+    put_pair, put_saved, range_of, return_of, saved_of, value_of, why_of,
 };
 use crate::stack::Stack;
 use icn_value::{Item, Pair, Val};
@@ -313,6 +314,28 @@ impl<K: Stack<StackSlot> + Drop> Cells<K> {
         operand_of(&self.extras, i, self.slots.get(i))
     }
 
+    /// The value of the operand above `i` others, if it is one.
+    #[inline(always)]
+    pub fn value_above(&self, i: u64) -> Option<Val>
+        requires { i < length self.now.cells }
+        ensures { (x : Item) → cell_at (i + 1) self.now.cells ≡ Some (CellVariants.Operand x)
+            → result ≡ value_only x }
+    {
+        value_of(&self.extras, i, self.slots.get(i))
+    }
+
+    /// Puts an operand that is a value on top. There must be room for it.
+    #[inline(always)]
+    pub fn push_value(&mut self, v: Val)
+        requires { 0 < self.old.spare }
+        ensures cells { self.new.cells ≡ CellVariants.Operand (Items.Val v) ∷ self.old.cells }
+        ensures spare { self.new.spare + 1 ≡ self.old.spare }
+    {
+        let at = self.slots.len();
+        let slot = keep_value(&mut self.extras, at, v);
+        self.slots.push(slot);
+    }
+
     /// The local above `below + index` others.
     pub fn local_at(&self, below: u64, index: u64) -> Val
         requires { below + index < length self.now.cells }
@@ -418,6 +441,15 @@ impl<K: Stack<StackSlot> + Drop> Cells<K> {
     {
         let range = range_of(&self.controls, i);
         why_of(&self.extras, i, self.slots.get(i), range)
+    }
+
+    /// What the cell above `i` others holds in which a value may stand.
+    pub fn content_at(&self, i: u64) -> CellContent
+        requires { i < length self.now.cells }
+        ensures { (cell : Cell) → cell_at (i + 1) self.now.cells ≡ Some cell → result ≡ content_of cell }
+    {
+        let range = range_of(&self.controls, i);
+        content_of(&self.extras, i, self.slots.get(i), range)
     }
 
     /// What the slot above `i` others tells of why something was suspended.

@@ -113,3 +113,16 @@ pub enum Cell {
     /// An operand.
     Operand(Item),
 }
+
+/// What a cell holds in which a value may stand.
+#[derive(Clone, Copy)]
+pub enum CellContent {
+    /// A frame or a mark: no value.
+    Nothing,
+    /// A local.
+    Local(Val),
+    /// An operand.
+    Operand(Item),
+    /// What a suspension is there for.
+    Suspended(Why),
+}

@@ -1,7 +1,7 @@
 // How a cell is kept: a slot of sixteen bytes, and beside it, at the same height, what does not fit in one.
 ghost use Rattle.std.specs.Prelude.{◌≡◌, ◌<◌, ◌≤◌, ℕ, Bool, true, false, length, vec_len, vec_capacity, Option, Some, is_some, OnOk, OnErr, IfSome};
 ghost use Rattle.std.specs.Bool.{OnFalse};
-ghost use Rattle.icn_frames.specs.Slots.{cell_of, control_at, extra_at, no_control, no_extra, ExtrasElsewhere, ControlsElsewhere, IsFree, operand_in, is_plain_cell, count_in, plain_operand, plain_local, plain_value, why_counting, TellsWhy};
+ghost use Rattle.icn_frames.specs.Slots.{cell_of, control_at, extra_at, no_control, no_extra, ExtrasElsewhere, ControlsElsewhere, IsFree, operand_in, local_in, why_in, content_of, is_plain_cell, count_in, plain_operand, plain_local, plain_value, why_counting, TellsWhy, value_only};
 ghost use Rattle.std.specs.Option.{option_map};
 ghost use Rattle.icn_frames.specs.Stacks as flat;
 ghost use Rattle.icn_value.specs.declared.item.Item.TheVariants as Items;
@@ -11,7 +11,7 @@ ghost use Rattle.icn_value.specs.declared.item.Item.{Item};
 ghost use Rattle.icn_frames.specs.declared.layout.Why.{Why};
 ghost use Rattle.icn_frames.specs.declared.layout.Registers.{Registers};
 
-use crate::layout::{Count, NewestKind, Registers, Why};
+use crate::layout::{CellContent, Count, NewestKind, Registers, Why};
 use icn_profile::NUMBER_LIMIT;
 use icn_value::{File, Item, KeywordVariable, Pair, Residual, Root, Span, Val, VarRef};
 use std::alloc::AllocError;
@@ -310,8 +310,8 @@ pub fn keep_local(extras: &mut Vec<Extra>, at: u64, v: Val) -> StackSlot
     }
 }
 
-// The slot of a value that is an operand at this place, beside which there must be room.
-fn keep_value(extras: &mut Vec<Extra>, at: u64, v: Val) -> StackSlot
+/// The slot of a value that is an operand at this place, beside which there must be room.
+pub fn keep_value(extras: &mut Vec<Extra>, at: u64, v: Val) -> StackSlot
     requires { at < vec_capacity extras.old }
     ensures is { (control : Control)
         → cell_of control (extra_at extras.new.items at) result ≡ CellVariants.Operand (Items.Val v) }
@@ -422,6 +422,35 @@ pub fn local_of(extras: &Vec<Extra>, at: u64, slot: StackSlot) -> Val
     }
 }
 
+/// The value of the operand at this place, if it is one.
+#[inline(always)]
+pub fn value_of(extras: &Vec<Extra>, at: u64, slot: StackSlot) -> Option<Val>
+    ensures { (control : Control) (x : Item)
+        → cell_of control (extra_at extras.now.items at) slot ≡ CellVariants.Operand x
+        → result ≡ value_only x }
+{
+    match slot {
+        StackSlot::ValNull => Some(Val::Null),
+        StackSlot::ValOther => Some(value_at(extras, at)),
+        StackSlot::ValInteger(number) => Some(Val::Integer(number)),
+        StackSlot::ValText { len, start } => Some(Val::Text(Span {
+            start,
+            len: u64::from(len),
+        })),
+        StackSlot::ValInput => Some(Val::Std(File::Input)),
+        StackSlot::ValOutput => Some(Val::Std(File::Output)),
+        StackSlot::ValErrout => Some(Val::Std(File::Errout)),
+        StackSlot::ValOpened(number) => Some(Val::Std(File::Opened(number))),
+        StackSlot::ValProc(number) => Some(Val::Proc(number)),
+        StackSlot::ValRec(number) => Some(Val::Rec(number)),
+        StackSlot::ValList(number) => Some(Val::List(number)),
+        StackSlot::ValSet(number) => Some(Val::Set(number)),
+        StackSlot::ValTable(number) => Some(Val::Table(number)),
+        StackSlot::ValCoexp(number) => Some(Val::Coexp(number)),
+        _ => None,
+    }
+}
+
 /// The operand at this place.
 pub fn operand_of(extras: &Vec<Extra>, at: u64, slot: StackSlot) -> Item
     ensures { (control : Control) (x : Item)
@@ -489,6 +518,26 @@ pub fn is_operand(slot: StackSlot) -> bool
         StackSlot::VarElement { .. } | StackSlot::VarField { .. } | StackSlot::VarKey { .. } =>
             true,
         StackSlot::VarSubject | StackSlot::VarPosition | StackSlot::VarRandom => true,
+        _ => false,
+    }
+}
+
+/// Whether a slot is a local's.
+pub fn is_local(slot: StackSlot) -> bool
+    ensures { (control : Control) (extra : Extra)
+        → result ≡ is_some (local_in (Some (cell_of control extra slot))) }
+{
+    match slot {
+        StackSlot::LocalOther | StackSlot::LocalNull | StackSlot::LocalInteger(_) => true,
+        StackSlot::LocalText { .. }
+        | StackSlot::LocalInput
+        | StackSlot::LocalOutput
+        | StackSlot::LocalErrout => true,
+        StackSlot::LocalOpened(_)
+        | StackSlot::LocalProc(_)
+        | StackSlot::LocalRec(_)
+        | StackSlot::LocalList(_) => true,
+        StackSlot::LocalSet(_) | StackSlot::LocalTable(_) | StackSlot::LocalCoexp(_) => true,
         _ => false,
     }
 }
@@ -749,6 +798,55 @@ pub fn why_of(extras: &Vec<Extra>, at: u64, slot: StackSlot, range: CountRange) 
         StackSlot::EscanHeld { .. } => Why::Escan,
         StackSlot::ProcHeld { .. } => Why::Proc,
         _ => Why::Alt,
+    }
+}
+
+/// All that is kept at this place for slots that are too small.
+pub fn extra_of(extras: &Vec<Extra>, at: u64) -> Extra
+    ensures { result ≡ extra_at extras.now.items at }
+{
+    if at < extras.len() as u64 {
+        extras[at as usize]
+    } else {
+        blank_extra()
+    }
+}
+
+/// What a suspension is there for, if the slot is one's, beside which this is kept, where a count ends so.
+pub fn suspended_of(extra: Extra, slot: StackSlot, range: CountRange) -> Option<Why>
+    ensures { (control : Control) → control.range ≡ range
+        → result ≡ why_in (Some (cell_of control extra slot)) }
+{
+    match slot {
+        StackSlot::AltHeld { .. } => Some(Why::Alt),
+        StackSlot::OpHeld { .. } => Some(Why::Op(extra.residual)),
+        StackSlot::CountHeld { given, .. } => Some(Why::Op(Residual::Counting {
+            given,
+            last: range.last,
+            step: range.step,
+        })),
+        StackSlot::ScanHeld { .. } => Some(Why::Scan(extra.pair)),
+        StackSlot::EscanHeld { .. } => Some(Why::Escan),
+        StackSlot::ProcHeld { .. } => Some(Why::Proc),
+        _ => None,
+    }
+}
+
+/// What the cell at this place holds in which a value may stand, where a count ends so. It does not call `why_of`, so that resuming has
+/// that in its place.
+pub fn content_of(extras: &Vec<Extra>, at: u64, slot: StackSlot, range: CountRange) -> CellContent
+    ensures { (control : Control) → control.range ≡ range
+        → result ≡ content_of (cell_of control (extra_at extras.now.items at) slot) }
+{
+    if is_operand(slot) {
+        return CellContent::Operand(operand_of(extras, at, slot));
+    }
+    if is_local(slot) {
+        return CellContent::Local(local_of(extras, at, slot));
+    }
+    match suspended_of(extra_of(extras, at), slot, range) {
+        Some(why) => CellContent::Suspended(why),
+        None => CellContent::Nothing,
     }
 }
 

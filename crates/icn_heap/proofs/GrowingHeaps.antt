@@ -4,7 +4,7 @@ use Rattle.std.proofs.lemmas.Int.{ints}
 use Rattle.std.specs.List.{All}
 use Rattle.std.specs.Option.{option_map}
 use Rattle.std.proofs.lemmas.List.Elements.{All-weaker, All-head, All-tail}
-use Rattle.icn_strings.specs.Regions.{KeepsRanges as KeepsTexts, sum_of}
+use Rattle.icn_strings.specs.Regions.{KeepsBytes, KeepsRanges as KeepsTexts, sum_of}
 use Rattle.icn_structs.specs.Numbered.{NumberedList}
 use Rattle.icn_value.specs.declared.val.Span.{Span}
 use Rattle.icn_value.specs.declared.val.File.{File as HeldFile}
@@ -15,12 +15,67 @@ use Rattle.icn_value.specs.Values.{Value, Text}
 use Rattle.icn_value.specs.Limited.{limits_of}
 use Rattle.icn_value.specs.Store.{Heap, Table, Record}
 use Rattle.icn_heap.specs.Keys.{key_value}
-use Rattle.icn_heap.specs.Extents.{Extent, range_of, IsText, IsLive, FileBy, LiveBy, text_in, value_in, KeepsValues}
+use Rattle.icn_heap.specs.Extents.{Extent, range_of, IsText, IsMadeText, IsLive, FileBy, LiveBy, MadeBy, text_in, value_in, KeepsMeaning, KeepsValues}
 use Rattle.icn_heap.specs.HeapParts.{Parts, list_in, set_in, pair_in, table_in, record_in, heap_over, extent_in, IsSoundList, IsSoundMember, IsSoundPair, IsSoundTable, IsSoundRecord, AreSound, IsCharged, IsSoundHeap}
 use Rattle.icn_heap.specs.Records.{HeldRecord}
 use Rattle.icn_heap.specs.declared.key.Key.{Key}
 use Rattle.icn_heap.specs.declared.entries.Entry.{Entry}
 use Rattle.icn_heap.specs.declared.entries.Entries.{Entries}
+
+-- texts mean the same, and there are more structures and more opened files, or as many
+pub record MeansMore (old new : Extent) : Type 0 where
+  pub texts : KeepsBytes old.strings new.strings
+  pub lists : old.lists ≤ new.lists
+  pub sets : old.sets ≤ new.sets
+  pub tables : old.tables ≤ new.tables
+  pub records : old.records ≤ new.records
+  pub coexps : old.coexps ≤ new.coexps
+  pub files : old.files ≤ new.files
+
+module _ {a b : Extent} (more : MeansMore a b) where
+  pub file_by : (file : HeldFile) → FileBy a file → FileBy b file
+  file_by HeldInput is = tt
+  file_by HeldOutput is = tt
+  file_by HeldErrout is = tt
+  file_by (HeldOpened number) is = let many = more.files in omega arith
+
+  made_by : (val : Val) → MadeBy a val → MadeBy b val
+  made_by NullVal is = tt
+  made_by (IntegerVal n) is = tt
+  made_by (TextVal span) is = record { written = more.texts.written (range_of span) is.written }
+  made_by (CharsVal cset) is = tt
+  made_by (StdVal file) is = file_by file is
+  made_by (ProcVal number) is = tt
+  made_by (RecVal id) is = let many = more.records in omega arith
+  made_by (ListVal id) is = let many = more.lists in omega arith
+  made_by (SetVal id) is = let many = more.sets in omega arith
+  made_by (TableVal id) is = let many = more.tables in omega arith
+  made_by (CoexpVal id) is = let many = more.coexps in omega arith
+
+  made_bytes : (span : Span) → IsMadeText a span → text_in b span ≡ text_in a span
+  unfolding text_in
+  made_bytes span is = more.texts.bytes (range_of span) is.written
+
+  made_value : (val : Val) → MadeBy a val → value_in b val ≡ value_in a val
+  made_value NullVal is = refl
+  made_value (IntegerVal n) is = refl
+  made_value (TextVal span) is = ap Text (made_bytes span is)
+  made_value (CharsVal cset) is = refl
+  made_value (StdVal file) is = refl
+  made_value (ProcVal number) is = refl
+  made_value (RecVal id) is = refl
+  made_value (ListVal id) is = refl
+  made_value (SetVal id) is = refl
+  made_value (TableVal id) is = refl
+  made_value (CoexpVal id) is = refl
+
+  pub means_by : KeepsMeaning a b
+  means_by = record {
+    made = λ val is. record { made = made_by val is.made };
+    value = λ val is. made_value val is.made;
+    text = λ span is. record { written = more.texts.written (range_of span) is.written };
+    bytes = made_bytes;
+  }
 
 -- more texts, more structures and more opened files, or as many
 pub record Extends (old new : Extent) : Type 0 where
@@ -32,19 +87,25 @@ pub record Extends (old new : Extent) : Type 0 where
   pub coexps : old.coexps ≤ new.coexps
   pub files : old.files ≤ new.files
 
-module _ {a b : Extent} (more : Extends a b) where
-  file_by : (file : HeldFile) → FileBy a file → FileBy b file
-  file_by HeldInput is = tt
-  file_by HeldOutput is = tt
-  file_by HeldErrout is = tt
-  file_by (HeldOpened number) is = let many = more.files in omega arith
+-- what was made means the same then
+means_more : {a b : Extent} → Extends a b → MeansMore a b
+means_more more = record {
+  texts = more.texts.means;
+  lists = more.lists;
+  sets = more.sets;
+  tables = more.tables;
+  records = more.records;
+  coexps = more.coexps;
+  files = more.files;
+}
 
+module _ {a b : Extent} (more : Extends a b) where
   live_by : (val : Val) → LiveBy a val → LiveBy b val
   live_by NullVal is = tt
   live_by (IntegerVal n) is = tt
   live_by (TextVal span) is = record { of = more.texts.of (range_of span) is.of }
   live_by (CharsVal cset) is = tt
-  live_by (StdVal file) is = file_by file is
+  live_by (StdVal file) is = file_by (means_more more) file is
   live_by (ProcVal number) is = tt
   live_by (RecVal id) is = let many = more.records in omega arith
   live_by (ListVal id) is = let many = more.lists in omega arith
@@ -71,15 +132,29 @@ module _ {a b : Extent} (more : Extends a b) where
 
   pub keeps_by : KeepsValues a b
   keeps_by = record {
+    means = means_by (means_more more);
     live = λ val is. record { live = live_by val is.live };
     value = λ val is. value_by val is.live;
     text = λ span is. record { of = more.texts.of (range_of span) is.of };
     bytes = bytes_by;
   }
 
+-- what was made stands for the same after one change and then another one
+means_trans : {a b c : Extent} → KeepsMeaning a b → KeepsMeaning b c → KeepsMeaning a c
+means_trans first second = record {
+  made = λ val is. second.made val (first.made val is);
+  value = λ val is. second.value val (first.made val is) ∙ first.value val is;
+  text = λ span is. second.text span (first.text span is);
+  bytes = λ span is. second.bytes span (first.text span is) ∙ first.bytes span is;
+}
+
+pub means_refl : (a : Extent) → KeepsMeaning a a
+means_refl a = record { made = λ val is. is; value = λ val is. refl; text = λ span is. is; bytes = λ span is. refl }
+
 -- what one change and then another one keep, both keep
 pub keeps_trans : {a b c : Extent} → KeepsValues a b → KeepsValues b c → KeepsValues a c
 keeps_trans first second = record {
+  means = means_trans first.means second.means;
   live = λ val is. second.live val (first.live val is);
   value = λ val is. second.value val (first.live val is) ∙ first.value val is;
   text = λ span is. second.text span (first.text span is);
@@ -88,7 +163,8 @@ keeps_trans first second = record {
 
 -- a heap keeps what it has
 pub keeps_refl : (a : Extent) → KeepsValues a a
-keeps_refl a = record { live = λ val is. is; value = λ val is. refl; text = λ span is. is; bytes = λ span is. refl }
+keeps_refl a =
+    record { means = means_refl a; live = λ val is. is; value = λ val is. refl; text = λ span is. is; bytes = λ span is. refl }
 
 -- what is made of each element is the same, where it is the same of each element that a fact holds of
 mapped : {X Y : Type 0} (P : X → Type 0) (f g : X → Y) → ((x : X) → P x → f x ≡ g x) → (xs : List X) → All P xs → map f xs ≡ map g xs
@@ -98,39 +174,31 @@ mapped P f g same (x ∷ xs) are =
     let rest : map f xs ≡ map g xs = mapped P f g same xs (All-tail P x xs are) in
     cc
 
-module _ {a b : Extent} (keeps : KeepsValues a b) where
-  -- and they stand for the same values
-  pub values_kept : (vals : List Val) → All (IsLive a) vals → map (value_in b) vals ≡ map (value_in a) vals
-  values_kept vals are = mapped (IsLive a) (value_in b) (value_in a) keeps.value vals are
+module _ (a b : Extent) (value : (val : Val) → IsLive a val → value_in b val ≡ value_in a val) where
+  -- where each value that is of a heap stands for the same, so do values
+  pub values_same : (vals : List Val) → All (IsLive a) vals → map (value_in b) vals ≡ map (value_in a) vals
+  values_same vals are = mapped (IsLive a) (value_in b) (value_in a) value vals are
 
-  -- values that are of the heap before are of the heap after
-  pub live_kept : (vals : List Val) → All (IsLive a) vals → All (IsLive b) vals
-  live_kept vals are = All-weaker (IsLive a) (IsLive b) keeps.live vals are
+  list_same : (cells : ℕ) (list : NumberedList Val) → IsSoundList a cells list → list_in b list ≡ list_in a list
+  list_same cells list is = ap (λ items. let it : NumberedList Value = record { items = items; number = list.number } in it) (values_same list.items is.live)
 
-  pub optional_kept : (val : Option Val) → IfSome val (IsLive a) → option_map (value_in b) val ≡ option_map (value_in a) val
-  optional_kept None is = refl
-  optional_kept (Some val) is = ap Some (keeps.value val is)
+  pair_same : (pair : Key × Entry) → IsSoundPair a pair → pair_in b pair ≡ pair_in a pair
+  pair_same pair is = ap (λ (it : Value). let e : Value × Value = (key_value pair.0, it) in e) (value pair.1.value is.value)
 
-  list_kept : (cells : ℕ) (list : NumberedList Val) → IsSoundList a cells list → list_in b list ≡ list_in a list
-  list_kept cells list is = ap (λ items. let it : NumberedList Value = record { items = items; number = list.number } in it) (values_kept list.items is.live)
-
-  pair_kept : (pair : Key × Entry) → IsSoundPair a pair → pair_in b pair ≡ pair_in a pair
-  pair_kept pair is = ap (λ (value : Value). let e : Value × Value = (key_value pair.0, value) in e) (keeps.value pair.1.value is.value)
-
-  table_kept : (table : Entries) → IsSoundTable a table → table_in b table ≡ table_in a table
-  table_kept table is =
-      let first : value_in b table.default ≡ value_in a table.default = keeps.value table.default is.default in
-      let rest : map (pair_in b) table.pairs ≡ map (pair_in a) table.pairs = mapped (IsSoundPair a) (pair_in b) (pair_in a) pair_kept table.pairs is.pairs in
+  table_same : (table : Entries) → IsSoundTable a table → table_in b table ≡ table_in a table
+  table_same table is =
+      let first : value_in b table.default ≡ value_in a table.default = value table.default is.default in
+      let rest : map (pair_in b) table.pairs ≡ map (pair_in a) table.pairs = mapped (IsSoundPair a) (pair_in b) (pair_in a) pair_same table.pairs is.pairs in
       cc
 
-  record_kept : (held : HeldRecord) → IsSoundRecord a held → record_in b held ≡ record_in a held
-  record_kept held is = ap (λ fields. let r : Record = record { kind = held.kind; fields = fields } in r) (values_kept held.values is.live)
+  record_same : (held : HeldRecord) → IsSoundRecord a held → record_in b held ≡ record_in a held
+  record_same held is = ap (λ fields. let r : Record = record { kind = held.kind; fields = fields } in r) (values_same held.values is.live)
 
-  -- what the parts stand for
-  pub over_kept : (parts : Parts) → AreSound a parts → heap_over b parts ≡ heap_over a parts
-  over_kept parts are =
-      heap_by (mapped _ _ _ (list_kept parts.cells) parts.lists are.lists) (mapped _ _ _ table_kept parts.tables are.tables)
-      (mapped _ _ _ record_kept parts.records are.records)
+  -- and what the parts stand for is the same
+  pub over_same : (parts : Parts) → AreSound a parts → heap_over b parts ≡ heap_over a parts
+  over_same parts are =
+      heap_by (mapped _ _ _ (list_same parts.cells) parts.lists are.lists) (mapped _ _ _ table_same parts.tables are.tables)
+      (mapped _ _ _ record_same parts.records are.records)
     where
       heap_by : {lists lists' : List (NumberedList Value)} {tables tables' : List Table} {records records' : List Record}
           → lists' ≡ lists → tables' ≡ tables → records' ≡ records
@@ -157,6 +225,23 @@ module _ {a b : Extent} (keeps : KeepsValues a b) where
             bounds = limits_of parts.limits;
           } in t)
       heap_by lists tables records = cc
+
+module _ {a b : Extent} (keeps : KeepsValues a b) where
+  -- and they stand for the same values
+  pub values_kept : (vals : List Val) → All (IsLive a) vals → map (value_in b) vals ≡ map (value_in a) vals
+  values_kept vals are = values_same a b keeps.value vals are
+
+  -- values that are of the heap before are of the heap after
+  pub live_kept : (vals : List Val) → All (IsLive a) vals → All (IsLive b) vals
+  live_kept vals are = All-weaker (IsLive a) (IsLive b) keeps.live vals are
+
+  pub optional_kept : (val : Option Val) → IfSome val (IsLive a) → option_map (value_in b) val ≡ option_map (value_in a) val
+  optional_kept None is = refl
+  optional_kept (Some val) is = ap Some (keeps.value val is)
+
+  -- what the parts stand for
+  pub over_kept : (parts : Parts) → AreSound a parts → heap_over b parts ≡ heap_over a parts
+  over_kept parts are = over_same a b keeps.value parts are
 
   sound_list_stays : (cells : ℕ) (list : NumberedList Val) → IsSoundList a cells list → IsSoundList b cells list
   sound_list_stays cells list is = record { live = live_kept list.items is.live; low = is.low; high = is.high }

@@ -6,6 +6,8 @@ pub mod PairViews
 pub mod ListChanges
 pub mod OtherChanges
 pub mod FileChanges
+pub mod NeededSteps
+pub mod SweptTexts
 pub mod TextChanges
 pub mod NewNumbers
 pub mod ChangedParts

@@ -21,7 +21,13 @@ use Rattle.icn_heap.specs.Heaps.{with_cells}
 use Rattle.icn_heap.proofs.GrowingHeaps.{lists_later, optional_kept, Becomes, becomes}
 
 pub texts_stay : (region : Region) → KeepsTexts region region
-texts_stay region = record { limit = refl; of = λ place is. is; bytes = λ place is. refl }
+texts_stay region =
+    record {
+      means = record { limit = refl; written = λ place is. is; bytes = λ place is. refl };
+      limit = refl;
+      of = λ place is. is;
+      bytes = λ place is. refl;
+    }
 
 -- an element that is made something of
 pub at_view : {X Y : Type 0} (f : X → Y) (xs : List X) (k : ℕ) (d : X) → unwrap_or (slice_get (map f xs) k) (f d) ≡ f (slice_index_or xs k d)

@@ -3,7 +3,7 @@ use Rattle.std.specs.Prelude.{◌≡◌, ℕ, ◌<◌, List, ⊤}
 use Rattle.std.specs.Coded.{Unit-prop, le_prop}
 use Rattle.icn_strings.specs.declared.byte_range.ByteRange.{ByteRange}
 use Rattle.icn_strings.specs.declared.region.Region.{Region}
-use Rattle.icn_strings.specs.Regions.{IsOf, IsOf-prop, bytes_of}
+use Rattle.icn_strings.specs.Regions.{IsOf, IsOf-prop, IsWritten, IsWritten-prop, bytes_of}
 use Rattle.icn_value.specs.declared.val.Span.{Span}
 use Rattle.icn_value.specs.declared.val.File.{File as HeldFile}
 use Rattle.icn_value.specs.declared.val.File.TheVariants.{Input as HeldInput, Output as HeldOutput, Errout as HeldErrout, Opened as HeldOpened}
@@ -30,6 +30,10 @@ range_of span = record { start = span.start; len = span.len }
 -- the span names a text
 pub record IsText (all : Extent) (span : Span) : Type 0 where
   pub of : IsOf all.strings (range_of span)
+
+-- the span names a text that was made, whether its bytes are there still or not
+pub record IsMadeText (all : Extent) (span : Span) : Type 0 where
+  pub written : IsWritten all.strings (range_of span)
 
 -- the bytes of a text
 unfoldable pub text_in : Extent → Span → List ℕ
@@ -75,6 +79,25 @@ LiveBy all (SetVal id) = id < all.sets
 LiveBy all (TableVal id) = id < all.tables
 LiveBy all (CoexpVal id) = id < all.coexps
 
+-- a text was made, a structure has a number below the count of its type, and so has an opened file; other values ask
+-- for nothing
+abbrev pub MadeBy : Extent → Val → Type 0
+MadeBy all NullVal = ⊤
+MadeBy all (IntegerVal n) = ⊤
+MadeBy all (TextVal span) = IsMadeText all span
+MadeBy all (CharsVal cset) = ⊤
+MadeBy all (StdVal file) = FileBy all file
+MadeBy all (ProcVal number) = ⊤
+MadeBy all (RecVal id) = id < all.records
+MadeBy all (ListVal id) = id < all.lists
+MadeBy all (SetVal id) = id < all.sets
+MadeBy all (TableVal id) = id < all.tables
+MadeBy all (CoexpVal id) = id < all.coexps
+
+-- the value was made in the heap, and stands for something, whether its text is there still or not
+pub record IsMade (all : Extent) (val : Val) : Type 0 where
+  pub made : MadeBy all val
+
 -- the value is of the heap: its text or structure is there
 pub record IsLive (all : Extent) (val : Val) : Type 0 where
   pub live : LiveBy all val
@@ -84,8 +107,16 @@ pub record AreLive (all : Extent) (pair : Val × Val) : Type 0 where
   pub first : IsLive all pair.0
   pub second : IsLive all pair.1
 
--- every value stays of the heap, and stands for the same
+-- every value that was made stands for the same, whatever is given back: no call takes this back
+pub record KeepsMeaning (old new : Extent) : Type 0 where
+  pub made : (val : Val) → IsMade old val → IsMade new val
+  pub value : (val : Val) → IsMade old val → value_in new val ≡ value_in old val
+  pub text : (span : Span) → IsMadeText old span → IsMadeText new span
+  pub bytes : (span : Span) → IsMadeText old span → text_in new span ≡ text_in old span
+
+-- every value stays of the heap, and stands for the same: each call but `collect_texts` gives this
 pub record KeepsValues (old new : Extent) : Type 0 where
+  pub means : KeepsMeaning old new
   pub live : (val : Val) → IsLive old val → IsLive new val
   pub value : (val : Val) → IsLive old val → value_in new val ≡ value_in old val
   pub text : (span : Span) → IsText old span → IsText new span
@@ -116,3 +147,23 @@ LiveBy-prop all (CoexpVal id) = le_prop
 -- there is one proof at most that a value is of a heap
 pub IsLive-prop : (all : Extent) (val : Val) → IsProp (IsLive all val)
 IsLive-prop all val = hlevel LiveBy-prop
+
+IsMadeText-prop : (all : Extent) (span : Span) → IsProp (IsMadeText all span)
+IsMadeText-prop all span = hlevel IsWritten-prop
+
+MadeBy-prop : (all : Extent) (val : Val) → IsProp (MadeBy all val)
+MadeBy-prop all NullVal = Unit-prop
+MadeBy-prop all (IntegerVal n) = Unit-prop
+MadeBy-prop all (TextVal span) = IsMadeText-prop all span
+MadeBy-prop all (CharsVal cset) = Unit-prop
+MadeBy-prop all (StdVal file) = FileBy-prop all file
+MadeBy-prop all (ProcVal number) = Unit-prop
+MadeBy-prop all (RecVal id) = le_prop
+MadeBy-prop all (ListVal id) = le_prop
+MadeBy-prop all (SetVal id) = le_prop
+MadeBy-prop all (TableVal id) = le_prop
+MadeBy-prop all (CoexpVal id) = le_prop
+
+-- there is one proof at most that a value was made in a heap
+pub IsMade-prop : (all : Extent) (val : Val) → IsProp (IsMade all val)
+IsMade-prop all val = hlevel MadeBy-prop

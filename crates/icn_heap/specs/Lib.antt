@@ -8,3 +8,4 @@ pub mod Heaps
 pub mod RegionRefusals
 pub mod Texts
 pub mod MadeStructures
+pub mod NeededValues

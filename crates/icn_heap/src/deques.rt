@@ -3,8 +3,11 @@ ghost use Rattle.std.specs.Prelude.{◌≡◌, ◌<◌, ◌^◌, ◌++◌, ◌�
 ghost use Rattle.std.specs.Int.{w64};
 ghost use Rattle.std.specs.Vec.{vec_len};
 ghost use Rattle.icn_structs.specs.Numbered.{number_after, with_left, with_right, with_numbered, without_left, without_right, leftmost, rightmost, item_numbered};
+ghost use Rattle.std.specs.List.{flat_map};
 ghost use Rattle.icn_heap.specs.HeapParts.{no_vals};
+ghost use Rattle.icn_heap.specs.NeededValues.{list_vals, AreNeeded};
 
+use crate::needed_texts::NeededTexts;
 use icn_structs::Deque;
 use icn_value::Val;
 use std::alloc::{AllocError, Global};
@@ -103,4 +106,24 @@ pub fn list_ref(lists: &Vec<Deque<Val>>, list: u32) -> &Deque<Val>
     ensures { result.now ≡ slice_index_or lists.now.items list no_vals }
 {
     &lists[list as usize]
+}
+
+/// Adds the texts of the items of lists, which are to stay. `AllocError` is want of memory.
+pub fn add_texts_of_lists(lists: &[Deque<Val>], needed: &mut NeededTexts) -> Result<(), AllocError>
+    ensures { OnOk result (AreNeeded needed.old needed.new (flat_map list_vals lists.now)) }
+{
+    for list in lists {
+        add_texts_of_items(list, needed)?;
+    }
+    Ok(())
+}
+
+// Adds the texts of the items of a list.
+fn add_texts_of_items(list: &Deque<Val>, needed: &mut NeededTexts) -> Result<(), AllocError>
+    ensures { OnOk result (AreNeeded needed.old needed.new (list_vals list.now)) }
+{
+    for place in 0..list.len() {
+        needed.add_optional(list.at(place))?;
+    }
+    Ok(())
 }

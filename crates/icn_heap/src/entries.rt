@@ -1,12 +1,15 @@
 // Tables as a heap holds them, and one table among others that changes.
 ghost use Rattle.std.specs.Prelude.{◌≡◌, ◌<◌, ◌^◌, ◌++◌, ◌∷◌, [], OnOk, OnErr, slice_set, slice_get, slice_index_or, length, is_some};
-ghost use Rattle.std.specs.Option.{option_map};
+ghost use Rattle.std.specs.Option.{option_map, option_to_list};
 ghost use Rattle.std.specs.Vec.{vec_len};
 ghost use Rattle.icn_structs.specs.PairLists.{value_of, with_value_of, without, KeysDiffer};
 ghost use Rattle.icn_heap.specs.KeyTests.{key_eq};
+ghost use Rattle.std.specs.List.{flat_map};
+ghost use Rattle.icn_heap.specs.NeededValues.{entry_both, pair_vals, table_vals, AreNeeded};
 ghost use Rattle.icn_heap.specs.HeapParts.{no_entries, entry_of, entry_value, entry_vals, table_with, table_without};
 
 use crate::key::Key;
+use crate::needed_texts::NeededTexts;
 use icn_structs::Pairs;
 use icn_value::Val;
 use std::alloc::{AllocError, Global};
@@ -147,4 +150,61 @@ pub fn keys_of_pairs_differ(tables: &Vec<Entries>, table: u32)
     ensures { KeysDiffer key_eq (slice_index_or tables.now.items table no_entries).pairs }
 {
     let _count = tables[table as usize].pairs.len();
+}
+
+/// Adds the texts of the defaults, keys and values of tables, which are to stay. `AllocError` is want of memory.
+pub fn add_texts_of_tables(tables: &[Entries], needed: &mut NeededTexts) -> Result<(), AllocError>
+    ensures { OnOk result (AreNeeded needed.old needed.new (flat_map table_vals tables.now)) }
+{
+    for table in tables {
+        add_texts_of_table(table, needed)?;
+    }
+    Ok(())
+}
+
+// Adds the texts of the default, the keys and the values of a table.
+fn add_texts_of_table(table: &Entries, needed: &mut NeededTexts) -> Result<(), AllocError>
+    ensures { OnOk result (AreNeeded needed.old needed.new (table_vals table.now)) }
+{
+    needed.add(table.default)?;
+    add_texts_of_pairs(&table.pairs, needed)?;
+    Ok(())
+}
+
+// Adds the texts of the keys and values of the pairs of a table.
+fn add_texts_of_pairs(pairs: &Pairs<Key, Entry>, needed: &mut NeededTexts) -> Result<(), AllocError>
+    ensures { OnOk result (AreNeeded needed.old needed.new (flat_map pair_vals pairs.now)) }
+{
+    for place in 0..pairs.len() {
+        add_texts_of_entry(entry_in(pairs, place), needed)?;
+    }
+    Ok(())
+}
+
+// The entry at a place, counted from 0. `None` comes exactly where there is no such place.
+fn entry_in(pairs: &Pairs<Key, Entry>, place: u64) -> Option<Entry>
+    ensures { result ≡ option_map entry_of (slice_get pairs.now place) }
+{
+    let (_, entry) = pairs.pair_at(place)?;
+    Some(entry)
+}
+
+// Adds the texts of the key and the value of an entry, if there is one.
+#[tactic(auto, using(crate::proofs::NeededSteps::needed_none, crate::proofs::NeededSteps::needed_some))]
+fn add_texts_of_entry(entry: Option<Entry>, needed: &mut NeededTexts) -> Result<(), AllocError>
+    ensures { OnOk result (AreNeeded needed.old needed.new (flat_map entry_both (option_to_list entry))) }
+{
+    match entry {
+        Some(entry) => add_texts_of_both(entry, needed),
+        None => Ok(()),
+    }
+}
+
+// Adds the texts of the key and the value of an entry.
+fn add_texts_of_both(entry: Entry, needed: &mut NeededTexts) -> Result<(), AllocError>
+    ensures { OnOk result (AreNeeded needed.old needed.new (entry_both entry)) }
+{
+    needed.add(entry.key)?;
+    needed.add(entry.value)?;
+    Ok(())
 }

@@ -2,8 +2,11 @@
 ghost use Rattle.std.specs.Prelude.{◌≡◌, ◌<◌, ◌^◌, ◌++◌, ◌∷◌, [], OnOk, OnErr, IfOk, slice_set, slice_index_or, length};
 ghost use Rattle.std.specs.Vec.{vec_len};
 ghost use Rattle.icn_value.specs.declared.val.Val.TheVariants.{Null};
+ghost use Rattle.std.specs.List.{flat_map};
 ghost use Rattle.icn_heap.specs.Records.{held_record, no_fields};
+ghost use Rattle.icn_heap.specs.NeededValues.{record_vals, AreNeeded};
 
+use crate::needed_texts::NeededTexts;
 use icn_value::Val;
 use std::alloc::{AllocError, Global};
 use std::marker::Model;
@@ -105,4 +108,14 @@ pub fn record_ref(records: &Vec<Fields>, rec: u32) -> &Fields
     ensures { result.now ≡ slice_index_or records.now.items rec no_fields }
 {
     &records[rec as usize]
+}
+
+/// Adds the texts of the fields of records, which are to stay. `AllocError` is want of memory.
+pub fn add_texts_of_records(records: &[Fields], needed: &mut NeededTexts) -> Result<(), AllocError>
+    ensures { OnOk result (AreNeeded needed.old needed.new (flat_map record_vals records.now)) }
+{
+    for held in records {
+        needed.add_all(held.values())?;
+    }
+    Ok(())
 }

@@ -13,7 +13,7 @@ use std::alloc::{AllocError, Global};
 
 /// The strings and structures of a program, the files that it opened, and what is charged for them.
 ///
-/// What a value stands for is the same from then on, whatever is made beside it. Nothing is given back.
+/// What a value stands for is the same from then on, whatever is made beside it or given back. `collect_texts` alone gives memory back.
 #[derive(Drop)]
 pub struct Heap {
     pub(crate) alloc: Global,

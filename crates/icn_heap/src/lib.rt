@@ -3,6 +3,7 @@
 
 mod charges;
 mod coexps;
+mod collecting;
 mod copies;
 mod counts;
 mod deques;
@@ -13,10 +14,12 @@ mod file_entries;
 mod files;
 mod heap;
 mod heap_laws;
+mod held_entries;
 mod key;
 mod keys;
 mod lists;
 mod members;
+mod needed_texts;
 mod records;
 mod sets;
 mod sizes;
@@ -31,4 +34,5 @@ pub use heap_laws::{
     members_differ, short_text, strings_within_limit, within_limit,
 };
 pub use icn_value::Full;
+pub use needed_texts::NeededTexts;
 pub use spans::as_range;

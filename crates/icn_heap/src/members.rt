@@ -4,9 +4,12 @@ ghost use Rattle.std.specs.Option.{option_map};
 ghost use Rattle.std.specs.Vec.{vec_len};
 ghost use Rattle.icn_structs.specs.PairLists.{value_of, with_value_of, without, KeysDiffer};
 ghost use Rattle.icn_heap.specs.KeyTests.{key_eq};
+ghost use Rattle.std.specs.List.{flat_map};
 ghost use Rattle.icn_heap.specs.HeapParts.{member_val, with_entry};
+ghost use Rattle.icn_heap.specs.NeededValues.{set_vals, AreNeeded};
 
 use crate::key::Key;
+use crate::needed_texts::NeededTexts;
 use icn_structs::Pairs;
 use icn_value::Val;
 use std::alloc::{AllocError, Global};
@@ -106,4 +109,32 @@ pub fn keys_of_members_differ(sets: &Vec<MemberMap>, set: u32)
     ensures { KeysDiffer key_eq (slice_index_or sets.now.items set []) }
 {
     let _count = sets[set as usize].len();
+}
+
+/// Adds the texts of the members of sets, which are to stay. `AllocError` is want of memory.
+pub fn add_texts_of_sets(sets: &[MemberMap], needed: &mut NeededTexts) -> Result<(), AllocError>
+    ensures { OnOk result (AreNeeded needed.old needed.new (flat_map set_vals sets.now)) }
+{
+    for set in sets {
+        add_texts_of_members(set, needed)?;
+    }
+    Ok(())
+}
+
+// Adds the texts of the members of a set.
+fn add_texts_of_members(set: &MemberMap, needed: &mut NeededTexts) -> Result<(), AllocError>
+    ensures { OnOk result (AreNeeded needed.old needed.new (set_vals set.now)) }
+{
+    for place in 0..set.len() {
+        needed.add_optional(member_of(set, place))?;
+    }
+    Ok(())
+}
+
+// The member at a place, counted from 0. `None` comes exactly where there is no such place.
+fn member_of(set: &MemberMap, place: u64) -> Option<Val>
+    ensures { result ≡ option_map member_val (slice_get set.now place) }
+{
+    let (_, val) = set.pair_at(place)?;
+    Some(val)
 }

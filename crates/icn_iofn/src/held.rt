@@ -7,7 +7,7 @@ use icn_filefn::{close_row, open_row};
 use icn_host::{Files, Sink, Source};
 use icn_streams::{Streams, lines_row};
 use icn_value::{File, Val};
-use icn_vars::{Halt, Locals, Outcome, World};
+use icn_vars::{Halt, Locals, Outcome, ValueOutcome, World};
 
 /// A store of files, an input, an output and an error output, with room for the bytes at hand; what stands in the room does not
 /// matter.
@@ -28,7 +28,12 @@ impl<F: Files, I: Source, O: Sink, E: Sink> Streams for HeldStreams<F, I, O, E> 
 
     ghost pending_errors = { λ s. E.pending s.errors };
 
-    fn read<L: Locals>(&mut self, vals: &[Val], w: &mut World, l: &L) -> Result<Outcome, Halt> {
+    fn read<L: Locals>(
+        &mut self,
+        vals: &[Val],
+        w: &mut World,
+        l: &L,
+    ) -> Result<ValueOutcome, Halt> {
         read(
             vals,
             w,
@@ -40,7 +45,12 @@ impl<F: Files, I: Source, O: Sink, E: Sink> Streams for HeldStreams<F, I, O, E> 
         )
     }
 
-    fn reads<L: Locals>(&mut self, vals: &[Val], w: &mut World, l: &L) -> Result<Outcome, Halt> {
+    fn reads<L: Locals>(
+        &mut self,
+        vals: &[Val],
+        w: &mut World,
+        l: &L,
+    ) -> Result<ValueOutcome, Halt> {
         reads(
             vals,
             w,
@@ -52,7 +62,12 @@ impl<F: Files, I: Source, O: Sink, E: Sink> Streams for HeldStreams<F, I, O, E> 
         )
     }
 
-    fn write<L: Locals>(&mut self, vals: &[Val], w: &mut World, l: &L) -> Result<Outcome, Halt> {
+    fn write<L: Locals>(
+        &mut self,
+        vals: &[Val],
+        w: &mut World,
+        l: &L,
+    ) -> Result<ValueOutcome, Halt> {
         write(
             vals,
             w,
@@ -63,7 +78,12 @@ impl<F: Files, I: Source, O: Sink, E: Sink> Streams for HeldStreams<F, I, O, E> 
         )
     }
 
-    fn writes<L: Locals>(&mut self, vals: &[Val], w: &mut World, l: &L) -> Result<Outcome, Halt> {
+    fn writes<L: Locals>(
+        &mut self,
+        vals: &[Val],
+        w: &mut World,
+        l: &L,
+    ) -> Result<ValueOutcome, Halt> {
         writes(
             vals,
             w,
@@ -74,7 +94,12 @@ impl<F: Files, I: Source, O: Sink, E: Sink> Streams for HeldStreams<F, I, O, E> 
         )
     }
 
-    fn stop<L: Locals>(&mut self, vals: &[Val], w: &mut World, l: &L) -> Result<Outcome, Halt> {
+    fn stop<L: Locals>(
+        &mut self,
+        vals: &[Val],
+        w: &mut World,
+        l: &L,
+    ) -> Result<ValueOutcome, Halt> {
         stop(
             vals,
             w,
@@ -102,7 +127,7 @@ impl<F: Files, I: Source, O: Sink, E: Sink> Streams for HeldStreams<F, I, O, E> 
         vals: &[Val],
         w: &mut World,
         l: &L,
-    ) -> Result<Outcome, Halt> {
+    ) -> Result<ValueOutcome, Halt> {
         open_row(
             vals,
             w,
@@ -118,7 +143,7 @@ impl<F: Files, I: Source, O: Sink, E: Sink> Streams for HeldStreams<F, I, O, E> 
         vals: &[Val],
         w: &mut World,
         l: &L,
-    ) -> Result<Outcome, Halt> {
+    ) -> Result<ValueOutcome, Halt> {
         close_row(
             vals,
             w,

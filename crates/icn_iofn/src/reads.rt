@@ -9,6 +9,7 @@ ghost use Rattle.icn_defs.specs.InputOutput as rows;
 ghost use Rattle.icn_heap.specs.Extents.{IsLive, value_in};
 ghost use Rattle.icn_heap.specs.Heaps.{extent_of};
 ghost use Rattle.icn_heap.specs.Keys as keys;
+ghost use Rattle.icn_vars.specs.Outcomes.{answer_of};
 ghost use Rattle.icn_streams.specs.Answers.{call_state};
 ghost use Rattle.icn_streams.specs.Applies.{Applies};
 ghost use Rattle.icn_streams.specs.Handed.{CallStreams, call_streams};
@@ -20,8 +21,8 @@ use crate::arguments::{count_arg, file_arg};
 use icn_args::arg;
 use icn_host::{Sink, Source};
 use icn_streams::{Ask, ReadFrom, read_opened, read_text, readable, settle};
-use icn_value::{File, Item, Val};
-use icn_vars::{Halt, Locals, Outcome, World};
+use icn_value::{File, Val};
+use icn_vars::{Halt, Locals, ValueOutcome, World};
 
 /// `read(f)`: the next line. It fails at the end of the file. The errors are 105 about a value that is no file, 212 about a file
 /// that is not open for reading, and 306. Both outputs are settled before the input is read.
@@ -33,7 +34,7 @@ pub fn read<L: Locals, I: Source, O: Sink, E: Sink>(
     input: &mut I,
     out: &mut O,
     err: &mut E,
-) -> Result<Outcome, Halt>
+) -> Result<ValueOutcome, Halt>
     requires locals { All (IsLive (extent_of w.old.heap)) (L.items l.now) }
     requires live { All (IsLive (extent_of w.old.heap)) vals.now }
     ensures row { (files : StoreState) → Applies
@@ -42,7 +43,7 @@ pub fn read<L: Locals, I: Source, O: Sink, E: Sink>(
         (call_streams files (I.left input.old) (I.counts input.old) (O.state out.old) (E.state err.old)))
         (call_state w.new (L.items l.now)
         (call_streams files (I.left input.new) (I.counts input.new) (O.state out.new) (E.state err.new)))
-        result }
+        (answer_of result) }
     ensures settled { ReadsInput (map (value_in (extent_of w.old.heap)) vals.now)
         → IsSettledWhereRead result (O.pending out.new) (E.pending err.new) }
 {
@@ -60,7 +61,7 @@ pub fn reads<L: Locals, I: Source, O: Sink, E: Sink>(
     input: &mut I,
     out: &mut O,
     err: &mut E,
-) -> Result<Outcome, Halt>
+) -> Result<ValueOutcome, Halt>
     requires locals { All (IsLive (extent_of w.old.heap)) (L.items l.now) }
     requires live { All (IsLive (extent_of w.old.heap)) vals.now }
     ensures row { (files : StoreState) → Applies
@@ -69,7 +70,7 @@ pub fn reads<L: Locals, I: Source, O: Sink, E: Sink>(
         (call_streams files (I.left input.old) (I.counts input.old) (O.state out.old) (E.state err.old)))
         (call_state w.new (L.items l.now)
         (call_streams files (I.left input.new) (I.counts input.new) (O.state out.new) (E.state err.new)))
-        result }
+        (answer_of result) }
     ensures settled { ReadsInput (map (value_in (extent_of w.old.heap)) vals.now)
         → IsSettledWhereRead result (O.pending out.new) (E.pending err.new) }
 {
@@ -99,7 +100,7 @@ fn read_from<L: Locals, I: Source, O: Sink, E: Sink>(
     input: &mut I,
     out: &mut O,
     err: &mut E,
-) -> Result<Outcome, Halt>
+) -> Result<ValueOutcome, Halt>
     requires locals { All (IsLive (extent_of w.old.heap)) (L.items l.now) }
     requires file { IsLive (extent_of w.old.heap) (Std file) }
     requires live { IsLive (extent_of w.old.heap) named }
@@ -109,7 +110,7 @@ fn read_from<L: Locals, I: Source, O: Sink, E: Sink>(
         (call_streams files (I.left input.old) (I.counts input.old) (O.state out.old) (E.state err.old)))
         (call_state w.new (L.items l.now)
         (call_streams files (I.left input.new) (I.counts input.new) (O.state out.new) (E.state err.new)))
-        result }
+        (answer_of result) }
     ensures settled { file ≡ Input → IsSettled result (O.pending out.new) (E.pending err.new) }
 {
     match readable(&w.heap, file) {
@@ -128,14 +129,14 @@ fn read_input<L: Locals, I: Source, O: Sink, E: Sink>(
     input: &mut I,
     out: &mut O,
     err: &mut E,
-) -> Result<Outcome, Halt>
+) -> Result<ValueOutcome, Halt>
     requires { All (IsLive (extent_of w.old.heap)) (L.items l.now) }
     ensures row { (files : StoreState) → Applies (reads_input (asked_in ask))
         (call_state w.old (L.items l.now)
         (call_streams files (I.left input.old) (I.counts input.old) (O.state out.old) (E.state err.old)))
         (call_state w.new (L.items l.now)
         (call_streams files (I.left input.new) (I.counts input.new) (O.state out.new) (E.state err.new)))
-        result }
+        (answer_of result) }
     ensures settled { IsSettled result (O.pending out.new) (E.pending err.new) }
 {
     settle(out, err)?;
@@ -149,17 +150,17 @@ fn give_text<L: Locals, I: Source>(
     l: &L,
     buffer: &mut Vec<u8>,
     input: &mut I,
-) -> Result<Outcome, Halt>
+) -> Result<ValueOutcome, Halt>
     requires { All (IsLive (extent_of w.old.heap)) (L.items l.now) }
     ensures { (files : StoreState) (output errors : SinkState)
         → Applies (reads_input (asked_in ask)) (call_state w.old
         (L.items l.now) (call_streams files (I.left input.old) (I.counts input.old) output errors))
         (call_state w.new (L.items l.now)
-        (call_streams files (I.left input.new) (I.counts input.new) output errors)) result }
+        (call_streams files (I.left input.new) (I.counts input.new) output errors)) (answer_of result) }
 {
     match read_text(ask, w, l, buffer, input)? {
-        Some(text) => Ok(Outcome::Gives(Item::Val(Val::Text(text)))),
-        None => Ok(Outcome::Fails),
+        Some(text) => Ok(ValueOutcome::Gives(Val::Text(text))),
+        None => Ok(ValueOutcome::Fails),
     }
 }
 
@@ -170,14 +171,14 @@ fn give_opened<L: Locals>(
     w: &mut World,
     l: &L,
     buffer: &mut Vec<u8>,
-) -> Result<Outcome, Halt>
+) -> Result<ValueOutcome, Halt>
     requires locals { All (IsLive (extent_of w.old.heap)) (L.items l.now) }
     requires file { IsLive (extent_of w.old.heap) (Std (Opened number)) }
     ensures { (handed : CallStreams) → Applies (reads_opened (asked_in ask) number)
-        (call_state w.old (L.items l.now) handed) (call_state w.new (L.items l.now) handed) result }
+        (call_state w.old (L.items l.now) handed) (call_state w.new (L.items l.now) handed) (answer_of result) }
 {
     match read_opened(ask, number, w, l, buffer)? {
-        Some(text) => Ok(Outcome::Gives(Item::Val(Val::Text(text)))),
-        None => Ok(Outcome::Fails),
+        Some(text) => Ok(ValueOutcome::Gives(Val::Text(text))),
+        None => Ok(ValueOutcome::Fails),
     }
 }

@@ -6,6 +6,7 @@ ghost use Rattle.icn_host.specs.Sources.{SourceCounts};
 ghost use Rattle.icn_defs.specs.InputOutput as rows;
 ghost use Rattle.icn_heap.specs.Extents.{Extent, IsLive, value_in};
 ghost use Rattle.icn_heap.specs.Heaps.{extent_of};
+ghost use Rattle.icn_vars.specs.Outcomes.{answer_of};
 ghost use Rattle.icn_streams.specs.Answers.{call_state};
 ghost use Rattle.icn_streams.specs.Applies.{Applies};
 ghost use Rattle.icn_streams.specs.Handed.{call_streams};
@@ -15,8 +16,8 @@ use crate::pieces::check_pieces;
 use crate::putting::put_line;
 use icn_args::arg;
 use icn_host::{Fault, Sink};
-use icn_value::{File, Item, Val};
-use icn_vars::{Halt, Locals, Outcome, World};
+use icn_value::{File, Val};
+use icn_vars::{Halt, Locals, ValueOutcome, World};
 
 /// `write(x, ..)`: puts its arguments as a line. It gives its last argument, or null. The errors are 109 about a value that is
 /// neither a text nor a file nor null, and 213 about a file that is not open for writing. All arguments are checked before anything
@@ -28,7 +29,7 @@ pub fn write<L: Locals, O: Sink, E: Sink>(
     buffer: &mut Vec<u8>,
     out: &mut O,
     err: &mut E,
-) -> Result<Outcome, Halt>
+) -> Result<ValueOutcome, Halt>
     requires locals { All (IsLive (extent_of w.old.heap)) (L.items l.now) }
     requires live { All (IsLive (extent_of w.old.heap)) vals.now }
     ensures { (files : StoreState) (left : Option (List ℕ)) (counts : SourceCounts)
@@ -37,7 +38,7 @@ pub fn write<L: Locals, O: Sink, E: Sink>(
         (call_streams files left counts (O.state out.old) (E.state err.old)))
         (call_state w.new (L.items l.now)
         (call_streams files left counts (O.state out.new) (E.state err.new)))
-        result }
+        (answer_of result) }
 {
     put_all(true, vals, w, l, buffer, out, err)
 }
@@ -50,7 +51,7 @@ pub fn writes<L: Locals, O: Sink, E: Sink>(
     buffer: &mut Vec<u8>,
     out: &mut O,
     err: &mut E,
-) -> Result<Outcome, Halt>
+) -> Result<ValueOutcome, Halt>
     requires locals { All (IsLive (extent_of w.old.heap)) (L.items l.now) }
     requires live { All (IsLive (extent_of w.old.heap)) vals.now }
     ensures { (files : StoreState) (left : Option (List ℕ)) (counts : SourceCounts)
@@ -59,7 +60,7 @@ pub fn writes<L: Locals, O: Sink, E: Sink>(
         (call_streams files left counts (O.state out.old) (E.state err.old)))
         (call_state w.new (L.items l.now)
         (call_streams files left counts (O.state out.new) (E.state err.new)))
-        result }
+        (answer_of result) }
 {
     put_all(false, vals, w, l, buffer, out, err)
 }
@@ -73,7 +74,7 @@ fn put_all<L: Locals, O: Sink, E: Sink>(
     buffer: &mut Vec<u8>,
     out: &mut O,
     err: &mut E,
-) -> Result<Outcome, Halt>
+) -> Result<ValueOutcome, Halt>
     requires locals { All (IsLive (extent_of w.old.heap)) (L.items l.now) }
     requires live { All (IsLive (extent_of w.old.heap)) vals.now }
     ensures { (files : StoreState) (left : Option (List ℕ)) (counts : SourceCounts)
@@ -82,11 +83,11 @@ fn put_all<L: Locals, O: Sink, E: Sink>(
         (call_streams files left counts (O.state out.old) (E.state err.old)))
         (call_state w.new (L.items l.now)
         (call_streams files left counts (O.state out.new) (E.state err.new)))
-        result }
+        (answer_of result) }
 {
     check_pieces(&w.heap, vals)?;
     match put_line(w, l, vals, ends, File::Output, buffer, out, err) {
-        Ok(()) => Ok(Outcome::Gives(Item::Val(last_of(vals)))),
+        Ok(()) => Ok(ValueOutcome::Gives(last_of(vals))),
         Err(Fault::Failed) => Err(Halt::WriteFault),
         Err(Fault::NoMemory) => Err(Halt::NoMemory),
     }
@@ -101,7 +102,7 @@ pub fn stop<L: Locals, O: Sink, E: Sink>(
     buffer: &mut Vec<u8>,
     out: &mut O,
     err: &mut E,
-) -> Result<Outcome, Halt>
+) -> Result<ValueOutcome, Halt>
     requires locals { All (IsLive (extent_of w.old.heap)) (L.items l.now) }
     requires live { All (IsLive (extent_of w.old.heap)) vals.now }
     ensures { (files : StoreState) (left : Option (List ℕ)) (counts : SourceCounts)
@@ -110,7 +111,7 @@ pub fn stop<L: Locals, O: Sink, E: Sink>(
         (call_streams files left counts (O.state out.old) (E.state err.old)))
         (call_state w.new (L.items l.now)
         (call_streams files left counts (O.state out.new) (E.state err.new)))
-        result }
+        (answer_of result) }
 {
     check_pieces(&w.heap, vals)?;
     match put_line(w, l, vals, true, File::Errout, buffer, out, err) {

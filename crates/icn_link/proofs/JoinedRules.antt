@@ -15,13 +15,13 @@ use Rattle.icn_code.specs.Codes.{Proc as ProcEntry, Tables}
 use Rattle.icn_code.specs.Rules as Rules
 use Rattle.icn_code.specs.Rules.{keeps_rules}
 use Rattle.icn_unit.specs.declared.unit.UnitInstr.{UnitInstr}
-use Rattle.icn_unit.specs.PlainUnits.{PlainProc, PlainDecl, Global as GlobalDecl, Procedure, Link, Record, proc_names}
+use Rattle.icn_unit.specs.PlainUnits.{PlainProc, PlainDecl, Global as GlobalDecl, Procedure, Link, Invocable, Record, proc_names}
 use Rattle.icn_unit.specs.UnitRules.{is_integer}
 use Rattle.icn_link.specs.FirstMentions.{with_text, with_texts, text_index}
 use Rattle.icn_link.specs.Joined.{cset_of, global_entry, is_among, joined_of, index_of, proc_entry, records_in, start_by, statics_in}
 use Rattle.icn_link.specs.JoinableUnits.{is_joinable_proc}
 use Rattle.icn_link.specs.LinkFaults.{all_statics, over, count_fault, field_counts, record_sizes, size_of, local_counts, static_counts}
-use Rattle.icn_link.specs.Mentions.{Mention, NoMention, AnInteger, AText, ASet, AField, Operands, AllMentions, declared_names, field_in, fields, fields_in, function_named, functions_in, global_in, globals, integer_in, mention_of, all_mentions, mentioned_by, mentioned_in, record_name_in, record_names, set_in, string_mentions, strings, text_in}
+use Rattle.icn_link.specs.Mentions.{Mention, NoMention, AnInteger, AText, ASet, AField, Operands, AllMentions, declared_names, field_in, fields, fields_in, function_named, functions_in, functions_used, global_in, globals, integer_in, mention_of, all_mentions, mentioned_by, mentioned_in, record_name_in, record_names, set_in, string_mentions, strings, text_in, used_globals}
 use Rattle.icn_link.specs.Views.{Joinable}
 use Rattle.icn_link.proofs.EachOnce.{all_in_flat, all_mapped, all_then, and_intro, has_integer, has_integer_index, has_index, has_text, integer_placed, integers_there, text_at, text_placed, texts_there}
 use Rattle.icn_link.proofs.KeptCsets.{cset_kept}
@@ -126,6 +126,7 @@ records_long M [] = refl
 records_long M (GlobalDecl name ∷ decls) = records_long M decls
 records_long M (Procedure name ∷ decls) = records_long M decls
 records_long M (Link text ∷ decls) = records_long M decls
+records_long M (Invocable text ∷ decls) = records_long M decls
 records_long M (Record name fields ∷ decls) = ap suc (records_long M decls)
 
 pub names_long : (M : AllMentions) (decls : List PlainDecl) → length (flat_map (records_in M) decls) ≡ length (record_names decls)
@@ -133,6 +134,7 @@ names_long M [] = refl
 names_long M (GlobalDecl name ∷ decls) = names_long M decls
 names_long M (Procedure name ∷ decls) = names_long M decls
 names_long M (Link text ∷ decls) = names_long M decls
+names_long M (Invocable text ∷ decls) = names_long M decls
 names_long M (Record name fields ∷ decls) = ap suc (names_long M decls)
 
 field_fits : (M : AllMentions) (strings : ℕ) (fields : ℕ) → fields ≡ length M.fields → (names : List (List ℕ))
@@ -148,6 +150,7 @@ record_fits : (M : AllMentions) (fields : ℕ) → fields ≡ length M.fields �
 record_fits M fields e (GlobalDecl name) a b c = refl
 record_fits M fields e (Procedure name) a b c = refl
 record_fits M fields e (Link text) a b c = refl
+record_fits M fields e (Invocable text) a b c = refl
 record_fits M fields e (Record name names) a b c =
     and_intro (and_intro (and_intro (and_parts _ _ a).0 (ap (λ n. nat_le n 65535) (length-map names (text_index M.fields)) ∙ (and_parts _ _ c).0))
     (field_fits M (length M.strings) fields e names b)) refl
@@ -323,7 +326,8 @@ joined_kept decls procs J =
     (n7 ∙ sym (length-map procs (λ (proc : PlainProc). proc.name))) (names_long M decls)) M.globals (placed M.globals t3.0)) in
     let differ : Rules.names_differ (map (Rules.name_of T.strings) T.globals) ≡ true =
     ap Rules.names_differ (names_back M (proc_names procs) (record_names decls) M.globals t3.0)
-    ∙ texts_differ (declared_names decls) (flat_map functions_in procs) (texts_differ [] (flat_map global_in decls) refl) in
+    ∙ texts_differ (used_globals decls procs) (flat_map functions_in procs)
+    (texts_differ (declared_names decls) (flat_map functions_used procs) (texts_differ [] (flat_map global_in decls) refl)) in
     let fit : list_all (Rules.is_proc T) T.procs ≡ true =
     procs_fit M T long procs J.joinable_procs mention (placed (proc_names procs) t4.0)
     (all_within 65535 (local_counts (globals decls procs) procs) J.locals) (all_within 65535 (static_counts (globals decls procs) procs) J.statics)

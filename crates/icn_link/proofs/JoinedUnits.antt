@@ -10,7 +10,7 @@ use Rattle.icn_unit.specs.UnitRules.{keeps_rules as keeps_unit_rules}
 use Rattle.icn_link.specs.declared.fault.LinkFault.{LinkFault}
 use Rattle.icn_link.specs.Joined.{joined_code, joined_of}
 use Rattle.icn_link.specs.JoinableUnits.{is_joinable, is_joinable_decl, is_joinable_proc}
-use Rattle.icn_link.specs.LinkFaults.{all_statics, kind_counts, first_fault, local_counts, missing_unit, over, record_sizes, repeated_name, size_of, static_counts, table_sizes, too_large, too_large_of}
+use Rattle.icn_link.specs.LinkFaults.{all_statics, kind_counts, first_fault, local_counts, missing_unit, over, record_sizes, repeated_name, size_of, static_counts, table_sizes, too_large, too_large_of, unknown_name}
 use Rattle.icn_link.specs.Mentions.{globals, all_mentions}
 use Rattle.icn_link.specs.Units.{all_decls, all_procs}
 use Rattle.icn_link.specs.Views.{Joinable}
@@ -23,7 +23,7 @@ neither None b h = (refl, h)
 neither (Some fault) b h = absurd (none-some fault (sym h))
 
 -- not too large: each bound is kept
-joinable : (D : List PlainDecl) (P : List PlainProc) → list_all is_joinable_decl D ≡ true → list_all is_joinable_proc P ≡ true
+pub joinable : (D : List PlainDecl) (P : List PlainProc) → list_all is_joinable_decl D ≡ true → list_all is_joinable_proc P ≡ true
     → too_large_of D P ≡ None → Joinable D P
 joinable D P d p h =
     let instrs = over 16777216 (sum_by size_of P ∷ []) in
@@ -61,8 +61,10 @@ joinable D P d p h =
 pub units_keep : (units : List UnitRead) → list_all is_joinable units ≡ true → first_fault units ≡ None
     → keeps_rules (joined_code units) ≡ true
 units_keep units all none =
-    let behind = neither (missing_unit units) (option_or (repeated_name units) (too_large units)) none in
-    let small = neither (repeated_name units) (too_large units) behind.1 in
+    let unknown = option_or (unknown_name units) (too_large units) in
+    let behind = neither (missing_unit units) (option_or (repeated_name units) unknown) none in
+    let named = neither (repeated_name units) unknown behind.1 in
+    let small = neither (unknown_name units) (too_large units) named.1 in
     joined_kept (all_decls units) (all_procs units)
     (joinable (all_decls units) (all_procs units) (units_decls units all) (units_procs units all) small.1)
 

@@ -1,7 +1,8 @@
 -- What joinable units mention in tables keeps the rules of codes.
-use Rattle.std.proofs.Common.{◌≡◌, ℕ, ◌<◌, Bool, true, false, ◌||◌, List, [], ◌∷◌, ◌++◌, length, if◌then◌else◌, refl, ◌∙◌, arith}
+use Rattle.std.proofs.Common.{◌≡◌, ℕ, zero, suc, ◌<◌, Bool, true, false, ◌||◌, List, [], ◌∷◌, ◌++◌, length, Option, None, Some, if◌then◌else◌, refl, ◌∙◌, arith}
 use Rattle.std.specs.Prelude.{◌==◌, nat_le, is_some}
 use Rattle.std.specs.List.{flat_map, list_all}
+use Rattle.std.specs.Option.{option_map_or}
 use Rattle.std.proofs.lemmas.Bool.{and_parts, lt-ltb, leb-true}
 use Rattle.std.proofs.lemmas.Bool.Decides.{nat_tests}
 use Rattle.std.proofs.lemmas.List.Folds.{list_all-append}
@@ -11,11 +12,12 @@ use Rattle.icn_unit.specs.declared.unit.UnitInstr.{UnitInstr}
 use Rattle.icn_unit.specs.declared.unit.UnitInstr.TheVariants as U
 use Rattle.icn_unit.specs.declared.unit.NameKind.{NameKind}
 use Rattle.icn_unit.specs.declared.unit.NameKind.TheVariants as Kinds
-use Rattle.icn_unit.specs.PlainUnits.{PlainProc, PlainDecl, Global as GlobalDecl, Procedure, Link, Record, proc_names}
+use Rattle.icn_unit.specs.declared.unit.UnitName.{UnitName}
+use Rattle.icn_unit.specs.PlainUnits.{PlainProc, PlainDecl, Global as GlobalDecl, Procedure, Link, Invocable, Record, entry_names, proc_names}
 use Rattle.icn_unit.specs.UnitOperands.{is_name}
 use Rattle.icn_unit.specs.UnitRules.{is_byte, is_byte_text, is_integer}
 use Rattle.icn_link.specs.JoinableUnits.{is_joinable_decl, is_joinable_instr, is_joinable_proc}
-use Rattle.icn_link.specs.Mentions.{Mention, NoMention, AnInteger, AText, ASet, AField, Operands, mention_of, mentioned_in, mentioned_by, integer_in, text_in, field_in, global_in, fields_in, record_name_in, record_names, function_by, function_in, function_named, functions_in, declared_names, globals, fields, strings, string_mentions, integers}
+use Rattle.icn_link.specs.Mentions.{Mention, NoMention, AnInteger, AText, ASet, AField, Operands, mention_of, mentioned_in, mentioned_by, integer_in, text_in, field_in, global_in, fields_in, record_name_in, record_names, function_by, function_in, function_named, functions_in, functions_used, function_at, function_used, name_used, declared_names, globals, fields, strings, string_mentions, integers, used_globals}
 use Rattle.icn_link.proofs.EachOnce.{and_intro, all_of_flat, all_then, all_mapped, all_unmapped, texts_keep, integers_keep}
 
 -- Names and byte texts are strings
@@ -150,18 +152,21 @@ decl_fields : (decl : PlainDecl) → is_joinable_decl decl ≡ true → list_all
 decl_fields (GlobalDecl name) h = refl
 decl_fields (Procedure name) h = refl
 decl_fields (Link text) h = refl
+decl_fields (Invocable text) h = refl
 decl_fields (Record name fields) h = (and_parts _ _ h).1
 
 decl_global : (decl : PlainDecl) → is_joinable_decl decl ≡ true → list_all is_name (global_in decl) ≡ true
 decl_global (GlobalDecl name) h = and_intro h refl
 decl_global (Procedure name) h = and_intro h refl
 decl_global (Link text) h = refl
+decl_global (Invocable text) h = refl
 decl_global (Record name fields) h = and_intro (and_parts _ _ h).0 refl
 
 decl_record : (decl : PlainDecl) → is_joinable_decl decl ≡ true → list_all is_name (record_name_in decl) ≡ true
 decl_record (GlobalDecl name) h = refl
 decl_record (Procedure name) h = refl
 decl_record (Link text) h = refl
+decl_record (Invocable text) h = refl
 decl_record (Record name fields) h = and_intro (and_parts _ _ h).0 refl
 
 function_name : (test : Bool) (name : List ℕ) → is_name name ≡ true → list_all is_name (if test then name ∷ [] else []) ≡ true
@@ -180,6 +185,22 @@ functions_kept proc h =
     all_of_flat is_name function_in proc.names
     (all_then _ _ (λ entry. function_kept entry.kind entry.name) proc.names (all_unmapped is_name (λ entry. entry.name) proc.names entries))
 
+function_at_kept : (names : List UnitName) → list_all is_name (entry_names names) ≡ true → (k : ℕ) → list_all is_name (function_at names k) ≡ true
+function_at_kept [] h k = refl
+function_at_kept (entry ∷ names) h zero = function_kept entry.kind entry.name (and_parts _ _ h).0
+function_at_kept (entry ∷ names) h (suc k) = function_at_kept names (and_parts _ _ h).1 k
+
+used_kept : (names : List UnitName) → list_all is_name (entry_names names) ≡ true → (o : Option ℕ)
+    → list_all is_name (option_map_or (function_at names) o []) ≡ true
+used_kept names h None = refl
+used_kept names h (Some k) = function_at_kept names h k
+
+functions_used_kept : (proc : PlainProc) → is_joinable_proc proc ≡ true → list_all is_name (functions_used proc) ≡ true
+functions_used_kept proc h =
+    let entries = (and_parts _ _ (and_parts _ _ h).0).1 in
+    all_of_flat is_name (function_used proc.names) proc.instrs
+    (all_then _ _ (λ instr k. used_kept proc.names entries (name_used instr)) proc.instrs (and_parts _ _ h).1)
+
 proc_named : (proc : PlainProc) → is_joinable_proc proc ≡ true → is_name proc.name ≡ true
 proc_named proc h = (and_parts _ _ (and_parts _ _ (and_parts _ _ h).0).0).0
 
@@ -197,8 +218,10 @@ module _ (decls : List PlainDecl) (procs : List PlainProc) (joinable_decls : lis
   records_named = all_of_flat is_name record_name_in decls (all_then _ _ decl_record decls joinable_decls)
 
   globals_named : list_all is_name (globals decls procs) ≡ true
-  globals_named = texts_keep is_name (declared_names decls) (flat_map functions_in procs)
+  globals_named = texts_keep is_name (used_globals decls procs) (flat_map functions_in procs)
+      (texts_keep is_name (declared_names decls) (flat_map functions_used procs)
       (texts_keep is_name [] (flat_map global_in decls) refl (all_of_flat is_name global_in decls (all_then _ _ decl_global decls joinable_decls)))
+      (all_of_flat is_name functions_used procs (all_then _ _ functions_used_kept procs joinable_procs)))
       (all_of_flat is_name functions_in procs (all_then _ _ functions_kept procs joinable_procs))
 
   procs_named : list_all is_name (proc_names procs) ≡ true

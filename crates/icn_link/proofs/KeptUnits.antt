@@ -6,7 +6,7 @@ use Rattle.std.proofs.lemmas.List.Folds.{list_all-append}
 use Rattle.icn_unit.specs.declared.unit.Unit.{Unit}
 use Rattle.icn_unit.specs.declared.unit.UnitInstr.{UnitInstr}
 use Rattle.icn_unit.specs.declared.unit.UnitInstr.TheVariants as U
-use Rattle.icn_unit.specs.PlainUnits.{PlainProc, PlainDecl, Global as GlobalDecl, Procedure, Link, Record, UnitRead, entry_names, owned_names, params_in, proc_names}
+use Rattle.icn_unit.specs.PlainUnits.{PlainProc, PlainDecl, Global as GlobalDecl, Procedure, Link, Invocable, Record, UnitRead, entry_names, owned_names, params_in, proc_names}
 use Rattle.icn_unit.specs.UnitOperands.{is_name}
 use Rattle.icn_unit.specs.UnitRules.{in_order, is_number, keeps_code, keeps_decl, keeps_decls, keeps_head, keeps_names, keeps_operand, keeps_proc, keeps_procs, keeps_rules, labels_differ, labels_placed, names_differ, placed_labels, same_names}
 use Rattle.icn_link.specs.JoinableUnits.{is_joinable, is_joinable_decl, is_joinable_instr, is_joinable_proc}
@@ -43,6 +43,7 @@ decl_joinable : (decl : PlainDecl) → keeps_decl decl ≡ true → is_joinable_
 decl_joinable (GlobalDecl name) h = h
 decl_joinable (Procedure name) h = h
 decl_joinable (Link text) h = refl
+decl_joinable (Invocable text) h = refl
 decl_joinable (Record name fields) h = (and_parts (is_name name && list_all is_name fields) (names_differ fields) h).0
 
 pub unit_joinable : (unit : UnitRead) → keeps_rules unit.procs unit.decls ≡ true → is_joinable unit ≡ true

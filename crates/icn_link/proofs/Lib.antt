@@ -9,6 +9,7 @@ pub mod KeptMentions
 pub mod KeptProcs
 pub mod KeptUnits
 pub mod LinkTexts
+pub mod CalledNames
 pub mod JoinedTables
 pub mod NameMaps
 pub mod ReferenceTables

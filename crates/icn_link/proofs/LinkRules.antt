@@ -1,20 +1,21 @@
 -- The rules of linking, looked at one after the other.
-use Rattle.std.proofs.Common.{◌≡◌, List, [], ◌∷◌, length, Option, None, true, Result, OnOk, IfErr, IfOk, sym, ap, subst, ◌∙◌}
+use Rattle.std.proofs.Common.{◌≡◌, ◌≤◌, List, [], ◌∷◌, length, Option, None, true, sym, ap, subst, ◌∙◌}
 use Rattle.std.specs.List.{list_all, sum_by}
 use Rattle.std.specs.Option.{option_or}
-use Rattle.icn_code.specs.declared.code.Code.{Code}
 use Rattle.icn_code.specs.Codes.{Tables}
-use Rattle.icn_code.specs.CodeTables.{tables_of}
 use Rattle.icn_image.specs.Spelling.{image_of}
-use Rattle.icn_unit.specs.PlainUnits.{PlainProc, PlainDecl, UnitRead}
-use Rattle.icn_link.specs.JoinableUnits.{is_joinable_decl, is_joinable_proc}
+use Rattle.icn_unit.specs.PlainUnits.{PlainProc, PlainDecl, UnitRead, proc_names}
+use Rattle.icn_link.specs.JoinableUnits.{is_joinable, is_joinable_decl, is_joinable_proc}
 use Rattle.icn_link.specs.declared.fault.LinkFault.{LinkFault}
 use Rattle.icn_link.specs.Joined.{joined_code, joined_of}
-use Rattle.icn_link.specs.LinkFaults.{IsFault, all_statics, first_fault, kind_counts, local_counts, missing_unit, over, record_sizes, repeated_name, size_of, static_counts, table_sizes, too_large, too_large_of}
+use Rattle.icn_link.specs.LinkFaults.{IsFault, all_statics, first_fault, kind_counts, local_counts, missing_unit, over, record_sizes, repeated_name, size_of, static_counts, table_sizes, too_large, too_large_of, unknown_name}
 use Rattle.icn_link.specs.Mentions.{AllMentions, globals, all_mentions}
 use Rattle.icn_link.specs.Units.{all_decls, all_procs}
 use Rattle.icn_link.specs.Views.{Joinable}
-use Rattle.icn_link.proofs.RuleByRule.{both_kept, first_fault_is, later_fault, later_fault_is, later_kept, list_fault, list_kept}
+use Rattle.icn_link.proofs.JoinedTables.{few_procs}
+use Rattle.icn_link.proofs.JoinedUnits.{joinable}
+use Rattle.icn_link.proofs.KeptUnits.{units_decls, units_procs}
+use Rattle.icn_link.proofs.RuleByRule.{both_kept, first_fault_is, later_fault_is}
 
 -- Declarations and procedures that are too large
 
@@ -177,29 +178,47 @@ module _ (M : AllMentions) (D : List PlainDecl) (P : List PlainProc) (is : M ≡
 sizes_same : (units : List UnitRead) (D : List PlainDecl) (P : List PlainProc) → D ≡ all_decls units → P ≡ all_procs units → too_large_of D P ≡ too_large units
 sizes_same units D P d p = ap (λ (E : List PlainDecl). too_large_of E P) d ∙ ap (too_large_of (all_decls units)) p
 
-pub units_kept : {A : Type 0} (result : Result A LinkFault) (units : List UnitRead) (D : List PlainDecl) (P : List PlainProc) → D ≡ all_decls units
-    → P ≡ all_procs units → missing_unit units ≡ None → repeated_name units ≡ None → OnOk result (too_large_of D P ≡ None) → OnOk result (first_fault units ≡ None)
-units_kept result units D P d p m r h =
-    later_kept result (missing_unit units) (option_or (repeated_name units) (too_large units)) m
-    (later_kept result (repeated_name units) (too_large units) r (list_kept result (too_large_of D P) (too_large units) (sizes_same units D P d p) h))
+-- what stands behind each rule of names
+abbrev behind_repeated : List UnitRead → Option LinkFault
+behind_repeated units = option_or (unknown_name units) (too_large units)
 
-pub units_fault : {A : Type 0} (result : Result A LinkFault) (units : List UnitRead) (D : List PlainDecl) (P : List PlainProc) → D ≡ all_decls units
-    → P ≡ all_procs units → missing_unit units ≡ None → repeated_name units ≡ None → IfErr result (IsFault (too_large_of D P))
-    → IfErr result (IsFault (first_fault units))
-units_fault result units D P d p m r h =
-    later_fault result (missing_unit units) (option_or (repeated_name units) (too_large units)) m
-    (later_fault result (repeated_name units) (too_large units) r (list_fault result (too_large_of D P) (too_large units) (sizes_same units D P d p) h))
+abbrev behind_missing : List UnitRead → Option LinkFault
+behind_missing units = option_or (repeated_name units) (behind_repeated units)
 
-pub units_joined : (result : Result Code LinkFault) (units : List UnitRead) (D : List PlainDecl) (P : List PlainProc) → D ≡ all_decls units
-    → P ≡ all_procs units
-    → IfOk result (λ code. tables_of code ≡ joined_of D P) → IfOk result (λ code. tables_of code ≡ joined_code units)
-units_joined result units D P d p h =
-    subst (λ (T : Tables). IfOk result (λ code. tables_of code ≡ T)) (ap (λ (E : List PlainDecl). joined_of E P) d ∙ ap (joined_of (all_decls units)) p) h
+pub units_kept : (units : List UnitRead) (D : List PlainDecl) (P : List PlainProc) → D ≡ all_decls units → P ≡ all_procs units
+    → missing_unit units ≡ None → repeated_name units ≡ None → unknown_name units ≡ None → too_large_of D P ≡ None → first_fault units ≡ None
+units_kept units D P d p m r u h =
+    both_kept (missing_unit units) (behind_missing units) m (both_kept (repeated_name units) (behind_repeated units) r
+    (both_kept (unknown_name units) (too_large units) u (sym (sizes_same units D P d p) ∙ h)))
+
+pub sizes_exit : (units : List UnitRead) (D : List PlainDecl) (P : List PlainProc) (fault : LinkFault) → D ≡ all_decls units → P ≡ all_procs units
+    → missing_unit units ≡ None → repeated_name units ≡ None → unknown_name units ≡ None → IsFault (too_large_of D P) fault
+    → IsFault (first_fault units) fault
+sizes_exit units D P fault d p m r u h =
+    later_fault_is (missing_unit units) (behind_missing units) fault m (later_fault_is (repeated_name units) (behind_repeated units) fault r
+    (later_fault_is (unknown_name units) (too_large units) fault u (subst (λ x. IsFault x fault) (sizes_same units D P d p) h)))
+
+pub units_joined : (units : List UnitRead) (D : List PlainDecl) (P : List PlainProc) → D ≡ all_decls units → P ≡ all_procs units
+    → joined_of D P ≡ joined_code units
+units_joined units D P d p = ap (λ (E : List PlainDecl). joined_of E P) d ∙ ap (joined_of (all_decls units)) p
 
 pub missing_exit : (units : List UnitRead) (fault : LinkFault) → IsFault (missing_unit units) fault → IsFault (first_fault units) fault
-missing_exit units fault h = first_fault_is (missing_unit units) (option_or (repeated_name units) (too_large units)) fault h
+missing_exit units fault h = first_fault_is (missing_unit units) (behind_missing units) fault h
 
-pub repeated_exit : (units : List UnitRead) (fault : LinkFault) → missing_unit units ≡ None → IsFault (repeated_name units) fault → IsFault (first_fault units) fault
+pub repeated_exit : (units : List UnitRead) (fault : LinkFault) → missing_unit units ≡ None → IsFault (repeated_name units) fault
+    → IsFault (first_fault units) fault
 repeated_exit units fault m h =
-    later_fault_is (missing_unit units) (option_or (repeated_name units) (too_large units)) fault m
-    (first_fault_is (repeated_name units) (too_large units) fault h)
+    later_fault_is (missing_unit units) (behind_missing units) fault m (first_fault_is (repeated_name units) (behind_repeated units) fault h)
+
+pub unknown_exit : (units : List UnitRead) (fault : LinkFault) → missing_unit units ≡ None → repeated_name units ≡ None
+    → IsFault (unknown_name units) fault → IsFault (first_fault units) fault
+unknown_exit units fault m r h =
+    later_fault_is (missing_unit units) (behind_missing units) fault m (later_fault_is (repeated_name units) (behind_repeated units) fault r
+    (first_fault_is (unknown_name units) (too_large units) fault h))
+
+-- procedures of units that are not too large have numbers that fit
+pub units_few : (units : List UnitRead) (D : List PlainDecl) (P Q : List PlainProc) → D ≡ all_decls units → P ≡ all_procs units → Q ≡ all_procs units
+    → list_all is_joinable units ≡ true → too_large_of D P ≡ None → length (proc_names Q) ≤ 16777216
+units_few units D P Q d p q all h =
+    subst (λ (R : List PlainProc). length (proc_names R) ≤ 16777216) (sym q) (few_procs (all_decls units) (all_procs units)
+    (joinable (all_decls units) (all_procs units) (units_decls units all) (units_procs units all) (sym (sizes_same units D P d p) ∙ h)))

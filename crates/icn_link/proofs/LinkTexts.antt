@@ -7,7 +7,7 @@ use Rattle.std.proofs.lemmas.List.Folds.{list_any-append}
 use Rattle.std.proofs.lemmas.Slice.Eq.{bytes_eq-Decides}
 use Rattle.icn_unit.specs.declared.unit.UnitDecl.{UnitDecl}
 use Rattle.icn_unit.specs.declared.unit.UnitDecl.TheVariants as Kept
-use Rattle.icn_unit.specs.PlainUnits.{PlainDecl, Global, Procedure, Link, Record, UnitRead}
+use Rattle.icn_unit.specs.PlainUnits.{PlainDecl, Global, Procedure, Link, Invocable, Record, UnitRead}
 use Rattle.icn_unit.specs.UnitViews.{decl_seen}
 use Rattle.icn_link.specs.declared.fault.LinkFault.{LinkFault}
 use Rattle.icn_link.specs.declared.fault.LinkFault.TheVariants.{K2, NoMemory}
@@ -71,7 +71,7 @@ one_among known text name = by (list_any (bytes_eq text) known) refl
         list_any-append (bytes_eq name) known (text ∷ [])
         ∙ ap (λ t. list_any (bytes_eq name) known || t) (or_false (bytes_eq name text))
 
-among : (known texts : List (List ℕ)) (name : List ℕ)
+pub among : (known texts : List (List ℕ)) (name : List ℕ)
     → list_any (bytes_eq name) (with_texts known texts) ≡ (list_any (bytes_eq name) known || list_any (bytes_eq name) texts)
 among known [] name = sym (or_false (list_any (bytes_eq name) known))
 among known (text ∷ texts) name =
@@ -82,6 +82,7 @@ among known (text ∷ texts) name =
 module _ (names others : List (List ℕ)) (same : (name : List ℕ) → list_any (bytes_eq name) names ≡ list_any (bytes_eq name) others) where
   by_same : (decl : PlainDecl) → missing_by names decl ≡ missing_by others decl
   by_same (Link text) = ap (λ t. if t then None else Some (base_of text)) (same (base_of text))
+  by_same (Invocable text) = refl
   by_same (Global name) = refl
   by_same (Procedure name) = refl
   by_same (Record name fields) = refl

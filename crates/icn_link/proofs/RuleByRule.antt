@@ -25,16 +25,6 @@ list_kept result a b same h = subst (λ x. OnOk result (x ≡ None)) same h
 pub list_fault : {A : Type 0} (result : Result A LinkFault) (a b : Option LinkFault) → a ≡ b → IfErr result (IsFault a) → IfErr result (IsFault b)
 list_fault result a b same h = subst (λ x. IfErr result (IsFault x)) same h
 
--- A check behind those that were kept
-
-pub later_kept : {A : Type 0} (result : Result A LinkFault) (a b : Option LinkFault) → a ≡ None → OnOk result (b ≡ None)
-    → OnOk result (option_or a b ≡ None)
-later_kept result a b kept h = subst (λ x. OnOk result (option_or x b ≡ None)) (sym kept) h
-
-pub later_fault : {A : Type 0} (result : Result A LinkFault) (a b : Option LinkFault) → a ≡ None → IfErr result (IsFault b)
-    → IfErr result (IsFault (option_or a b))
-later_fault result a b kept h = subst (λ x. IfErr result (IsFault (option_or x b))) (sym kept) h
-
 -- what holds of a known error holds of the result's error
 pub if_err_known : {T : Type 0} (r : Result T LinkFault) (P : LinkFault → Type 0) (fault : LinkFault) → IsErrAnd r (λ other. other ≡ fault) → P fault
     → IfErr r P

@@ -4,7 +4,7 @@ use Rattle.std.specs.Prelude.{ℕ, Bool, true, ◌&&◌, ◌||◌, not, nat_lt, 
 use Rattle.std.specs.List.{list_all}
 use Rattle.icn_unit.specs.declared.unit.UnitInstr.{UnitInstr}
 use Rattle.icn_unit.specs.declared.unit.UnitInstr.TheVariants.{Int, Str, Var, Llist, Field, Invoke}
-use Rattle.icn_unit.specs.PlainUnits.{PlainProc, PlainDecl, Global, Procedure, Link, Record, UnitRead, params_in, entry_names}
+use Rattle.icn_unit.specs.PlainUnits.{PlainProc, PlainDecl, Global, Procedure, Link, Invocable, Record, UnitRead, params_in, entry_names}
 use Rattle.icn_unit.specs.UnitOperands.{is_name}
 use Rattle.icn_unit.specs.UnitRules.{is_byte_text, is_integer, is_number}
 
@@ -30,6 +30,7 @@ abbrev pub is_joinable_decl : PlainDecl → Bool
 is_joinable_decl (Global name) = is_name name
 is_joinable_decl (Procedure name) = is_name name
 is_joinable_decl (Link text) = true
+is_joinable_decl (Invocable text) = true
 is_joinable_decl (Record name fields) = is_name name && list_all is_name fields
 
 -- the unit has all that joining asks of it

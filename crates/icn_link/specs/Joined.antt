@@ -1,5 +1,5 @@
 -- The joined code of units: their procedures, records and globals, each name resolved, with what is mentioned in tables.
-use Rattle.std.specs.Prelude.{ℕ, zero, suc, ◌-◌, ◌^◌, ◌/◌, ◌%◌, Bool, true, false, List, [], ◌∷◌, map, replicate, Option, Some, None, if◌then◌else◌, slice_get, slice_set, slice_index, count_by}
+use Rattle.std.specs.Prelude.{ℕ, zero, suc, ◌-◌, ◌^◌, ◌/◌, ◌%◌, Bool, true, false, List, [], ◌∷◌, codes, map, replicate, Option, Some, None, if◌then◌else◌, slice_get, slice_set, slice_index, count_by}
 use Rattle.std.specs.Int.Bits.{bit_or}
 use Rattle.std.specs.List.{flat_map, list_any}
 use Rattle.std.specs.Option.{option_map}
@@ -17,9 +17,9 @@ use Rattle.icn_unit.specs.declared.unit.NameKind.TheVariants as Kinds
 use Rattle.icn_link.specs.declared.variable.VariableKind.{VariableKind}
 use Rattle.icn_link.specs.declared.variable.VariableKind.TheVariants.{Local, Static, Global}
 use Rattle.icn_unit.specs.declared.unit.UnitName.{UnitName}
-use Rattle.icn_unit.specs.PlainUnits.{PlainProc, PlainDecl, Global as GlobalDecl, Procedure, Link, Record, UnitRead, params_in, proc_names}
+use Rattle.icn_unit.specs.PlainUnits.{PlainProc, PlainDecl, Global as GlobalDecl, Procedure, Link, Invocable, Record, UnitRead, params_in, proc_names}
 use Rattle.icn_link.specs.FirstMentions.{text_index, integer_index}
-use Rattle.icn_link.specs.Mentions.{AllMentions, all_mentions, function_named, record_names}
+use Rattle.icn_link.specs.Mentions.{AllMentions, all_mentions, function_named, invocable_in, record_names}
 use Rattle.icn_link.specs.Resolving.{Scope, resolve, label_address}
 use Rattle.icn_link.specs.Units.{all_decls, all_procs}
 
@@ -144,6 +144,7 @@ records_in tables (Record name fields) = record_entry tables name fields ∷ []
 records_in tables (GlobalDecl name) = []
 records_in tables (Procedure name) = []
 records_in tables (Link text) = []
+records_in tables (Invocable text) = []
 
 -- What a global begins with: the procedure or the record of its name, or else, where no unit declares it, the function.
 abbrev pub start_by : Option ℕ → Option ℕ → Bool → Option Func → Start
@@ -203,6 +204,20 @@ tables_with tables decls procs = record {
 abbrev pub joined_of : List PlainDecl → List PlainProc → Tables
 joined_of decls procs = tables_with (all_mentions decls procs) decls procs
 
--- the joined code of units
+-- the number of a procedure, if it is one
+abbrev pub number_list : Option ℕ → List ℕ
+number_list None = []
+number_list (Some number) = number ∷ []
+
+-- the procedures that may be called by their names, by their numbers, in the order of the declarations
+abbrev pub named_procs : List UnitRead → List ℕ
+named_procs units = flat_map (λ text. number_list (index_of (proc_names (all_procs units)) text))
+    (flat_map invocable_in (all_decls units))
+
+-- all may be called by their names
+abbrev pub names_all : List UnitRead → Bool
+names_all units = list_any (bytes_eq (codes "all")) (flat_map invocable_in (all_decls units))
+
+-- the joined code of units, with all procedures
 abbrev pub joined_code : List UnitRead → Tables
 joined_code units = joined_of (all_decls units) (all_procs units)

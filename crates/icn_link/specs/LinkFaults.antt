@@ -1,18 +1,18 @@
 -- Why units can't be joined: the first rule that they break.
-use Rattle.std.specs.Prelude.{◌≡◌, ◌⊎◌, ℕ, suc, ◌-◌, ◌^◌, min, Bool, not, is_some, List, [], ◌∷◌, ◌++◌, length, map, take, codes, find, nat_eq, nat_lt, Option, Some, None, if◌then◌else◌, count_by}
+use Rattle.std.specs.Prelude.{◌≡◌, ◌⊎◌, ℕ, suc, ◌-◌, ◌^◌, ◌||◌, min, Bool, not, is_some, List, [], ◌∷◌, ◌++◌, length, map, take, codes, find, nat_eq, nat_lt, Option, Some, None, if◌then◌else◌, count_by}
 use Rattle.std.specs.List.{flat_map, list_any, sum_by, ends_with}
 use Rattle.std.specs.Option.{option_map, option_or}
 use Rattle.std.specs.Str.{bytes_eq}
 use Rattle.icn_profile.specs.Numbers.{most_bytes_of_image, most_entries, most_fields, most_instructions, most_statics, most_variables}
 use Rattle.icn_image.specs.Spelling.{image_of}
 use Rattle.icn_unit.specs.declared.unit.UnitInstr.{UnitInstr}
-use Rattle.icn_unit.specs.PlainUnits.{PlainProc, PlainDecl, Global, Procedure, Link, Record, UnitRead}
+use Rattle.icn_unit.specs.PlainUnits.{PlainProc, PlainDecl, Global, Procedure, Link, Invocable, Record, UnitRead, owned_names}
 use Rattle.icn_unit.specs.UnitRules.{own_label}
 use Rattle.icn_link.specs.declared.fault.DeclPlace.{DeclPlace}
 use Rattle.icn_link.specs.declared.fault.LinkFault.{LinkFault}
-use Rattle.icn_link.specs.declared.fault.LinkFault.TheVariants.{K1, K2, K3, NoMemory}
+use Rattle.icn_link.specs.declared.fault.LinkFault.TheVariants.{K1, K2, K3, K4, NoMemory}
 use Rattle.icn_link.specs.Joined.{joined_of, locals_in, statics_in}
-use Rattle.icn_link.specs.Mentions.{AllMentions, all_mentions, globals}
+use Rattle.icn_link.specs.Mentions.{AllMentions, all_mentions, function_named, globals}
 use Rattle.icn_link.specs.Units.{all_decls, all_procs}
 
 -- Units that are linked and not there
@@ -25,6 +25,7 @@ base_of text = if ends_with nat_eq text (codes ".u1") then take (length text - 3
 -- the unit that a declaration links, where no unit has that name
 abbrev pub missing_by : List (List ℕ) → PlainDecl → Option (List ℕ)
 missing_by names (Link text) = if list_any (bytes_eq (base_of text)) names then None else Some (base_of text)
+missing_by names (Invocable text) = None
 missing_by names (Global name) = None
 missing_by names (Procedure name) = None
 missing_by names (Record name fields) = None
@@ -74,6 +75,7 @@ owner_in unit place (Procedure name) = owner name unit place ∷ []
 owner_in unit place (Record name fields) = owner name unit place ∷ []
 owner_in unit place (Global name) = []
 owner_in unit place (Link text) = []
+owner_in unit place (Invocable text) = []
 
 -- the procedures and records of a unit, from this declaration on
 abbrev pub owners_in : ℕ → ℕ → List PlainDecl → List Owner
@@ -103,6 +105,41 @@ repeated_from before (next ∷ others) = option_or (option_map (repeat_of next) 
 abbrev pub repeated_name : List UnitRead → Option LinkFault
 repeated_name units = repeated_from [] (owners_from 0 units)
 
+-- Names that may be called
+
+-- `all`, and each name of a procedure or a record of some unit, and of a built-in function
+abbrev pub may_be_called : List (List ℕ) → List ℕ → Bool
+may_be_called owned text =
+    bytes_eq text (codes "all") || (list_any (bytes_eq text) owned || is_some (function_named text))
+
+-- what a declaration says may be called where nothing has that name
+abbrev pub unknown_by : List (List ℕ) → PlainDecl → Option (List ℕ)
+unknown_by owned (Invocable text) = if may_be_called owned text then None else Some text
+unknown_by owned (Global name) = None
+unknown_by owned (Procedure name) = None
+unknown_by owned (Link text) = None
+unknown_by owned (Record name fields) = None
+
+-- the first such name of these declarations
+abbrev pub unknown_in : List (List ℕ) → List PlainDecl → Option (List ℕ)
+unknown_in owned [] = None
+unknown_in owned (decl ∷ decls) = option_or (unknown_by owned decl) (unknown_in owned decls)
+
+-- what may be called is not there
+abbrev pub unknown_fault : ℕ → List ℕ → LinkFault
+unknown_fault unit name = K4 unit name
+
+-- the first of these units, where so many are before them
+abbrev pub unknown_from : List (List ℕ) → ℕ → List UnitRead → Option LinkFault
+unknown_from owned place [] = None
+unknown_from owned place (unit ∷ units) =
+    option_or (option_map (unknown_fault place) (unknown_in owned unit.decls))
+    (unknown_from owned (suc place) units)
+
+-- the first name that a unit says may be called, and that no procedure or record of a unit and no function has
+abbrev pub unknown_name : List UnitRead → Option LinkFault
+unknown_name units = unknown_from (owned_names (all_decls units)) 0 units
+
 -- Programs that are too large
 
 -- the number that a fault tells: the count, and of one past 64 bits the greatest number of 64 bits
@@ -131,6 +168,7 @@ field_counts (Record name fields) = length fields ∷ []
 field_counts (Global name) = []
 field_counts (Procedure name) = []
 field_counts (Link text) = []
+field_counts (Invocable text) = []
 
 -- how many fields each record has
 abbrev pub record_sizes : List PlainDecl → List ℕ
@@ -183,7 +221,8 @@ too_large units = too_large_of (all_decls units) (all_procs units)
 
 -- the first rule that units break
 abbrev pub first_fault : List UnitRead → Option LinkFault
-first_fault units = missing_unit units orelse repeated_name units orelse too_large units
+first_fault units =
+    missing_unit units orelse repeated_name units orelse unknown_name units orelse too_large units
 
 -- A fault is this one, or want of memory.
 abbrev pub IsFault : Option LinkFault → LinkFault → Type 0

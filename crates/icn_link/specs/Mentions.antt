@@ -1,5 +1,6 @@
 -- What declarations and instructions of units mention.
-use Rattle.std.specs.Prelude.{ℕ, ℤ, List, [], ◌∷◌, ◌++◌, find, Option, if◌then◌else◌, is_some}
+use Rattle.std.specs.Prelude.{ℕ, ℤ, List, [], ◌∷◌, ◌++◌, find, slice_get, Option, Some, None, if◌then◌else◌, is_some}
+use Rattle.std.specs.Option.{option_map_or}
 use Rattle.std.specs.List.{flat_map}
 use Rattle.std.specs.Str.{bytes_eq}
 use Rattle.icn_text.specs.Funcs.{func_name}
@@ -10,7 +11,7 @@ use Rattle.icn_unit.specs.declared.unit.NameKind.TheVariants as Kinds
 use Rattle.icn_unit.specs.declared.unit.UnitInstr.{UnitInstr}
 use Rattle.icn_unit.specs.declared.unit.UnitInstr.TheVariants as Unit
 use Rattle.icn_unit.specs.declared.unit.UnitName.{UnitName}
-use Rattle.icn_unit.specs.PlainUnits.{PlainProc, PlainDecl, Global, Procedure, Link, Record, proc_names}
+use Rattle.icn_unit.specs.PlainUnits.{PlainProc, PlainDecl, Global, Procedure, Link, Invocable, Record, proc_names}
 use Rattle.icn_link.specs.FirstMentions.{with_texts, with_integers}
 
 -- Instructions
@@ -63,6 +64,45 @@ mention_of Unit.Coret = NoMention
 mention_of Unit.Cofail = NoMention
 mention_of (Unit.Lab label) = NoMention
 
+-- which name of its procedure an instruction uses, if it uses one
+abbrev pub name_used : UnitInstr → Option ℕ
+name_used (Unit.Int n) = None
+name_used (Unit.Str bytes) = None
+name_used (Unit.Cset members) = None
+name_used (Unit.Field name) = None
+name_used (Unit.Llist count) = None
+name_used (Unit.Invoke count) = None
+name_used Unit.Pnull = None
+name_used (Unit.Var place) = Some place
+name_used (Unit.Keywd keyword) = None
+name_used Unit.Pop = None
+name_used Unit.Dup = None
+name_used (Unit.Op op) = None
+name_used Unit.Appl = None
+name_used (Unit.Mark label) = None
+name_used Unit.Mark0 = None
+name_used Unit.Unmark = None
+name_used Unit.Eret = None
+name_used Unit.Esusp = None
+name_used Unit.Limit = None
+name_used Unit.Lsusp = None
+name_used Unit.Efail = None
+name_used (Unit.Chfail label) = None
+name_used (Unit.Goto label) = None
+name_used (Unit.Loop label) = None
+name_used Unit.Bscan = None
+name_used Unit.Escan = None
+name_used Unit.Ccase = None
+name_used (Unit.Init label) = None
+name_used Unit.Psusp = None
+name_used Unit.Pret = None
+name_used Unit.Pfail = None
+name_used (Unit.Create label) = None
+name_used Unit.Coact = None
+name_used Unit.Coret = None
+name_used Unit.Cofail = None
+name_used (Unit.Lab label) = None
+
 -- the integer that is mentioned, if one is
 abbrev pub integer_in : Mention → List ℤ
 integer_in (AnInteger n) = n ∷ []
@@ -114,6 +154,7 @@ abbrev pub global_in : PlainDecl → List (List ℕ)
 global_in (Global name) = name ∷ []
 global_in (Procedure name) = name ∷ []
 global_in (Link text) = []
+global_in (Invocable text) = []
 global_in (Record name fields) = name ∷ []
 
 -- the fields of a record
@@ -122,6 +163,7 @@ fields_in (Record name fields) = fields
 fields_in (Global name) = []
 fields_in (Procedure name) = []
 fields_in (Link text) = []
+fields_in (Invocable text) = []
 
 -- the name of a record
 abbrev pub record_name_in : PlainDecl → List (List ℕ)
@@ -129,6 +171,15 @@ record_name_in (Record name fields) = name ∷ []
 record_name_in (Global name) = []
 record_name_in (Procedure name) = []
 record_name_in (Link text) = []
+record_name_in (Invocable text) = []
+
+-- what a declaration says that may be called by its name
+abbrev pub invocable_in : PlainDecl → List (List ℕ)
+invocable_in (Invocable text) = text ∷ []
+invocable_in (Global name) = []
+invocable_in (Procedure name) = []
+invocable_in (Link text) = []
+invocable_in (Record name fields) = []
 
 -- the names of all records
 abbrev pub record_names : List PlainDecl → List (List ℕ)
@@ -153,15 +204,31 @@ function_in entry = function_by entry.kind entry.name
 abbrev pub functions_in : PlainProc → List (List ℕ)
 functions_in proc = flat_map function_in proc.names
 
+-- the built-in function that a name at a place may be, if there is one
+abbrev pub function_at : List UnitName → ℕ → List (List ℕ)
+function_at names place = option_map_or function_in (slice_get names place) []
+
+-- the built-in function that an instruction uses, if it uses one, where its procedure has these names
+abbrev pub function_used : List UnitName → UnitInstr → List (List ℕ)
+function_used names instr = option_map_or (function_at names) (name_used instr) []
+
+-- the built-in functions that the instructions of a procedure use, in their order
+abbrev pub functions_used : PlainProc → List (List ℕ)
+functions_used proc = flat_map (function_used proc.names) proc.instrs
+
 -- The tables
 
 -- what declarations declare global, each name once
 abbrev pub declared_names : List PlainDecl → List (List ℕ)
 declared_names decls = with_texts [] (flat_map global_in decls)
 
--- the globals by their names: what is declared, and then the functions that are used and not declared
+-- what is declared global, and then the functions that instructions use and that are not declared, in the order of the instructions
+abbrev pub used_globals : List PlainDecl → List PlainProc → List (List ℕ)
+used_globals decls procs = with_texts (declared_names decls) (flat_map functions_used procs)
+
+-- The globals by their names: these, and last the functions that are among the names of procedures and that no instruction uses.
 abbrev pub globals : List PlainDecl → List PlainProc → List (List ℕ)
-globals decls procs = with_texts (declared_names decls) (flat_map functions_in procs)
+globals decls procs = with_texts (used_globals decls procs) (flat_map functions_in procs)
 
 -- the fields by their names: those of records first
 abbrev pub fields : List PlainDecl → List PlainProc → List (List ℕ)

@@ -29,6 +29,11 @@ pub enum LinkFault {
         unit: u64,
         name: Bytes,
     },
+    /// A unit has a declaration `invocable` of this name, and no procedure, record or function has it.
+    K4 {
+        unit: u64,
+        name: Bytes,
+    },
     /// The program is too large: the first number that is above its bound. One past 64 bits is told as the greatest number of 64 bits.
     K3 {
         count: u64,

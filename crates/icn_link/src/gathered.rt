@@ -7,10 +7,10 @@ ghost use Rattle.icn_unit.specs.declared.unit.UnitName.{UnitName};
 ghost use Rattle.icn_unit.specs.PlainUnits.{PlainDecl, PlainProc, proc_names};
 ghost use Rattle.icn_unit.specs.UnitViews.{decl_seen, proc_seen};
 ghost use Rattle.icn_link.specs.FirstMentions.{integer_index, text_index, with_integer, with_integers, with_text, with_texts};
-ghost use Rattle.icn_link.specs.Mentions.{declared_names, field_in, fields, fields_in, function_in, functions_in, function_named, global_in, globals, integer_in, integers, mention_of, all_mentions, mentioned_by, mentioned_in, record_name_in, record_names, set_in, sets, string_mentions, strings, text_in};
+ghost use Rattle.icn_link.specs.Mentions.{declared_names, field_in, fields, fields_in, function_at, function_in, function_used, functions_in, function_named, global_in, globals, integer_in, integers, mention_of, all_mentions, mentioned_by, mentioned_in, record_name_in, record_names, set_in, sets, string_mentions, strings, text_in, used_globals};
 ghost use Rattle.icn_link.specs.Views.{decls_seen, gathered_seen, procs_seen, texts_seen};
 
-use crate::mention::{Mention, mention_of};
+use crate::mention::{Mention, mention_of, name_used};
 use icn_text::{Func, func_named};
 use icn_tree::Bytes;
 use icn_unit::{NameKind, ProcCode, UnitDecl, UnitInstr, UnitName};
@@ -29,7 +29,7 @@ pub struct GatheredMentions<'a> {
     pub fields: IndexSet<&'a [u8]>,
     /// The names that are declared global.
     pub declared: IndexSet<&'a [u8]>,
-    /// The names of globals: those, and then the functions that are used.
+    /// The names of globals: those, then the functions that instructions use, and then those that are only named.
     pub globals: IndexSet<&'a [u8]>,
 }
 
@@ -83,6 +83,7 @@ fn enter_global<'a>(names: &mut IndexSet<&'a [u8]>, decl: &'a UnitDecl) -> Resul
         UnitDecl::Proc(name) => enter(names, name.as_slice()),
         UnitDecl::Record(name, _) => enter(names, name.as_slice()),
         UnitDecl::Link(_) => Ok(()),
+        UnitDecl::Invocable(_) => Ok(()),
     }
 }
 
@@ -94,11 +95,84 @@ fn globals<'a>(
     ensures { IfOk result
         (λ names. texts_seen names.keys ≡ globals (decls_seen decls.now) (procs_seen procs.now)) }
 {
-    let mut names = collect_declared(alloc, decls)?;
+    let mut names = used_globals(alloc, decls, procs)?;
     for proc in procs {
         enter_functions(&mut names, &proc.names)?;
     }
     Ok(names)
+}
+
+// What is declared, and then the functions that instructions use.
+fn used_globals<'a>(
+    alloc: Global,
+    decls: &[&'a UnitDecl],
+    procs: &[&'a ProcCode],
+) -> Result<IndexSet<&'a [u8]>, AllocError>
+    ensures { IfOk result
+        (λ names. texts_seen names.keys ≡ used_globals (decls_seen decls.now) (procs_seen procs.now)) }
+{
+    let mut names = collect_declared(alloc, decls)?;
+    for proc in procs {
+        enter_functions_used(&mut names, &proc.names, &proc.instrs)?;
+    }
+    Ok(names)
+}
+
+fn enter_functions_used<'a>(
+    names: &mut IndexSet<&'a [u8]>,
+    entries: &'a [UnitName],
+    instrs: &[UnitInstr],
+) -> Result<(), AllocError>
+    ensures { OnOk result (texts_seen names.new.keys
+        ≡ with_texts (texts_seen names.old.keys) (flat_map (function_used entries.now) instrs.now)) }
+{
+    for instr in instrs {
+        enter_function_used(names, entries, instr)?;
+    }
+    Ok(())
+}
+
+fn enter_function_used<'a>(
+    names: &mut IndexSet<&'a [u8]>,
+    entries: &'a [UnitName],
+    instr: &UnitInstr,
+) -> Result<(), AllocError>
+    ensures { OnOk result (texts_seen names.new.keys
+        ≡ with_texts (texts_seen names.old.keys) (function_used entries.now instr.now)) }
+{
+    match name_used(instr) {
+        Some(place) => enter_function_at(names, entries, place),
+        None => Ok(()),
+    }
+}
+
+fn enter_function_at<'a>(
+    names: &mut IndexSet<&'a [u8]>,
+    entries: &'a [UnitName],
+    place: u32,
+) -> Result<(), AllocError>
+    ensures { OnOk result (texts_seen names.new.keys
+        ≡ with_texts (texts_seen names.old.keys) (function_at entries.now place)) }
+{
+    match entries.get(place as usize) {
+        Some(entry) => enter_named_function(names, entry),
+        None => Ok(()),
+    }
+}
+
+fn enter_named_function<'a>(
+    names: &mut IndexSet<&'a [u8]>,
+    entry: &'a UnitName,
+) -> Result<(), AllocError>
+    ensures { OnOk result (texts_seen names.new.keys
+        ≡ with_texts (texts_seen names.old.keys) (function_in entry.now)) }
+{
+    match entry.kind {
+        NameKind::Undeclared => enter_undeclared(names, entry.name.as_slice()),
+        NameKind::Parameter => Ok(()),
+        NameKind::Local => Ok(()),
+        NameKind::Static => Ok(()),
+    }
 }
 
 fn enter_functions<'a>(
@@ -184,6 +258,7 @@ fn enter_fields<'a>(names: &mut IndexSet<&'a [u8]>, decl: &'a UnitDecl) -> Resul
         UnitDecl::Global(_) => Ok(()),
         UnitDecl::Proc(_) => Ok(()),
         UnitDecl::Link(_) => Ok(()),
+        UnitDecl::Invocable(_) => Ok(()),
     }
 }
 
@@ -285,6 +360,7 @@ fn enter_record_name<'a>(
         UnitDecl::Global(_) => Ok(()),
         UnitDecl::Proc(_) => Ok(()),
         UnitDecl::Link(_) => Ok(()),
+        UnitDecl::Invocable(_) => Ok(()),
     }
 }
 

@@ -4,6 +4,7 @@
 mod fault;
 mod gathered;
 mod image_size;
+mod invocables;
 mod joining_laws;
 mod labels;
 mod linking;
@@ -17,5 +18,5 @@ mod variable;
 
 pub use fault::{DeclPlace, LinkFault};
 pub use joining_laws::{joined_keeps_rules, units_are_joinable};
-pub use linking::link;
+pub use linking::{Linked, link};
 pub use missing::base_of;

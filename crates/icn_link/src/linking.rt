@@ -10,16 +10,17 @@ ghost use Rattle.icn_image.specs.Spelling.{image_of};
 ghost use Rattle.icn_unit.specs.PlainUnits.{params_in, proc_names};
 ghost use Rattle.icn_unit.specs.UnitViews.{decl_seen, proc_seen};
 ghost use Rattle.icn_link.specs.FirstMentions.{text_index};
-ghost use Rattle.icn_link.specs.Joined.{cset_of, entry_of, global_entry, global_with, is_among, joined_code, joined_of, locals_in, index_of, proc_entry, record_entry, records_in, start_by, statics_in, tables_with, with_bit, with_bits};
+ghost use Rattle.icn_link.specs.Joined.{cset_of, entry_of, global_entry, global_with, is_among, joined_code, joined_of, locals_in, index_of, named_procs, names_all, number_list, proc_entry, record_entry, records_in, start_by, statics_in, tables_with, with_bit, with_bits};
 ghost use Rattle.icn_link.specs.JoinableUnits.{is_joinable_decl, is_joinable_proc};
 ghost use Rattle.icn_link.specs.LinkFaults.{first_fault, is_instruction, over, size_of, too_large_of, IsFault};
-ghost use Rattle.icn_link.specs.Mentions.{function_named, all_mentions, record_name_in, record_names};
+ghost use Rattle.icn_link.specs.Mentions.{function_named, all_mentions, invocable_in, record_name_in, record_names};
 ghost use Rattle.icn_link.specs.Units.{units_seen};
 ghost use Rattle.icn_link.specs.Views.{decls_seen, gathered_seen, procs_seen, entry_in, texts_seen, AreFew, Joinable};
 
 use crate::fault::LinkFault;
 use crate::gathered::{GatheredMentions, function_named, gather, text_index};
 use crate::image_size::image_size;
+use crate::invocables::{check_invocables, named_procs, names_all};
 use crate::labels::labels_of;
 use crate::lists::{decls_of, procs_of};
 use crate::missing::check_links;
@@ -40,27 +41,60 @@ use std::alloc::{AllocError, Global};
 
 const MOST_BYTES: u64 = MOST_BYTES_OF_IMAGE;
 
+/// What units are linked to.
+#[derive(Debug, Drop)]
+pub struct Linked {
+    /// The code, with all procedures of the units.
+    pub code: Code,
+    /// The numbers of the procedures that the units say may be called by their names.
+    pub named: Vec<u32>,
+    /// Whether they say so of all.
+    pub all: bool,
+}
+
 /// The joined code of units: their procedures, records and globals, with each name resolved over all units.
 ///
 /// # Errors
 ///
 /// The first of these rules that is broken. `K2` where a unit links one that is none of the units: the first such, in the order
 /// of the units and of their declarations. `K1` where a name is procedure or record in two units: the first declaration that
-/// repeats one. `K3` where the program is too large: the first number above its bound, in the order of all instructions
-/// (16777216), the entries of the tables (16777216 each), the statics of all procedures together (4294967295), the fields and the
-/// records (65535 each, as all that follow but the last), the fields of a record, the parameters and other locals of a procedure
-/// together, its statics, and the bytes of the image (1073741824); a number past 64 bits is told as the greatest number of 64
-/// bits. `NoMemory` where memory ran out.
-pub fn link(alloc: Global, units: &[Unit]) -> Result<Code, LinkFault>
-    ensures joined { IfOk result (λ code. tables_of code ≡ joined_code (units_seen units.now)) }
+/// repeats one. `K4` where a unit says that a name may be called which no procedure and no record of the units and no function
+/// has: the first such, in the order of the units and of their declarations. `K3` where the program is too large: the first
+/// number above its bound, in the order of all instructions (16777216), the entries of the tables (16777216 each), the statics
+/// of all procedures together (4294967295), the fields and the records (65535 each, as all that follow but the last), the
+/// fields of a record, the parameters and other locals of a procedure together, its statics, and the bytes of the image
+/// (1073741824); a number past 64 bits is told as the greatest number of 64 bits. `NoMemory` where memory ran out.
+pub fn link(alloc: Global, units: &[Unit]) -> Result<Linked, LinkFault>
+    ensures joined { IfOk result (λ linked. tables_of linked.code ≡ joined_code (units_seen units.now)) }
+    ensures named { IfOk result (λ linked. linked.named.items ≡ named_procs (units_seen units.now)) }
+    ensures all { IfOk result (λ linked. linked.all ≡ names_all (units_seen units.now)) }
     ensures fits { OnOk result (first_fault (units_seen units.now) ≡ None) }
     ensures fault { IfErr result (IsFault (first_fault (units_seen units.now))) }
 {
     check_links(alloc, units)?;
     check_owners(alloc, units)?;
     let decls = decls_of(alloc, units)?;
+    check_invocables(alloc, units, &decls)?;
     let procs = procs_of(alloc, units)?;
-    join(alloc, &decls, &procs)
+    let code = join(alloc, &decls, &procs)?;
+    let named = numbers_named(alloc, &decls, &procs)?;
+    let all = names_all(&decls);
+    Ok(Linked { code, named, all })
+}
+
+// The numbers of the procedures that declarations say may be called by their names.
+fn numbers_named(
+    alloc: Global,
+    decls: &[&UnitDecl],
+    procs: &[&ProcCode],
+) -> Result<Vec<u32>, AllocError>
+    requires procs { length (proc_names (procs_seen procs.now)) ≤ most_entries }
+    ensures { IfOk result (λ numbers. numbers.items
+        ≡ flat_map (λ text. number_list (index_of (proc_names (procs_seen procs.now)) text))
+        (flat_map invocable_in (decls_seen decls.now))) }
+{
+    let numbers = first_indices(alloc, &names_of_procs(alloc, procs)?)?;
+    named_procs(alloc, &numbers, decls)
 }
 
 // The joined code of all declarations and procedures.
@@ -235,6 +269,7 @@ fn put_record(
         UnitDecl::Global(_) => Ok(()),
         UnitDecl::Proc(_) => Ok(()),
         UnitDecl::Link(_) => Ok(()),
+        UnitDecl::Invocable(_) => Ok(()),
     }
 }
 
@@ -357,6 +392,7 @@ fn put_record_name<'a>(names: &mut Vec<&'a [u8]>, decl: &'a UnitDecl) -> Result<
         UnitDecl::Global(_) => Ok(()),
         UnitDecl::Proc(_) => Ok(()),
         UnitDecl::Link(_) => Ok(()),
+        UnitDecl::Invocable(_) => Ok(()),
     }
 }
 

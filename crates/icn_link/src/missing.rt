@@ -85,7 +85,8 @@ fn check_decl(
                 Err(missing_name(alloc, index, base))
             }
         }
-        UnitDecl::Global(_) | UnitDecl::Proc(_) | UnitDecl::Record(_, _) => Ok(()),
+        UnitDecl::Global(_) | UnitDecl::Proc(_) | UnitDecl::Invocable(_) | UnitDecl::Record(_, _) =>
+            Ok(()),
     }
 }
 

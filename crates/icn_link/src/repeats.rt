@@ -84,7 +84,7 @@ fn put_owner<'a>(
             })?;
             Ok(())
         }
-        UnitDecl::Global(_) | UnitDecl::Link(_) => Ok(()),
+        UnitDecl::Global(_) | UnitDecl::Link(_) | UnitDecl::Invocable(_) => Ok(()),
     }
 }
 

@@ -160,6 +160,7 @@ fn check_record(decl: &UnitDecl) -> Result<(), LinkFault>
         UnitDecl::Global(_) => Ok(()),
         UnitDecl::Proc(_) => Ok(()),
         UnitDecl::Link(_) => Ok(()),
+        UnitDecl::Invocable(_) => Ok(()),
     }
 }
 

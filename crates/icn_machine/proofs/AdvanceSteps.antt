@@ -22,7 +22,8 @@ use Rattle.icn_control.specs.Machines.{SettlesAt, StandsAt}
 use Rattle.icn_control.specs.declared.machine.Machine.{Machine}
 use Rattle.icn_control.specs.declared.machine.RunState.{RunState}
 use Rattle.icn_control.specs.declared.machine.RunState.TheVariants as RunStates
-use Rattle.icn_machine.specs.InstructionAnswers.{AnswersStep, BreaksOff, Performs, behind as done_behind, files, idle, putting, reading}
+use Rattle.icn_machine.specs.Performing.{SettlesOn}
+use Rattle.icn_machine.specs.InstructionAnswers.{AnswersStep, BreaksOff, behind as done_behind, files, idle, putting, reading}
 use Rattle.icn_machine.specs.Stepping.{Advances, AreAll, AreAllOver, AreReadings, GainsBy, GainsEvents, GainsSome, IsAny, IsAt, IsFailing, Leads, StandsBy, goes_on, is_failing, outside_at}
 use Rattle.icn_machine.proofs.CountedFaults.{fault_then, first_fault, step_taken, taken_then, told_taken}
 
@@ -162,11 +163,6 @@ gains_by_then now c (Err Halts.FileFault) first second = some_more c first secon
 gains_by_then now c (Err Halts.NoMemory) first second = some_more c first second
 
 -- One step
-
--- what is performed, where an error that becomes failure has
-abbrev pub SettlesOn : {K : Type 0} → Tables → (Outside → State Frames Frames) → Machine K → CallStreams → CallStreams → Result RunState Halt → Type 0
-SettlesOn tables leads m before after result =
-    Performs leads (λ was now answer. SettlesAt tables now (leads was) m answer) before after result
 
 -- a step is answered from the state's own outside on
 own_step : {K : Type 0} (tables : Tables) (m : Machine K) (stage : RunState) (n : Machine K) (was : Outside) (state : State Frames Frames)

@@ -1,5 +1,5 @@
 -- What calls leave names only what has a name, and has each record as long as its kind.
-use Rattle.std.proofs.Common.{◌≡◌, ℕ, List, [], ◌∷◌, map, Some, None, Result, Ok, Err, MatchResult, refl, sym, ap, subst}
+use Rattle.std.proofs.Common.{◌≡◌, ℕ, List, [], ◌∷◌, map, Some, None, Result, Ok, Err, MatchResult, refl, sym, ap, ◌∙◌, subst}
 use Rattle.std.specs.Prelude.{IfOk, IsErrAnd, slice_get}
 use Rattle.std.specs.List.{All}
 use Rattle.std.specs.Option.{option_map}
@@ -10,7 +10,8 @@ use Rattle.icn_value.specs.declared.val.Val.TheVariants as Vals
 use Rattle.icn_value.specs.declared.item.Item.{Item as HeldItem}
 use Rattle.icn_value.specs.Store.{Names, list_at, bare_outside, record_at}
 use Rattle.icn_value.specs.Values.{Value, Null, Integer, Text, Chars, Std, Procedure, ARecord, AList, ASet, ATable, ACoexp}
-use Rattle.law_rows.proofs.EachOfList.{each_of}
+use Rattle.icn_defs.specs.Running.{callee_number}
+use Rattle.law_rows.proofs.EachOfList.{each_of, none_is_not_some, some_injective}
 use Rattle.icn_heap.specs.Extents.{Extent, value_in}
 use Rattle.icn_heap.specs.Heaps.{extent_of, heap_of}
 use Rattle.law_names.specs.NamedSettings.{ItemNamed, ListNamed, RecordNamed, ValueNamed, WorldNamed}
@@ -38,7 +39,7 @@ use Rattle.icn_control.specs.declared.machine.RunState.{RunState}
 use Rattle.icn_control.specs.declared.machine.RunState.TheVariants as RunStates
 use Rattle.icn_control.proofs.StackAndWorldSteps.{value_goes, value_halts}
 use Rattle.icn_control.proofs.TakenOperandSteps.{FindsItem}
-use Rattle.icn_calls.specs.Calling.{IsGoing, function_in}
+use Rattle.icn_calls.specs.Calling.{IsGoing, NamesNothing, function_in}
 use Rattle.icn_calls.proofs.InvokeSteps.{never_function}
 use Rattle.icn_machine.specs.Invoking.{FindsElements}
 use Rattle.icn_machine.specs.Performing.{LeavesNamed, UnlessOver}
@@ -68,9 +69,25 @@ no_function tables all (Vals.Set id) n func none is found = cc
 no_function tables all (Vals.Table id) n func none is found = cc
 no_function tables all (Vals.Coexp id) n func none is found = cc
 
+-- what is called names no function either
+no_function_named : (names : Names) (tables : Tables) (all : Extent) (callee : Val) (n : ℕ) (func : Func) → function_in tables callee ≡ None
+    → NamesNothing names (value_in all callee) → callee_number names (value_in all callee) ≡ Some n → callee_of tables n ≡ IsFunc func → ⊥
+no_function_named names tables all (Vals.Proc k) n func none nothing is found =
+    no_function tables all (Vals.Proc k) n func none (ap Procedure (some_injective is)) found
+no_function_named names tables all Vals.Null n func none nothing is found = none_is_not_some n (sym nothing ∙ is)
+no_function_named names tables all (Vals.Integer i) n func none nothing is found = none_is_not_some n (sym nothing ∙ is)
+no_function_named names tables all (Vals.Text span) n func none nothing is found = none_is_not_some n (sym nothing ∙ is)
+no_function_named names tables all (Vals.Chars cset) n func none nothing is found = none_is_not_some n (sym nothing ∙ is)
+no_function_named names tables all (Vals.Std file) n func none nothing is found = none_is_not_some n (sym nothing ∙ is)
+no_function_named names tables all (Vals.Rec id) n func none nothing is found = none_is_not_some n (sym nothing ∙ is)
+no_function_named names tables all (Vals.List id) n func none nothing is found = none_is_not_some n (sym nothing ∙ is)
+no_function_named names tables all (Vals.Set id) n func none nothing is found = none_is_not_some n (sym nothing ∙ is)
+no_function_named names tables all (Vals.Table id) n func none nothing is found = none_is_not_some n (sym nothing ∙ is)
+no_function_named names tables all (Vals.Coexp id) n func none nothing is found = none_is_not_some n (sym nothing ∙ is)
+
 -- what a call on a stack in a world comes to
 abbrev CallsWith : Tables → World → FlatStack → Val → List rows.Item → World → FlatStack → Result RunState Halt → Type 0
-CallsWith tables w m callee items v n result = (st : Store Frames) → st.world ≡ world_of w
+CallsWith tables w m callee items v n result = (st : Store Frames) → st.world ≡ world_of w → NamesNothing st.names (value_in (extent_of w.heap) callee)
     → MatchResult result (StandsWith (invoke_value flat tables (value_in (extent_of w.heap) callee) items (stack_in (extent_of w.heap) m) st) st v n)
     (HaltsWith (invoke_value flat tables (value_in (extent_of w.heap) callee) items (stack_in (extent_of w.heap) m) st) st v (stack_in (extent_of v.heap) n))
 
@@ -93,11 +110,12 @@ halted_named names ns w v n state Halts.NoMemory h e = tt
 pub call_named : (law : StepsKeepNames) (tables : Tables) (names : Names) (w v : World) (m n : FlatStack) (callee : Val) (items : List rows.Item)
     (result : Result RunState Halt)
     → names ≡ all_names tables
-    → function_in tables callee ≡ None → ValueNamed names (value_in (extent_of w.heap) callee) → All (ItemNamed names) items
+    → function_in tables callee ≡ None → NamesNothing names (value_in (extent_of w.heap) callee)
+    → ValueNamed names (value_in (extent_of w.heap) callee) → All (ItemNamed names) items
     → StackNamed names (stack_in (extent_of w.heap) m) → WorldNamed names (world_of w)
     → CallsWith tables w m callee items v n result → IfOk result IsGoing
     → LeavesNamed names v n result
-call_named law tables names w v m n callee items result known none called are stack world h g =
+call_named law tables names w v m n callee items result known none silent called are stack world h g =
     subst (λ (x : Names). LeavesNamed x v n result) (sym known)
     (by_result result h g (subst (λ (x : Names). ValueNamed x (value_in (extent_of w.heap) callee)) known called)
     (subst (λ (x : Names). All (ItemNamed x) items) known are)
@@ -109,26 +127,30 @@ call_named law tables names w v m n callee items result known none called are st
     st : Store Frames
     st = bare_store ns w
 
+    nothing : NamesNothing ns (value_in (extent_of w.heap) callee)
+    nothing = subst (λ (x : Names). NamesNothing x (value_in (extent_of w.heap) callee)) known silent
+
     after : ValueNamed ns (value_in (extent_of w.heap) callee) → All (ItemNamed ns) items → StackNamed ns (stack_in (extent_of w.heap) m)
         → WorldNamed ns (world_of w)
         → StateNamed ns (invoke_value flat tables (value_in (extent_of w.heap) callee) items (stack_in (extent_of w.heap) m) st)
     after called are stack world =
         law.called tables (value_in (extent_of w.heap) callee) items (stack_in (extent_of w.heap) m) st
-        (λ k func is found. absurd (no_function tables (extent_of w.heap) callee k func none is found)) called are stack (bare_named ns w world)
+        (λ k func is found. absurd (no_function_named ns tables (extent_of w.heap) callee k func none nothing is found))
+        (λ k is. none_is_not_some k (sym nothing ∙ is)) called are stack (bare_named ns w world)
 
     by_result : (result : Result RunState Halt) → CallsWith tables w m callee items v n result → IfOk result IsGoing
         → ValueNamed ns (value_in (extent_of w.heap) callee) → All (ItemNamed ns) items
         → StackNamed ns (stack_in (extent_of w.heap) m) → WorldNamed ns (world_of w) → LeavesNamed ns v n result
     by_result (Ok RunStates.Running) h g called are stack world =
-        let s = subst (λ (x : State Frames Frames). StateNamed ns x) (h st refl) (after called are stack world) in (s.0, s.1.world)
+        let s = subst (λ (x : State Frames Frames). StateNamed ns x) (h st refl nothing) (after called are stack world) in (s.0, s.1.world)
     by_result (Ok RunStates.Failing) h g called are stack world =
-        let s = subst (λ (x : State Frames Frames). StateNamed ns x) (h st refl) (after called are stack world) in (s.0, s.1.world)
+        let s = subst (λ (x : State Frames Frames). StateNamed ns x) (h st refl nothing) (after called are stack world) in (s.0, s.1.world)
     by_result (Ok RunStates.Hopping) h g called are stack world = absurd g
     by_result (Ok RunStates.Over) h g called are stack world = absurd g
     by_result (Ok RunStates.AtBound) h g called are stack world = absurd g
     by_result (Err halt) h g called are stack world =
         halted_named ns ns w v n (invoke_value flat tables (value_in (extent_of w.heap) callee) items (stack_in (extent_of w.heap) m) st) halt
-        (after called are stack world) (h st refl)
+        (after called are stack world) (h st refl nothing)
 
 -- The value of an item
 
@@ -214,7 +236,7 @@ called_null tables from m st = elements_called flat tables Null from m st
 
 null_named : (law : StepsKeepNames) (tables : Tables) (items : List rows.Item) (m : Frames) (st : Store Frames) → All (ItemNamed (all_names tables)) items
     → StackNamed (all_names tables) m → StoreNamed (all_names tables) st → StateNamed (all_names tables) (invoke_value flat tables Null items m st)
-null_named law tables items m st are stack store = law.called tables Null items m st (λ k func is found. absurd (cc)) tt are stack store
+null_named law tables items m st are stack store = law.called tables Null items m st (λ k func is found. absurd (cc)) (λ k is. absurd (cc)) tt are stack store
 
 -- it has no elements
 none_named : (names : Names) (from : Value) (m : Frames) (st : Store Frames) → ValueNamed names from → StackNamed names m → StoreNamed names st
@@ -271,10 +293,10 @@ elements_leave law tables names w m n from items halt (Err other) err e known is
 
 pub call_sized : (law : StepsKeepSizes) (tables : Tables) (w v : World) (m n : FlatStack) (callee : Val) (items : List rows.Item)
     (result : Result RunState Halt)
-    → function_in tables callee ≡ None
+    → function_in tables callee ≡ None → NamesNothing (all_names tables) (value_in (extent_of w.heap) callee)
     → CallsWith tables w m callee items v n result → IfOk result IsGoing → FitSizes (field_count tables) (heap_of w.heap)
     → UnlessOver v result (FitSizes (field_count tables) (heap_of v.heap))
-call_sized law tables w v m n callee items result none h g fits = by_result result h g
+call_sized law tables w v m n callee items result none nothing h g fits = by_result result h g
   where
     st : Store Frames
     st = bare_store (all_names tables) w
@@ -282,18 +304,18 @@ call_sized law tables w v m n callee items result none h g fits = by_result resu
     after : StateFits tables (invoke_value flat tables (value_in (extent_of w.heap) callee) items (stack_in (extent_of w.heap) m) st)
     after =
         law.called tables (value_in (extent_of w.heap) callee) items (stack_in (extent_of w.heap) m) st
-        (λ k func is found. absurd (no_function tables (extent_of w.heap) callee k func none is found)) fits
+        (λ k func is found. absurd (no_function_named (all_names tables) tables (extent_of w.heap) callee k func none nothing is found)) fits
 
     by_result : (result : Result RunState Halt) → CallsWith tables w m callee items v n result → IfOk result IsGoing
         → UnlessOver v result (FitSizes (field_count tables) (heap_of v.heap))
-    by_result (Ok RunStates.Running) h g = subst (λ (x : State Frames Frames). StateFits tables x) (h st refl) after
-    by_result (Ok RunStates.Failing) h g = subst (λ (x : State Frames Frames). StateFits tables x) (h st refl) after
+    by_result (Ok RunStates.Running) h g = subst (λ (x : State Frames Frames). StateFits tables x) (h st refl nothing) after
+    by_result (Ok RunStates.Failing) h g = subst (λ (x : State Frames Frames). StateFits tables x) (h st refl nothing) after
     by_result (Ok RunStates.Hopping) h g = absurd g
     by_result (Ok RunStates.Over) h g = absurd g
     by_result (Ok RunStates.AtBound) h g = absurd g
     by_result (Err (Halts.Error number offending)) h g =
         errs_fit tables number (option_map (value_in (extent_of v.heap)) offending) (stack_in (extent_of v.heap) n) (with_world (world_of v) st)
-        (subst (λ (x : State Frames Frames). StateFits tables x) (h st refl) after)
+        (subst (λ (x : State Frames Frames). StateFits tables x) (h st refl nothing) after)
     by_result (Err (Halts.Ends status)) h g = tt
     by_result (Err Halts.ReadFault) h g = tt
     by_result (Err Halts.WriteFault) h g = tt

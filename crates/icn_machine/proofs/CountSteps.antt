@@ -179,7 +179,13 @@ count_resumed w m n count rest b (Err halted) is back counts halt =
 
 keeps_all : (r : Reach) → KeepsItems r r
 keeps_all r = record {
-  extent = record { live = λ val l. l; value = λ val l. refl; text = λ span l. l; bytes = λ span l. refl };
+  extent = record {
+    means = record { made = λ val l. l; value = λ val l. refl; text = λ span l. l; bytes = λ span l. refl };
+    live = λ val l. l;
+    value = λ val l. refl;
+    text = λ span l. l;
+    bytes = λ span l. refl;
+  };
   fields = record { more = λ id. omega arith };
   globals = refl;
   statics = refl;

@@ -21,9 +21,9 @@ use Rattle.icn_control.specs.declared.machine.Machine.{Machine}
 use Rattle.icn_control.specs.declared.machine.RunState.{RunState}
 use Rattle.icn_control.specs.declared.machine.RunState.TheVariants as RunStates
 use Rattle.icn_control.proofs.Halts.{unless_ended}
-use Rattle.icn_machine.specs.Performing.{PerformsOn}
+use Rattle.icn_machine.specs.Performing.{PerformsOn, SettlesOn}
 use Rattle.icn_machine.specs.Stepping.{Advances, FailsFurther, IsFailing, IsKept, IsKeptAt, IsReady, IsReadyToFail, IsTurn, KeepsState, MakesTurn}
-use Rattle.icn_machine.proofs.AdvanceSteps.{SettlesOn, quiet_step, performed_step}
+use Rattle.icn_machine.proofs.AdvanceSteps.{quiet_step, performed_step}
 use Rattle.icn_machine.proofs.FailFalls.{Further, fails_further, hops_further}
 use Rattle.icn_machine.proofs.KeptSteps.{kept_at, kept_failing, kept_hopping, kept_over, next_lacks_nothing}
 use Rattle.icn_machine.proofs.NextSteps.{comes_by, erring_after, ready_after}

@@ -16,7 +16,7 @@ use Rattle.icn_code.specs.declared.instr.Instr.TheVariants as Instrs
 use Rattle.icn_code.specs.Codes.{Tables}
 use Rattle.icn_run.specs.Stacks.{Frames, flat}
 use Rattle.icn_run.specs.Step.{Store, at_bound, operate, running, failing, turn}
-use Rattle.icn_control.specs.LiveStacks.{IsLiveStack, StaysLive}
+use Rattle.icn_control.specs.LiveStacks.{IsLiveStack}
 use Rattle.icn_control.specs.Machines.{HasStack, IsSoundMachine, StandsAt, does, extent, running_of, stack_of, store_seen}
 use Rattle.icn_control.specs.Soundness.{StaysSound}
 use Rattle.icn_control.specs.StackViews.{instruction_state, stack_in}
@@ -24,11 +24,11 @@ use Rattle.icn_control.specs.TakenOperands.{take_operands}
 use Rattle.icn_control.specs.declared.machine.Machine.{Machine}
 use Rattle.icn_control.specs.declared.machine.RunState.{RunState}
 use Rattle.icn_control.specs.declared.machine.RunState.TheVariants as RunStates
-use Rattle.icn_control.proofs.CountedSteps.{turn_more}
 use Rattle.icn_control.proofs.ListSteps.{on_running, turn_bound}
 use Rattle.icn_control.proofs.MachineSteps.{stacks_on}
 use Rattle.icn_control.proofs.TakenOperandSteps.{taken_runs}
-use Rattle.icn_machine.specs.PlainOperations.{OperatesAlone}
+use Rattle.icn_machine.specs.DoneInPlace.{StaysSame}
+use Rattle.icn_machine.specs.PlainOperations.{OperatesOver}
 
 -- at the bound of turns an operation ends the run, whatever its operands are
 pub bound_is : (all : Extent) (tables : Tables) (op : Op) (m : FlatStack) (st : Store Frames) → IsSome (take_operands (arity op) m)
@@ -64,49 +64,40 @@ on_stack m s = record {
 
 -- what an operation did on the stack alone, said of the machine
 pub alone_stands : {K : Type 0} (m : Machine K) (s : SeenStack) (tables : Tables) (was : Outside) (op : Op) (f : FlatStack) (stage : RunState)
-    → m.stacks.table.running ≡ Some f → nat_lt m.turns (heap_of m.world.heap).bounds.turns ≡ true → OperatesAlone op f s.flat stage
+    → m.stacks.table.running ≡ Some f → nat_lt m.turns (heap_of m.world.heap).bounds.turns ≡ true → OperatesOver m.world op f s.flat stage
     → StandsAt tables was (does tables was (Instrs.Op op) m) (a_turn_on m s) stage
 alone_stands m s tables was op f RunStates.Running e more done =
     let all : Extent = extent m in
     let st : Store Frames = store_seen tables was m in
-    on_running m.stacks.table f (λ x. instruction_state all tables (Instrs.Op op) x st) e ∙ done all tables st more
+    on_running m.stacks.table f (λ x. instruction_state all tables (Instrs.Op op) x st) e ∙ done tables st refl more
     ∙ ap (λ (t : ℕ). running (stack_in all s.flat) (record st { turns = t })) (sym (add-one m.turns))
 alone_stands m s tables was op f RunStates.Failing e more done =
     let all : Extent = extent m in
     let st : Store Frames = store_seen tables was m in
-    on_running m.stacks.table f (λ x. instruction_state all tables (Instrs.Op op) x st) e ∙ done all tables st more
+    on_running m.stacks.table f (λ x. instruction_state all tables (Instrs.Op op) x st) e ∙ done tables st refl more
     ∙ ap (λ (t : ℕ). failing (stack_in all s.flat) (record st { turns = t })) (sym (add-one m.turns))
-alone_stands m s tables was op f RunStates.Hopping e more done = absurd (done (extent m) tables (store_seen tables was m) more)
-alone_stands m s tables was op f RunStates.Over e more done = absurd (done (extent m) tables (store_seen tables was m) more)
-alone_stands m s tables was op f RunStates.AtBound e more done = absurd (done (extent m) tables (store_seen tables was m) more)
+alone_stands m s tables was op f RunStates.Hopping e more done = absurd (done tables (store_seen tables was m) refl more)
+alone_stands m s tables was op f RunStates.Over e more done = absurd (done tables (store_seen tables was m) refl more)
+alone_stands m s tables was op f RunStates.AtBound e more done = absurd (done tables (store_seen tables was m) refl more)
 
 -- a stack runs then
 pub alone_runs : {K : Type 0} (m : Machine K) (s : SeenStack) (tables : Tables) (op : Op) (f : FlatStack) (stage : RunState)
-    → nat_lt m.turns (heap_of m.world.heap).bounds.turns ≡ true → OperatesAlone op f s.flat stage → HasStack (a_turn_on m s) stage
+    → nat_lt m.turns (heap_of m.world.heap).bounds.turns ≡ true → OperatesOver m.world op f s.flat stage → HasStack (a_turn_on m s) stage
 alone_runs m s tables op f RunStates.Running more done = refl
 alone_runs m s tables op f RunStates.Failing more done = refl
-alone_runs m s tables op f RunStates.Hopping more done = absurd (done (extent m) tables (store_seen tables bare_outside m) more)
+alone_runs m s tables op f RunStates.Hopping more done = absurd (done tables (store_seen tables bare_outside m) refl more)
 alone_runs m s tables op f RunStates.Over more done = tt
 alone_runs m s tables op f RunStates.AtBound more done = tt
-
--- the machine is as sound as it was, a turn later, where its stack is
-pub sound_alone : {K : Type 0} (m : Machine K) (s : SeenStack) (t : Tables) (f : FlatStack) → m.stacks.table.running ≡ Some f → StaysLive f s.flat
-    → IsSoundMachine t m → IsSoundMachine t (a_turn_on m s)
-sound_alone m s t f e live k = record {
-  stacks = stacks_on t (reach_of m.world []) m.stacks.table f s.flat e (live t (reach_of m.world [])) k.stacks;
-  bounds = k.bounds;
-  counts = k.counts;
-  counted = record {
-    results = turn_more m.turns m.stacks.table.active (heap_of m.world.heap).coexps k.counted.results;
-    activators = k.counted.activators;
-  };
-}
 
 -- A stack that is as it was
 
 table_same : (table : CoexpTable) (f n : FlatStack) → table.running ≡ Some f → n ≡ f → record table { running = Some n } ≡ table
 table_same table f n e same =
     ap (λ (o : Option FlatStack). let x : CoexpTable = record table { running = o } in x) (ap (λ (x : FlatStack). Some x) same ∙ sym e)
+
+-- so of the machine
+pub stays_on : {K : Type 0} (m : Machine K) (s : SeenStack) (f : FlatStack) → m.stacks.table.running ≡ Some f → s.flat ≡ f → StaysSame m (on_stack m s)
+stays_on m s f e same = record { world = refl; table = table_same m.stacks.table f s.flat e same; turns = refl; begun = refl; limits = refl }
 
 pub does_same : {K : Type 0} (m : Machine K) (s : SeenStack) (tables : Tables) (was : Outside) (instr : Instr) (f : FlatStack)
     → m.stacks.table.running ≡ Some f → s.flat ≡ f → does tables was instr m ≡ does tables was instr (on_stack m s)

@@ -1,4 +1,5 @@
 pub mod AdvanceSteps
+pub mod AtOnceSteps
 pub mod CallFacts
 pub mod CodeRules
 pub mod CountSteps
@@ -10,6 +11,7 @@ pub mod FailingSteps
 pub mod GiveSteps
 pub mod InPlaceSteps
 pub mod InvokeSteps
+pub mod InWorldSteps
 pub mod KeptSteps
 pub mod LoopSteps
 pub mod NextSteps
@@ -18,6 +20,7 @@ pub mod OperateSteps
 pub mod PerformEvents
 pub mod PerformSteps
 pub mod PlainCallSteps
+pub mod PlainFunctionSteps
 pub mod PlainOperands
 pub mod PlainOperationSteps
 pub mod SettleSteps

@@ -41,9 +41,9 @@ use Rattle.icn_instructions.specs.Groups.{group_of, group_of_op}
 use Rattle.icn_instructions.specs.declared.groups.InstrGroup.TheVariants as Groups
 use Rattle.icn_instructions.proofs.LackSteps.{one_there, take_there}
 use Rattle.icn_machine.specs.NamedWorlds.{coexps_seen}
-use Rattle.icn_machine.specs.Performing.{LeavesNamed, PerformsOn, UnlessOver}
+use Rattle.icn_machine.specs.Performing.{LeavesNamed, PerformsOn, SettlesOn, UnlessOver}
 use Rattle.icn_machine.specs.Stepping.{Advances, AlwaysOver, IsDoing, IsFailing, IsKept, IsReady, IsReadyToFail, KeepsState, LacksNothing, applies_op, is_applied, is_whole}
-use Rattle.icn_machine.proofs.AdvanceSteps.{SettlesOn, performed_step}
+use Rattle.icn_machine.proofs.AdvanceSteps.{performed_step}
 use Rattle.icn_machine.proofs.KeptSteps.{always_next, kept_at, kept_over, next_lacks_nothing}
 use Rattle.icn_machine.proofs.SettleSteps.{fit_errs, named_errs}
 

@@ -182,7 +182,7 @@ performs_on m t tables w turns table k n row leads b a result kept live e f same
 -- a store of this world
 abbrev store_of : World → Store Frames
 store_of w =
-    record { world = world_of w; outside = bare_outside; turns = 0; begun = []; coexps = []; active = 0; names = record { procedures = []; records = [] } }
+    record { world = world_of w; outside = bare_outside; turns = 0; begun = []; coexps = []; active = 0; names = record { procedures = []; records = []; arguments = []; hidden = [] } }
 
 -- a stack runs where a row was answered, which never comes to a hop
 pub has_stack : {K : Type 0} (m : Machine K) (w : World) (k n : FlatStack) (row : Row) (b a : CallStreams) (result : Result RunState Halt)

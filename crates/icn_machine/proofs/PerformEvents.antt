@@ -180,6 +180,17 @@ still_event names event w v n before result h st same names_same =
     still_performs (λ was. event (over_outside was st)) (λ was now answer. StandsOver (event (over_outside was st)) st v n now answer) before result
     (with_faultless (event st) st v n result (h st same)) (λ was. stands_over (event (over_outside was st)) st v n was result (h (over_outside was st) same))
 
+-- and where it is known which names the store has
+pub named_event : (names : Names) (event : Store Frames → State Frames Frames) (w v : World) (n : FlatStack) (before : CallStreams)
+    (result : Result RunState Halt)
+    → ((st : Store Frames) → st.world ≡ world_of w → st.names ≡ names
+    → MatchResult result (StandsWith (event st) st v n) (HaltsWith (event st) st v (stack_in (extent_of v.heap) n)))
+    → PerformsEvent names event w before v n before result
+named_event names event w v n before result h st same names_same =
+    still_performs (λ was. event (over_outside was st)) (λ was now answer. StandsOver (event (over_outside was st)) st v n now answer) before result
+    (with_faultless (event st) st v n result (h st same names_same))
+    (λ was. stands_over (event (over_outside was st)) st v n was result (h (over_outside was st) same names_same))
+
 -- an event that is another one, over whatever outside
 pub event_as : (names : Names) (event other : Store Frames → State Frames Frames) (w v : World) (n : FlatStack) (before after : CallStreams)
     (result : Result RunState Halt)

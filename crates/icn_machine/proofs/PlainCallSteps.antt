@@ -1,5 +1,5 @@
 -- Calls of procedures on the stack alone, as steps.
-use Rattle.std.proofs.Common.{◌≡◌, ℕ, zero, suc, ◌+◌, ◌<◌, ◌≤◌, Bool, true, false, nat_lt, nat_le, List, [], ◌∷◌, ◌++◌, length, map, replicate, slice_get, Option, Some, None, IsSome, Result, Ok, Err, IfOk, refl, sym, ap, ◌∙◌, subst, arith, append-nil, add-one}
+use Rattle.std.proofs.Common.{◌≡◌, ℕ, zero, suc, ◌+◌, ◌<◌, ◌≤◌, Bool, true, false, nat_lt, nat_le, List, [], ◌∷◌, ◌++◌, length, map, replicate, slice_get, Option, Some, None, IsSome, Ok, refl, sym, ap, ◌∙◌, subst, arith, append-nil, add-one}
 use Rattle.std.specs.List.{All}
 use Rattle.std.specs.Option.{option_and_then, option_map, option_map_or}
 use Rattle.std.specs.Prelude.{unwrap_or}
@@ -8,19 +8,21 @@ use Rattle.std.proofs.lemmas.List.Elements.{All-cons, All-head, All-nil, All-tai
 use Rattle.std.proofs.lemmas.Option.{same_Some, slice_get-map}
 use Rattle.icn_value.specs.declared.item.Item.{Item}
 use Rattle.icn_value.specs.declared.item.Item.TheVariants as Items
+use Rattle.icn_value.specs.declared.item.Root.TheVariants as Roots
+use Rattle.icn_value.specs.declared.item.VarRef.TheVariants as VarRefs
 use Rattle.icn_value.specs.declared.val.Val.{Val}
 use Rattle.icn_value.specs.declared.val.Val.TheVariants as Vals
 use Rattle.icn_value.specs.Store.{Names, Outside, World as StoreWorld, value_at}
 use Rattle.icn_value.specs.Values as values
 use Rattle.icn_value.specs.Values.{Value}
 use Rattle.icn_defs.specs.Rows.{Gives}
-use Rattle.law_rows.proofs.EachOfList.{Each, each_append, each_get}
+use Rattle.law_rows.proofs.EachOfList.{Each, each_append}
 use Rattle.icn_heap.specs.Extents.{Extent, IsLive, value_in}
 use Rattle.icn_heap.specs.Heaps.{extent_of, heap_of}
 use Rattle.law_names.specs.NamedSettings.{ItemNamed, ValueNamed}
 use Rattle.icn_vars.specs.declared.world.World.{World}
 use Rattle.icn_vars.specs.Worlds.{IsLiveItem, Reach, item_in, reach_of, world_of}
-use Rattle.icn_frames.specs.CalledWith.{EntersWith, HasOperands, HoldValues, HoldsValue, as_local, as_value, operands_above}
+use Rattle.icn_frames.specs.CalledWith.{EntersWith, HasOperands, HoldValues, as_value, operands_above}
 use Rattle.icn_frames.specs.StackInvariant.{SeenStack}
 use Rattle.icn_frames.specs.Stacks as held
 use Rattle.icn_frames.specs.Stacks.{FlatStack}
@@ -29,7 +31,6 @@ use Rattle.icn_frames.specs.declared.layout.Cell.TheVariants.{Base, Call, Local,
 use Rattle.icn_frames.specs.Slots.{plain_operand}
 use Rattle.icn_frames.specs.declared.slots.StackSlot.{StackSlot}
 use Rattle.icn_frames.proofs.CalledWithFacts.{hold_length}
-use Rattle.law_frames.proofs.CallsRead.{locals_read}
 use Rattle.law_frames.proofs.ScansRead.{enter_read}
 use Rattle.icn_code.specs.Codes.{Proc, Tables}
 use Rattle.icn_code.specs.declared.instr.Instr.TheVariants as Instrs
@@ -61,6 +62,7 @@ use Rattle.icn_machine.specs.PlainCalls.{CallsAlone, CallsInPlace, NamesProcedur
 use Rattle.icn_machine.specs.PlainCalls as calls
 use Rattle.icn_machine.proofs.InPlaceSteps.{a_turn_on}
 use Rattle.icn_machine.proofs.OperateSteps.{named_taken}
+use Rattle.icn_machine.proofs.PlainOperands.{value_named}
 
 -- Operands that are there
 
@@ -94,15 +96,20 @@ taken_above (x ∷ items) n m xs =
     ap (λ (k : ℕ). taken_onto k (record m { cells = operands_above items (Operand x ∷ m.cells) }) xs) more
     ∙ taken_above items (suc n) (held.push x m) xs
 
+pub operands_taken : (count : ℕ) (m k : FlatStack) (callee : Item) (items : List Item)
+    → m ≡ record k { cells = operands_above items (Operand callee ∷ k.cells) } → length items ≡ count
+    → take_operands (suc count) m ≡ Some (callee ∷ items, k)
+operands_taken count m k callee items was as_many =
+    let all : List Item = callee ∷ items in
+    let many : suc count ≡ length all + 0 = omega (arith, as_many) in
+    let F : List Item → Option (List Item × FlatStack) = λ xs. Some (xs, k) in
+    ap (λ (x : FlatStack). take_operands (suc count) x) was
+    ∙ ap (λ (n : ℕ). taken_onto n (record k { cells = operands_above all k.cells }) []) many
+    ∙ taken_above all 0 k [] ∙ ap F (append-nil all)
+
 pub arguments_taken : (proc count nulls address : ℕ) (m n : FlatStack) (e : EntersWith proc count nulls address m n)
     → take_operands (suc count) m ≡ Some (e.callee ∷ e.items, e.rest)
-arguments_taken proc count nulls address m n e =
-    let all : List Item = e.callee ∷ e.items in
-    let many : suc count ≡ length all + 0 = omega (arith, e.many) in
-    let F : List Item → Option (List Item × FlatStack) = λ xs. Some (xs, e.rest) in
-    ap (λ (x : FlatStack). take_operands (suc count) x) e.was
-    ∙ ap (λ (k : ℕ). taken_onto k (record e.rest { cells = operands_above all e.rest.cells }) []) many
-    ∙ taken_above all 0 e.rest [] ∙ ap F (append-nil all)
+arguments_taken proc count nulls address m n e = operands_taken count m e.rest e.callee e.items e.was e.many
 
 -- Values of operands
 
@@ -117,18 +124,24 @@ values_found all k st (item ∷ items) (v ∷ vs) next h =
     (λ value. with_values flat (map (item_in all) items) (stack_in all k) st (λ others. next (value ∷ others))) (value_found all k st item v h.0)
     ∙ values_found all k st items vs (λ others. next (value_in all v ∷ others)) h.1
 
+-- the value of a global is found
+pub global_found : (w : World) (k : FlatStack) (st : Store Frames) (item : Item) (index : ℕ) (v : Val) → st.world ≡ world_of w
+    → item ≡ Items.Var (VarRefs.Whole (Roots.Global index)) → slice_get w.globals.items index ≡ Some v
+    → FindsValue (extent_of w.heap) (item_in (extent_of w.heap) item) (here flat (stack_in (extent_of w.heap) k) st) (Ok v)
+global_found w k st item index v same e there =
+    let all : Extent = extent_of w.heap in
+    ap (λ (x : Item). value_row (item_in all x) (here flat (stack_in all k) st)) e
+    ∙ ap (λ (v : Value). Gives (rows.Val v) (here flat (stack_in all k) st))
+    (ap (λ (x : StoreWorld). value_at x.globals index) same
+    ∙ ap (λ (o : Option Value). unwrap_or o values.Null) (slice_get-map (value_in all) w.globals.items index ∙ ap (option_map (value_in all)) there))
+
 -- the procedure that is called is found
 callee_found : (w : World) (k : FlatStack) (st : Store Frames) (item : Item) (number : ℕ) → st.world ≡ world_of w
     → NamesProcedure w.globals.items item number
     → FindsValue (extent_of w.heap) (item_in (extent_of w.heap) item) (here flat (stack_in (extent_of w.heap) k) st) (Ok (Vals.Proc number))
 callee_found w k st item number same (calls.as_value e) =
     ap (λ (x : Item). value_row (item_in (extent_of w.heap) x) (here flat (stack_in (extent_of w.heap) k) st)) e
-callee_found w k st item number same (calls.as_global index e there) =
-    let all : Extent = extent_of w.heap in
-    ap (λ (x : Item). value_row (item_in all x) (here flat (stack_in all k) st)) e
-    ∙ ap (λ (v : Value). Gives (rows.Val v) (here flat (stack_in all k) st))
-    (ap (λ (x : StoreWorld). value_at x.globals index) same
-    ∙ ap (λ (o : Option Value). unwrap_or o values.Null) (slice_get-map (value_in all) w.globals.items index ∙ ap (option_map (value_in all)) there))
+callee_found w k st item number same (calls.as_global index e there) = global_found w k st item index (Vals.Proc number) same e there
 
 -- Calls
 
@@ -195,17 +208,6 @@ called_live tables w count number nulls m n takes e deep l =
     subst (λ (x : FlatStack). IsLiveStack tables reach x) (sym e.is)
     (live_enter tables reach k number vs 0 as_many deep (live_with_nulls reach.extent nulls e.values live) back.rest)
 
-value_named : (names : Names) (all : Extent) (k : FlatStack) (item : Item) (v : Val) → named.NamedStack names (stack_in all k)
-    → ItemNamed names (item_in all item) → HoldsValue (held.locals k) item v → ValueNamed names (value_in all v)
-value_named names all k item v h i (as_value e) =
-    let one : ItemNamed names (item_in all (Items.Val v)) = subst (λ (x : Item). ItemNamed names (item_in all x)) e i in
-    one.named
-value_named names all k item v h i (as_local index e there) =
-    let locals : Each (ValueNamed names) (map (value_in all) (held.locals k))
-    = subst (λ (vs : List Value). Each (ValueNamed names) vs) (locals_read (reading_of all) k) (named.locals names (stack_in all k) h) in
-    each_get (ValueNamed names) (map (value_in all) (held.locals k)) index (value_in all v) locals
-    (slice_get-map (value_in all) (held.locals k) index ∙ ap (option_map (value_in all)) there)
-
 values_named : (names : Names) (all : Extent) (k : FlatStack) (items : List Item) (vs : List Val) → named.NamedStack names (stack_in all k)
     → Each (ItemNamed names) (map (item_in all) items) → HoldValues (held.locals k) items vs
     → Each (ValueNamed names) (map (value_in all) vs)
@@ -257,12 +259,6 @@ called_in_place tables w count number nulls limit m n slot tells told takes with
       live = λ l. called_live tables w count number nulls m n takes e high l;
       named = λ names h. called_named names w count number nulls m n e h;
     }
-
--- what was entered was called
-pub if_called : {E : Type 0} (result : Result Bool E) (P Q : Type 0) → (P → Q) → IfOk result (λ done. done ≡ true → P)
-    → IfOk result (λ done. done ≡ true → Q)
-if_called (Ok done) P Q f h = λ e. f (h e)
-if_called (Err e) P Q f h = tt
 
 -- On a machine
 

@@ -1,21 +1,30 @@
 -- Operands that slots tell: integers, and locals that hold them.
-use Rattle.std.proofs.Common.{◌≡◌, ℕ, ℤ, ◌<◌, List, [], ◌∷◌, length, slice_get, Option, Some, None, IfSome, IsSome, refl, sym, ap, ◌∙◌, subst}
+use Rattle.std.proofs.Common.{◌≡◌, ℕ, ℤ, ◌<◌, List, [], ◌∷◌, length, map, slice_get, Option, Some, None, IfSome, IsSome, refl, sym, ap, ◌∙◌, subst}
 use Rattle.std.proofs.lemmas.List.Elements.{All-head, All-tail}
-use Rattle.std.proofs.lemmas.Option.{same_Some, slice_get-get_or}
+use Rattle.std.proofs.lemmas.Option.{same_Some, slice_get-get_or, slice_get-map}
 use Rattle.std.specs.Prelude.{get_or}
-use Rattle.std.specs.Option.{option_and_then}
+use Rattle.std.specs.Option.{option_and_then, option_map}
 use Rattle.icn_text.specs.declared.op.Op.{Op}
 use Rattle.icn_value.specs.declared.item.Item.{Item}
 use Rattle.icn_value.specs.declared.item.Item.TheVariants as Items
 use Rattle.icn_value.specs.declared.val.Val.{Val}
 use Rattle.icn_value.specs.declared.val.Val.TheVariants as Vals
-use Rattle.icn_vars.specs.Worlds.{IsLiveItem, Reach}
+use Rattle.icn_value.specs.Store.{Names}
+use Rattle.icn_value.specs.Values.{Value}
+use Rattle.law_rows.proofs.EachOfList.{Each, each_get}
+use Rattle.icn_heap.specs.Extents.{Extent, value_in}
+use Rattle.law_names.specs.NamedSettings.{ItemNamed, ValueNamed}
+use Rattle.icn_vars.specs.Worlds.{IsLiveItem, Reach, item_in}
+use Rattle.icn_frames.specs.CalledWith.{HoldsValue, as_local as held_local, as_value as held_value}
 use Rattle.icn_frames.specs.Slots.{plain_local, plain_operand}
 use Rattle.icn_frames.specs.declared.slots.StackSlot.{StackSlot}
 use Rattle.icn_frames.specs.Stacks as held
 use Rattle.icn_frames.specs.Stacks.{FlatStack}
+use Rattle.law_frames.proofs.CallsRead.{locals_read}
 use Rattle.icn_code.specs.Codes.{Tables}
+use Rattle.law_steps.proofs.CallsNamed as named
 use Rattle.icn_control.specs.LiveStacks.{IsLiveStack, with_locals}
+use Rattle.icn_control.specs.StackViews.{reading_of, stack_in}
 use Rattle.icn_control.specs.TakenOperands.{take_operands, taken_onto}
 use Rattle.icn_control.proofs.LiveCalls.{own_locals}
 use Rattle.icn_control.proofs.StackSteps.{pushed_back}
@@ -112,6 +121,18 @@ local_told vs index count slot n within same told e =
     let there : slice_get vs index ≡ Some (get_or vs index Vals.Null)
     = slice_get-get_or vs index Vals.Null (subst (λ (c : ℕ). index < c) same within) in
     there ∙ ap (λ (v : Val). Some v) (told (get_or vs index Vals.Null) there (Vals.Integer n) e)
+
+-- the value of an operand names only what has a name
+pub value_named : (names : Names) (all : Extent) (k : FlatStack) (item : Item) (v : Val) → named.NamedStack names (stack_in all k)
+    → ItemNamed names (item_in all item) → HoldsValue (held.locals k) item v → ValueNamed names (value_in all v)
+value_named names all k item v h i (held_value e) =
+    let one : ItemNamed names (item_in all (Items.Val v)) = subst (λ (x : Item). ItemNamed names (item_in all x)) e i in
+    one.named
+value_named names all k item v h i (held_local index e there) =
+    let locals : Each (ValueNamed names) (map (value_in all) (held.locals k))
+    = subst (λ (vs : List Value). Each (ValueNamed names) vs) (locals_read (reading_of all) k) (named.locals names (stack_in all k) h) in
+    each_get (ValueNamed names) (map (value_in all) (held.locals k)) index (value_in all v) locals
+    (slice_get-map (value_in all) (held.locals k) index ∙ ap (option_map (value_in all)) there)
 
 -- Integers that slots tell
 

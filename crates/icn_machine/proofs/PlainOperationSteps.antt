@@ -1,5 +1,6 @@
 -- Operations on integers and locals, as steps.
 use Rattle.std.proofs.Common.{◌≡◌, ℕ, ℤ, zero, suc, ◌<◌, Bool, true, false, nat_lt, List, [], ◌∷◌, length, map, slice_get, slice_set, Option, Some, None, Result, Ok, Err, refl, sym, ap, ◌∙◌, subst}
+use Rattle.std.proofs.lemmas.List.Elements.{All-head, All-tail}
 use Rattle.std.proofs.lemmas.Option.{same_Some, slice_get-map}
 use Rattle.std.specs.Option.{option_map}
 use Rattle.std.specs.Ordering.{int_cmp, is_lt, is_le, is_eq, is_ge, is_gt, is_ne}
@@ -27,8 +28,8 @@ use Rattle.icn_defs.specs.Variables.{assign_row}
 use Rattle.law_rows.proofs.EachOfList.{Each, all_of, each_of, each_set}
 use Rattle.icn_heap.specs.Extents.{Extent, IsLive, value_in}
 use Rattle.law_names.specs.NamedSettings.{ItemNamed, ValueNamed}
-use Rattle.icn_vars.specs.Worlds.{Reach, item_in}
-use Rattle.icn_frames.specs.Slots.{plain_operand}
+use Rattle.icn_vars.specs.Worlds.{IsLiveItem, Reach, item_in}
+use Rattle.icn_frames.specs.CalledWith.{HoldsValue, as_local as held_local, as_value as held_value}
 use Rattle.icn_frames.specs.declared.slots.StackSlot.{StackSlot}
 use Rattle.icn_frames.specs.Stacks as held
 use Rattle.icn_frames.specs.Stacks.{FlatStack}
@@ -39,23 +40,25 @@ use Rattle.icn_run.specs.Stacks.{Frames, flat}
 use Rattle.icn_run.specs.Step.{Store, running, failing, here, operate, outcome, push_item, turn}
 use Rattle.law_steps.specs.StateNames.{StackNamed}
 use Rattle.law_steps.proofs.CallsNamed as named
-use Rattle.icn_control.specs.LiveStacks.{IsLiveStack, StaysLive}
+use Rattle.icn_control.specs.LiveStacks.{IsLiveStack, StaysLive, with_locals}
 use Rattle.icn_control.specs.StackViews.{instruction_state, reading_of, stack_in}
 use Rattle.icn_control.specs.TakenOperands.{take_operands}
 use Rattle.icn_control.specs.declared.machine.RunState.TheVariants as RunStates
-use Rattle.icn_control.proofs.LiveCalls.{live_push}
+use Rattle.icn_control.proofs.LiveCalls.{live_push, own_locals}
 use Rattle.icn_control.proofs.OperandValues.{live_locals}
+use Rattle.icn_control.proofs.PlainValueSteps.{value_live}
 use Rattle.icn_control.proofs.TakenOperandSteps.{live_taken, taken_runs}
-use Rattle.icn_machine.specs.PlainOperations.{Compares, Computes, HoldsInteger, OperatesAlone, OperatesInPlace, TakesSlots, as_local, as_value, integer_result, is_met, local_item}
+use Rattle.icn_machine.specs.PlainOperations.{Assigns, Compares, Computes, HoldsInteger, OperatesAlone, OperatesInPlace, TakesSlots, as_local, as_value, integer_result, is_met, local_item}
 use Rattle.icn_machine.proofs.OperateSteps.{in_turn, named_taken, operated_is}
 use Rattle.icn_machine.proofs.PerformSteps.{live_from}
+use Rattle.icn_machine.proofs.PlainOperands.{value_named}
 
 -- The integers of operands
 
 -- a local, as the definitions see it
-local_is : (all : Extent) (k : FlatStack) (index : ℕ) (n : ℤ) → slice_get (held.locals k) index ≡ Some (Vals.Integer n)
-    → value_at (flat.locals (stack_in all k)) index ≡ values.Integer n
-local_is all k index n there =
+local_is : (all : Extent) (k : FlatStack) (index : ℕ) (v : Val) → slice_get (held.locals k) index ≡ Some v
+    → value_at (flat.locals (stack_in all k)) index ≡ value_in all v
+local_is all k index v there =
     ap (λ (vs : List Value). value_at vs index) (locals_read (reading_of all) k)
     ∙ ap (λ (o : Option Value). unwrap_or o values.Null) (slice_get-map (value_in all) (held.locals k) index ∙ ap (option_map (value_in all)) there)
 
@@ -65,7 +68,15 @@ found : (all : Extent) (k : FlatStack) (st : Store Frames) (item : Item) (n : �
 found all k st item n next (as_value e) = ap (λ (x : Item). the_value (item_in all x) next (here flat (stack_in all k) st)) e
 found all k st item n next (as_local index e there) =
     ap (λ (x : Item). the_value (item_in all x) next (here flat (stack_in all k) st)) e
-    ∙ ap (λ (v : Value). next v (here flat (stack_in all k) st)) (local_is all k index n there)
+    ∙ ap (λ (v : Value). next v (here flat (stack_in all k) st)) (local_is all k index (Vals.Integer n) there)
+
+-- the same of one that is or holds any value
+pub held_found : (all : Extent) (k : FlatStack) (st : Store Frames) (item : Item) (v : Val) (next : Value → Row) → HoldsValue (held.locals k) item v
+    → the_value (item_in all item) next (here flat (stack_in all k) st) ≡ next (value_in all v) (here flat (stack_in all k) st)
+held_found all k st item v next (held_value e) = ap (λ (x : Item). the_value (item_in all x) next (here flat (stack_in all k) st)) e
+held_found all k st item v next (held_local index e there) =
+    ap (λ (x : Item). the_value (item_in all x) next (here flat (stack_in all k) st)) e
+    ∙ ap (λ (x : Value). next x (here flat (stack_in all k) st)) (local_is all k index v there)
 
 -- Rows
 
@@ -145,19 +156,24 @@ compares_two op order met e = cc
 -- Steps
 
 -- the store in the turn of an operation
-abbrev after_turn : Store Frames → Store Frames
+abbrev pub after_turn : Store Frames → Store Frames
 after_turn st = record st { turns = suc st.turns }
+
+pub row_performed : (all : Extent) (tables : Tables) (op : Op) (m k : FlatStack) (items : List Item) (st : Store Frames) → (op ≡ Ops.Refresh → ⊥)
+    → take_operands (arity op) m ≡ Some (items, k) → nat_lt st.turns st.world.heap.bounds.turns ≡ true
+    → instruction_state all tables (Instrs.Op op) m st
+    ≡ outcome flat (operation_row op (map (item_in all) items) (here flat (stack_in all k) (after_turn st))) (stack_in all k) (after_turn st)
+row_performed all tables op m k items st row there b =
+    taken_runs all (arity op) m k items (λ xs a. turn tables st (operate flat op xs a)) there
+    ∙ in_turn tables st (operate flat op (map (item_in all) items) (stack_in all k)) b
+    ∙ operated_is op (map (item_in all) items) (stack_in all k) (after_turn st) row
 
 performed : (all : Extent) (tables : Tables) (op : Op) (m k : FlatStack) (items : List Item) (st : Store Frames) → IsBinaryRow op
     → take_operands 2 m ≡ Some (items, k) → nat_lt st.turns st.world.heap.bounds.turns ≡ true
     → instruction_state all tables (Instrs.Op op) m st
     ≡ outcome flat (operation_row op (map (item_in all) items) (here flat (stack_in all k) (after_turn st))) (stack_in all k) (after_turn st)
 performed all tables op m k items st is p b =
-    let there : take_operands (arity op) m ≡ Some (items, k)
-    = subst (λ (c : ℕ). take_operands c m ≡ Some (items, k)) (sym is.two) p in
-    taken_runs all (arity op) m k items (λ xs a. turn tables st (operate flat op xs a)) there
-    ∙ in_turn tables st (operate flat op (map (item_in all) items) (stack_in all k)) b
-    ∙ operated_is op (map (item_in all) items) (stack_in all k) (after_turn st) is.row
+    row_performed all tables op m k items st is.row (subst (λ (c : ℕ). take_operands c m ≡ Some (items, k)) (sym is.two) p) b
 
 pub locals_back : (all : Extent) (k : FlatStack) → held.set_locals (held.locals k) k ≡ k
     → flat.set_locals (flat.locals (stack_in all k)) (stack_in all k) ≡ stack_in all k
@@ -276,70 +292,76 @@ map_set {A} {B} f (x ∷ xs) (suc i) v = ap (λ (s : List B). f x ∷ s) (map_se
 all_set : (P : Val → Type 0) (vs : List Val) (i : ℕ) (v : Val) → Each P vs → P v → Each P (slice_set vs i v)
 all_set P vs i v a p = each_set P vs i v a p
 
-assigned_row : (all : Extent) (k : FlatStack) (st : Store Frames) (x y : Item) (index : ℕ) (n : ℤ) → x ≡ local_item index
-    → HoldsInteger (held.locals k) y n
+assigned_row : (all : Extent) (k : FlatStack) (st : Store Frames) (x y : Item) (index : ℕ) (v : Val) → x ≡ local_item index
+    → HoldsValue (held.locals k) y v
     → assign_row (item_in all x) (item_in all y) (here flat (stack_in all k) st)
     ≡ Gives (item_in all (local_item index))
-    (let at : Setting = here flat (stack_in all k) st in record at { locals = slice_set at.locals index (values.Integer n) })
-assigned_row all k st x y index n e h =
+    (let at : Setting = here flat (stack_in all k) st in record at { locals = slice_set at.locals index (value_in all v) })
+assigned_row all k st x y index v e h =
     let at : Setting = here flat (stack_in all k) st in
-    found all k st y n (λ v. the_variable (item_in all x) (λ target. assigns target v (λ now. gives (values.Var now)))) h
-    ∙ ap (λ (z : Item). the_variable (item_in all z) (λ target. assigns target (values.Integer n) (λ now. gives (values.Var now))) at) e
+    held_found all k st y v (λ w. the_variable (item_in all x) (λ target. assigns target w (λ now. gives (values.Var now)))) h
+    ∙ ap (λ (z : Item). the_variable (item_in all z) (λ target. assigns target (value_in all v) (λ now. gives (values.Var now))) at) e
 
 -- the locals of the stack that was read are set as those of the stack
-locals_set : (all : Extent) (k l : FlatStack) (index : ℕ) (n : ℤ) → l ≡ held.set_locals (slice_set (held.locals k) index (Vals.Integer n)) k
-    → flat.set_locals (slice_set (flat.locals (stack_in all k)) index (values.Integer n)) (stack_in all k) ≡ stack_in all l
-locals_set all k l index n e =
-    ap (λ (vs : List Value). flat.set_locals (slice_set vs index (values.Integer n)) (stack_in all k)) (locals_read (reading_of all) k)
-    ∙ ap (λ (vs : List Value). flat.set_locals vs (stack_in all k)) (sym (map_set (value_in all) (held.locals k) index (Vals.Integer n)))
-    ∙ set_locals_read (reading_of all) (slice_set (held.locals k) index (Vals.Integer n)) k
+locals_set : (all : Extent) (k l : FlatStack) (index : ℕ) (v : Val) → l ≡ held.set_locals (slice_set (held.locals k) index v) k
+    → flat.set_locals (slice_set (flat.locals (stack_in all k)) index (value_in all v)) (stack_in all k) ≡ stack_in all l
+locals_set all k l index v e =
+    ap (λ (vs : List Value). flat.set_locals (slice_set vs index (value_in all v)) (stack_in all k)) (locals_read (reading_of all) k)
+    ∙ ap (λ (vs : List Value). flat.set_locals vs (stack_in all k)) (sym (map_set (value_in all) (held.locals k) index v))
+    ∙ set_locals_read (reading_of all) (slice_set (held.locals k) index v) k
     ∙ ap (stack_in all) (sym e)
 
-set_live : (t : Tables) (reach : Reach) (k l : FlatStack) (index : ℕ) (n : ℤ)
-    → l ≡ held.set_locals (slice_set (held.locals k) index (Vals.Integer n)) k → IsLiveStack t reach k → IsLiveStack t reach l
-set_live t reach k l index n e s =
-    let vs : List Val = slice_set (held.locals k) index (Vals.Integer n) in
+set_live : (t : Tables) (reach : Reach) (k l : FlatStack) (index : ℕ) (v : Val) → IsLive reach.extent v
+    → l ≡ held.set_locals (slice_set (held.locals k) index v) k → IsLiveStack t reach k → IsLiveStack t reach l
+set_live t reach k l index v live e s =
+    let vs : List Val = slice_set (held.locals k) index v in
     let each : Each (IsLive reach.extent) (held.locals k) = each_of (IsLive reach.extent) (held.locals k) (live_locals t reach k s) in
-    let set : Each (IsLive reach.extent) vs = all_set (IsLive reach.extent) (held.locals k) index (Vals.Integer n) each (record { live = tt }) in
+    let set : Each (IsLive reach.extent) vs = all_set (IsLive reach.extent) (held.locals k) index v each live in
     subst (λ (x : FlatStack). IsLiveStack t reach x) (sym e) (live_from t reach vs k.registers.base k (all_of (IsLive reach.extent) vs set) s)
 
-set_named : (names : Names) (all : Extent) (k l : FlatStack) (index : ℕ) (n : ℤ)
-    → l ≡ held.set_locals (slice_set (held.locals k) index (Vals.Integer n)) k → named.NamedStack names (stack_in all k)
+set_named : (names : Names) (all : Extent) (k l : FlatStack) (index : ℕ) (v : Val) → ValueNamed names (value_in all v)
+    → l ≡ held.set_locals (slice_set (held.locals k) index v) k → named.NamedStack names (stack_in all k)
     → named.NamedStack names (stack_in all l)
-set_named names all k l index n e h =
-    let vs : List Value = slice_set (flat.locals (stack_in all k)) index (values.Integer n) in
+set_named names all k l index v one e h =
+    let vs : List Value = slice_set (flat.locals (stack_in all k)) index (value_in all v) in
     let set : Each (ValueNamed names) vs
-    = each_set (ValueNamed names) (flat.locals (stack_in all k)) index (values.Integer n) (named.locals names (stack_in all k) h) tt in
-    subst (λ (x : Frames). named.NamedStack names x) (locals_set all k l index n e) (named.set_locals names vs (stack_in all k) set h)
+    = each_set (ValueNamed names) (flat.locals (stack_in all k)) index (value_in all v) (named.locals names (stack_in all k) h) one in
+    subst (λ (x : Frames). named.NamedStack names x) (locals_set all k l index v e) (named.set_locals names vs (stack_in all k) set h)
 
--- a local was assigned an integer
-pub assigns_local : (m k l n : FlatStack) (slots : StackSlot × StackSlot) (index : ℕ) (r : ℤ) → TakesSlots m k slots
-    → plain_operand slots.0 ≡ Some (local_item index) → index < held.local_count k
-    → ((x : Item) → plain_operand slots.1 ≡ Some x → HoldsInteger (held.locals k) x r)
-    → l ≡ held.set_locals (slice_set (held.locals k) index (Vals.Integer r)) k → held.local_count l ≡ held.local_count k
-    → n ≡ held.push (local_item index) l → OperatesInPlace Ops.Assign m n (Some RunStates.Running)
-assigns_local m k l n slots index r takes is within tells e count pushed =
+-- a local was assigned a value
+pub assigns_local : (m k l n : FlatStack) (slots : StackSlot × StackSlot) (two : ℕ × StackSlot) → TakesSlots m k slots → (a : Assigns k slots two)
+    → l ≡ held.set_locals (slice_set (held.locals k) two.0 a.tells.is) k → held.local_count l ≡ held.local_count k
+    → n ≡ held.push (local_item two.0) l → OperatesInPlace Ops.Assign m n (Some RunStates.Running)
+assigns_local m k l n slots two takes a e count pushed =
+    let index : ℕ = two.0 in
+    let v : Val = a.tells.is in
     let items : List Item = takes.first ∷ takes.second ∷ [] in
-    let target : takes.first ≡ local_item index = same_Some takes.first (local_item index) (sym takes.lower ∙ is) in
+    let target : takes.first ≡ local_item index = same_Some takes.first (local_item index) (sym takes.lower ∙ a.is) in
+    let upper : a.tells.item ≡ takes.second = same_Some a.tells.item takes.second (sym a.tells.tells ∙ takes.upper) in
+    let holds : HoldsValue (held.locals k) takes.second v = subst (λ (x : Item). HoldsValue (held.locals k) x v) upper a.tells.holds in
     let binary : IsBinaryRow Ops.Assign = record { two = refl; row = λ q. cc } in
     record {
       done = λ all tables st b.
           performed all tables Ops.Assign m k items st binary takes.taken b
           ∙ ap (λ (o : Outcome). outcome flat o (stack_in all k) (after_turn st))
-          (assigned_row all k (after_turn st) takes.first takes.second index r target (tells takes.second takes.upper))
-          ∙ ap (λ (a : Frames). push_item flat (item_in all (local_item index)) a (after_turn st)) (locals_set all k l index r e)
+          (assigned_row all k (after_turn st) takes.first takes.second index v target holds)
+          ∙ ap (λ (a : Frames). push_item flat (item_in all (local_item index)) a (after_turn st)) (locals_set all k l index v e)
           ∙ ap (λ (a : FlatStack). running (stack_in all a) (after_turn st)) (sym pushed);
       not_done = λ q. cc;
       live = λ t reach s.
-          let rest : IsLiveStack t reach k = (live_taken t reach 2 m k items takes.taken s).rest in
-          let own : index < held.local_count l = subst (λ (c : ℕ). index < c) (sym count) within in
+          let P : Item → Type 0 = IsLiveItem (with_locals (own_locals k) reach) in
+          let back = live_taken t reach 2 m k items takes.taken s in
+          let second : P takes.second = All-head P takes.second [] (All-tail P takes.first (takes.second ∷ []) back.items_live) in
+          let value : IsLive reach.extent v = value_live t reach k takes.second v back.rest second holds in
+          let own : index < held.local_count l = subst (λ (c : ℕ). index < c) (sym count) a.within in
           subst (λ (x : FlatStack). IsLiveStack t reach x) (sym pushed)
-          (live_push t reach l (local_item index) (set_live t reach k l index r e rest) (record { live = record { live = record { live = own } } }));
+          (live_push t reach l (local_item index) (set_live t reach k l index v value e back.rest) (record { live = record { live = record { live = own } } }));
       named = λ names all h.
-          let rest : named.NamedStack names (stack_in all k) = (named_taken names all 2 m k items takes.taken h).rest in
+          let back = named_taken names all 2 m k items takes.taken h in
+          let value : ValueNamed names (value_in all v) = value_named names all k takes.second v back.rest back.items_named.1.0 holds in
           let one : ItemNamed names (item_in all (local_item index)) = record { named = tt } in
           subst (λ (x : FlatStack). StackNamed names (stack_in all x)) (sym pushed)
-          (named.stack_out names (stack_in all (held.push (local_item index) l)) (one, set_named names all k l index r e rest));
+          (named.stack_out names (stack_in all (held.push (local_item index) l)) (one, set_named names all k l index v value e back.rest));
     }
 
 -- whether the comparison was met, as it was asked

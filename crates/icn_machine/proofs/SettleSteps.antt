@@ -24,10 +24,9 @@ use Rattle.icn_control.specs.declared.machine.RunState.{RunState}
 use Rattle.icn_control.specs.declared.machine.RunState.TheVariants as RunStates
 use Rattle.icn_streams.specs.Answers.{streams_telling}
 use Rattle.icn_machine.specs.InstructionAnswers.{AnswersStep, IsCause, Tells}
-use Rattle.icn_machine.specs.Performing.{LeavesNamed, PerformsOn}
+use Rattle.icn_machine.specs.Performing.{LeavesNamed, PerformsOn, SettlesOn}
 use Rattle.icn_machine.specs.Settling.{IsKnown, SettlesTo}
 use Rattle.icn_machine.specs.Stepping.{EndsWhole, IsReady, IsReadyToFail}
-use Rattle.icn_machine.proofs.AdvanceSteps.{SettlesOn}
 
 -- what holds of the state that an error leads to, where it becomes failure
 

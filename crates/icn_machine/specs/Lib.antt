@@ -10,3 +10,5 @@ pub mod Starting
 pub mod PlainOperations
 pub mod Counts
 pub mod PlainCalls
+pub mod PlainFunctions
+pub mod DoneInPlace

@@ -16,7 +16,7 @@ use Rattle.icn_run.specs.Rows.{Exit}
 use Rattle.icn_run.specs.Stacks.{Frames, flat}
 use Rattle.icn_run.specs.Step.{State, Store, errs, here, outcome, over_with, with_world}
 use Rattle.icn_streams.specs.Handed.{CallStreams}
-use Rattle.icn_control.specs.Machines.{ComesTo}
+use Rattle.icn_control.specs.Machines.{ComesTo, SettlesAt}
 use Rattle.icn_control.specs.StackAndWorld.{StandsWith}
 use Rattle.icn_control.specs.StackViews.{stack_in}
 use Rattle.icn_control.specs.declared.machine.Machine.{Machine}
@@ -60,6 +60,12 @@ abbrev pub PerformsOn : {K : Type 0} → Tables → (Outside → State Frames Fr
     → CallStreams → Result RunState Halt → Type 0
 PerformsOn tables leads m before after result =
     Performs leads (λ was now answer. ComesTo tables now (leads was) m answer) before after result
+
+-- The same, where an error that becomes failure has.
+abbrev pub SettlesOn : {K : Type 0} → Tables → (Outside → State Frames Frames) → Machine K → CallStreams
+    → CallStreams → Result RunState Halt → Type 0
+SettlesOn tables leads m before after result =
+    Performs leads (λ was now answer. SettlesAt tables now (leads was) m answer) before after result
 
 -- it holds of what a call leaves, unless the run is over
 abbrev pub UnlessOver : {A : Type 0} → World → Result A Halt → Type 0 → Type 0

@@ -14,6 +14,10 @@ use Rattle.icn_value.specs.declared.item.VarRef.TheVariants as VarRefs
 use Rattle.icn_value.specs.declared.item.Root.TheVariants as Roots
 use Rattle.icn_value.specs.Store.{Names}
 use Rattle.icn_heap.specs.Extents.{Extent}
+use Rattle.icn_heap.specs.Heaps.{extent_of}
+use Rattle.icn_vars.specs.declared.world.World.{World}
+use Rattle.icn_vars.specs.Worlds.{reach_of, world_of}
+use Rattle.law_names.specs.NamedSettings.{WorldNamed}
 use Rattle.icn_frames.specs.declared.slots.StackSlot.{StackSlot}
 use Rattle.icn_frames.specs.Slots.{plain_operand}
 use Rattle.icn_frames.specs.Stacks.{FlatStack, local_count, locals}
@@ -22,7 +26,8 @@ use Rattle.icn_code.specs.Codes.{Tables}
 use Rattle.icn_run.specs.Stacks.{Frames}
 use Rattle.icn_run.specs.Step.{Store}
 use Rattle.law_steps.specs.StateNames.{StackNamed}
-use Rattle.icn_control.specs.LiveStacks.{StaysLive}
+use Rattle.icn_control.specs.LiveStacks.{IsLiveStack, StaysLive}
+use Rattle.icn_control.specs.PlainValues.{TellsValue}
 use Rattle.icn_control.specs.StackViews.{instruction_state, stack_in}
 use Rattle.icn_control.specs.TakenOperands.{take_operands}
 use Rattle.icn_control.specs.declared.machine.RunState.{RunState}
@@ -91,11 +96,11 @@ pub record Compares (op : Op) (held : List Val) (slots : StackSlot × StackSlot)
   pub of : TellIntegers held slots (left, met.1)
   pub is : is_met op (int_cmp left met.1) ≡ Some met.0
 
--- the lower operand is this local, and the upper one this integer, or it holds it
-pub record Assigns (m : FlatStack) (slots : StackSlot × StackSlot) (two : ℕ × ℤ) : Type 0 where
+-- the lower operand is this local, and a slot tells the value that the upper one is or holds
+pub record Assigns (m : FlatStack) (slots : StackSlot × StackSlot) (two : ℕ × StackSlot) : Type 0 where
   pub is : plain_operand slots.0 ≡ Some (local_item two.0)
   pub within : two.0 < local_count m
-  pub tells : TellsInteger (locals m) slots.1 two.1
+  pub tells : TellsValue (locals m) slots.1 two.1
 
 -- The operation is performed as a turn, on the stack alone, whatever the world is.
 abbrev pub OperatesAlone : Op → FlatStack → FlatStack → RunState → Type 0
@@ -104,6 +109,13 @@ OperatesAlone op m n stage = (all : Extent) (tables : Tables) (st : Store Frames
     → StandsAs (instruction_state all tables (Instrs.Op op) m st) (stack_in all n)
     (record st { turns = suc st.turns }) stage
 
+-- The same in this world.
+abbrev pub OperatesOver : World → Op → FlatStack → FlatStack → RunState → Type 0
+OperatesOver w op m n stage = (tables : Tables) (st : Store Frames) → st.world ≡ world_of w
+    → nat_lt st.turns st.world.heap.bounds.turns ≡ true
+    → StandsAs (instruction_state (extent_of w.heap) tables (Instrs.Op op) m st)
+    (stack_in (extent_of w.heap) n) (record st { turns = suc st.turns }) stage
+
 -- It was performed so, or the stack is as it was. What stands there is of the world and names only what has a name, where it was so.
 pub record OperatesInPlace (op : Op) (m n : FlatStack) (result : Option RunState) : Type 0 where
   pub done : IfSome result (OperatesAlone op m n)
@@ -111,3 +123,12 @@ pub record OperatesInPlace (op : Op) (m n : FlatStack) (result : Option RunState
   pub live : StaysLive m n
   pub named : (names : Names) (all : Extent) → StackNamed names (stack_in all m)
       → StackNamed names (stack_in all n)
+
+-- It was performed so in this world, or the stack is as it was. What stands there is of the world and names only what has a name,
+-- where it was so and the world does.
+pub record OperatesInWorld (w : World) (op : Op) (m n : FlatStack) (result : Option RunState) : Type 0 where
+  pub done : IfSome result (OperatesOver w op m n)
+  pub not_done : result ≡ None → n ≡ m
+  pub live : (tables : Tables) → IsLiveStack tables (reach_of w []) m → IsLiveStack tables (reach_of w []) n
+  pub named : (names : Names) → WorldNamed names (world_of w) → StackNamed names (stack_in (extent_of w.heap) m)
+      → StackNamed names (stack_in (extent_of w.heap) n)

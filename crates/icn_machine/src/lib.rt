@@ -12,6 +12,7 @@ mod operations;
 mod own_locals;
 mod performing;
 mod plain_calls;
+mod plain_functions;
 mod plain_operations;
 mod starting;
 mod stepping;

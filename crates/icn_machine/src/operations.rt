@@ -14,11 +14,12 @@ ghost use Rattle.icn_control.specs.LiveStacks.{with_locals};
 ghost use Rattle.icn_control.specs.Machines.{does, extent, stack_of, stack_seen, store_seen, world_reach};
 ghost use Rattle.icn_control.specs.Soundness.{IsRunnable, StaysSound};
 ghost use Rattle.icn_control.specs.TakenOperands.{take_operands};
+ghost use Rattle.icn_machine.specs.DoneInPlace.{DoneInPlace};
 ghost use Rattle.icn_machine.specs.Performing.{LeavesNamed, PerformsOn};
 ghost use Rattle.icn_machine.specs.NamedWorlds.{MachineNamed};
 
 use crate::performing::{perform, perform_again};
-use crate::plain_operations::operate_in_place;
+use crate::plain_operations::operate_in_world;
 use icn_apply::Applied;
 use icn_control::{Machine, RunState, take_operands};
 use icn_convert::Names;
@@ -30,8 +31,7 @@ use icn_value::{Item, Residual};
 use icn_vars::Halt;
 
 /// Performs an operation on its operands, which must be there, as a turn; the refreshing of a co-expression has a call of its own.
-/// One on integers and locals is done in place. The room for operands is used again, whatever it holds. The errors are those of
-/// `perform`.
+/// The room for operands is used again, whatever it holds. The errors are those of `perform`.
 pub fn operate<K: Stack<Cell> + Drop, N: Names, S: Streams>(
     m: &mut Machine<K>,
     op: Op,
@@ -53,12 +53,25 @@ pub fn operate<K: Stack<Cell> + Drop, N: Names, S: Streams>(
     if m.turns >= m.limits.turns {
         return Ok(RunState::AtBound);
     }
-    match operate_in_place(m.stacks.frames(), op) {
+    operate_by_row(m, op, items, names, streams)
+}
+
+/// Performs an operation on the stack alone, as a turn, where its operands are told as they stand and a turn is left. Elsewhere nothing
+/// changes. Its operands must be there. It takes no memory.
+pub fn operate_at_once<K: Stack<Cell> + Drop>(m: &mut Machine<K>, op: Op) -> Option<RunState>
+    requires stands { IsRunnable m.old }
+    requires operands { IsSome (take_operands (arity op) (stack_of m.old)) }
+    ensures { (tables : Tables) → DoneInPlace tables (Instrs.Op op) m.old m.new result }
+{
+    if m.turns >= m.limits.turns {
+        return None;
+    }
+    match operate_in_world(m.stacks.frames(), &m.world, op) {
         Some(stage) => {
             m.turns += 1;
-            Ok(stage)
+            Some(stage)
         }
-        None => operate_by_row(m, op, items, names, streams),
+        None => None,
     }
 }
 

@@ -1,7 +1,8 @@
 // Rows that are performed on a stack in a world.
 ghost use Rattle.std.specs.Prelude.{◌≡◌, [], IfErr, IfOk, OnOk, map};
+ghost use Rattle.std.specs.List.{All};
 ghost use Rattle.icn_defs.specs.Applying as rows;
-ghost use Rattle.icn_heap.specs.Extents.{Extent};
+ghost use Rattle.icn_heap.specs.Extents.{Extent, IsLive, value_in};
 ghost use Rattle.icn_value.specs.Store.{Names as StoreNames};
 ghost use Rattle.icn_vars.specs.declared.outcome.Halt.TheVariants.{NoMemory};
 ghost use Rattle.icn_control.specs.StackViews.{stack_in};
@@ -9,14 +10,15 @@ ghost use Rattle.law_steps.specs.StateNames.{StackNamed};
 ghost use Rattle.icn_machine.specs.Counts.{CountsOn};
 ghost use Rattle.icn_defs.specs.StepRows as step_rows;
 ghost use Rattle.icn_heap.specs.Heaps.{extent_of};
-ghost use Rattle.law_names.specs.NamedSettings.{ResidualNamed};
-ghost use Rattle.icn_vars.specs.Outcomes.{IsLiveResidual, residual_in};
+ghost use Rattle.law_names.specs.NamedSettings.{ResidualNamed, ValueNamed};
+ghost use Rattle.icn_vars.specs.Outcomes.{IsLiveResidual, answer_of, residual_in};
 ghost use Rattle.icn_vars.specs.Worlds.{item_in, reach_of};
 ghost use Rattle.icn_frames.specs.Stacks as flat;
 ghost use Rattle.icn_code.specs.Codes.{Tables};
 ghost use Rattle.icn_streams.specs.Answers.{call_state};
 ghost use Rattle.icn_streams.specs.Applies.{Applies};
 ghost use Rattle.icn_apply.specs.AppliedRows.{applied_of};
+ghost use Rattle.icn_apply.specs.ResumedFunctions.{GivesOneAtMost};
 ghost use Rattle.icn_apply.specs.NamesAfter.{AnswerNamed};
 ghost use Rattle.icn_apply.specs.SizesAfter.{AnswerKeepsSizes, WorldsKeepSizes};
 ghost use Rattle.icn_control.specs.LiveStacks.{IsLiveStack, StaysLive, with_locals};
@@ -25,15 +27,16 @@ ghost use Rattle.icn_control.specs.Soundness.{LeavesWorld, UnlessEnded};
 ghost use Rattle.icn_machine.specs.NamedWorlds.{AreNamed, HoldsNamed};
 
 use crate::counts::count_on;
-use crate::giving::give_outcome;
+use crate::giving::{give_outcome, give_value};
 use crate::own_locals::{Earlier, OwnLocals};
-use icn_apply::{Applied, again, apply};
-use icn_control::RunState;
+use icn_apply::{Applied, again, apply, function_answer};
+use icn_control::{Activation, RunState};
 use icn_convert::Names;
 use icn_frames::{Cell, Count, Frames, Stack};
 use icn_streams::Streams;
-use icn_value::{Item, Residual};
-use icn_vars::{Halt, Outcome, World};
+use icn_text::Func;
+use icn_value::{Item, Residual, Val};
+use icn_vars::{Halt, Outcome, ValueOutcome, World};
 use std::marker::{Brand, PhantomData};
 
 /// Performs an operation or a function on items of the activation that runs: pushes what it gives, or fails. The refreshing of a
@@ -128,6 +131,67 @@ fn perform_lent<'a, K: Stack<Cell> + Drop, B: Earlier, N: Names, S: Streams>(
     };
     let answer = apply(what, items, world, &mut own, names, streams);
     (answer, own.frames)
+}
+
+/// Performs a function that gives a value at most, on values: pushes what it gives, or fails. The errors are those of `perform`.
+pub fn perform_function<K: Stack<Cell> + Drop, N: Names, S: Streams>(
+    frames: &mut Frames<K>,
+    world: &mut World,
+    func: Func,
+    vals: &[Val],
+    names: &N,
+    streams: &mut S,
+) -> Result<RunState, Halt>
+    requires here { HoldsNamed (N.known names.now) world.old frames.old.flat }
+    requires live { All (IsLive (extent_of world.old.heap)) vals.now }
+    requires named { All (ValueNamed (N.known names.now)) (map (value_in (extent_of world.old.heap)) vals.now) }
+    requires once { GivesOneAtMost func }
+    ensures row { PerformsRow (rows.function_of (N.known names.now) func
+        (map (value_in (extent_of world.old.heap)) vals.now)) world.old frames.old.flat
+        (S.state streams.old)
+        world.new frames.new.flat
+        (S.state streams.new) result }
+    ensures live { (tables : Tables) → IsLiveStack tables (reach_of world.old []) frames.old.flat
+        → UnlessEnded result (IsLiveStack tables (reach_of world.new []) frames.new.flat) }
+    ensures leaves { LeavesWorld world.old world.new result }
+    ensures sized { UnlessEnded result (WorldsKeepSizes world.old world.new) }
+    ensures named { LeavesNamed (N.known names.now) world.new frames.new.flat result }
+{
+    let outcome = answer_in(frames, world, func, vals, names, streams)?;
+    frames.local_count();
+    match give_value(frames, outcome) {
+        Ok(stage) => Ok(stage),
+        Err(_) => Err(Halt::NoMemory),
+    }
+}
+
+// Applies it to values.
+#[inline(always)]
+fn answer_in<K: Stack<Cell> + Drop, N: Names, S: Streams>(
+    frames: &mut Frames<K>,
+    world: &mut World,
+    func: Func,
+    vals: &[Val],
+    names: &N,
+    streams: &mut S,
+) -> Result<ValueOutcome, Halt>
+    requires here { HoldsNamed (N.known names.now) world.old frames.old.flat }
+    requires live { All (IsLive (extent_of world.old.heap)) vals.now }
+    requires named { All (ValueNamed (N.known names.now)) (map (value_in (extent_of world.old.heap)) vals.now) }
+    requires once { GivesOneAtMost func }
+    ensures applies { Applies (rows.function_of (N.known names.now) func
+        (map (value_in (extent_of world.old.heap)) vals.now))
+        (call_state world.old (flat.locals frames.old.flat)
+        (S.state streams.old))
+        (call_state world.new (flat.locals frames.new.flat)
+        (S.state streams.new)) (answer_of result) }
+    ensures named { AnswerNamed (N.known names.now) world.new (flat.locals frames.new.flat) (answer_of result) }
+    ensures sized { AnswerKeepsSizes world.old world.new (answer_of result) }
+    ensures stack { flat.set_locals (flat.locals frames.new.flat) frames.old.flat ≡ frames.new.flat }
+{
+    frames.local_count();
+    let activation = Activation { frames };
+    function_answer(func, vals, world, &activation, names, streams)
 }
 
 /// Resumes what an operation or a function left on a stack: pushes what it gives next, or fails. The errors are those of `perform`.

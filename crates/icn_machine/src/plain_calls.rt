@@ -1,5 +1,5 @@
 // Calls of procedures, done on the stack alone: no operand is taken into a room. What is not plain stays as it is.
-ghost use Rattle.std.specs.Prelude.{◌≡◌, [], suc, true, false, slice_get, IfOk, IfSome, IsSome, OnErr};
+ghost use Rattle.std.specs.Prelude.{◌≡◌, [], suc, true, false, slice_get, IfSome, IsSome};
 ghost use Rattle.icn_value.specs.Limited.{limits_of};
 ghost use Rattle.icn_heap.specs.Heaps.{heap_of};
 ghost use Rattle.icn_vars.specs.Worlds.{reach_of};
@@ -15,11 +15,10 @@ use icn_code::Code;
 use icn_frames::{Cell, Frames, Stack};
 use icn_value::{Limits, Val};
 use icn_vars::World;
-use std::alloc::AllocError;
 
-// The value of a global, if it is there.
+/// The value of a global, if it is there.
 #[inline(always)]
-fn global_value(world: &World, index: u32) -> Option<Val>
+pub fn global_value(world: &World, index: u32) -> Option<Val>
     ensures { result ≡ slice_get world.now.globals.items index }
 {
     match world.globals.get(index as usize) {
@@ -77,33 +76,35 @@ const MOST_ARGUMENTS: u32 = 255;
 
 /// Calls the procedure below so many operands with them, which must be there, where slots tell all: the procedure itself or a
 /// global that holds it, as many values or locals as it has parameters, none of which collects, and a level within the limit.
-/// Elsewhere, and where there are more than 255 of them, nothing changes. The error is want of memory.
+/// Elsewhere, where there are more than 255 of them, and for want of memory, nothing changes. Whether it is called.
 pub fn call_in_place<K: Stack<Cell> + Drop>(
     frames: &mut Frames<K>,
     world: &World,
     code: &Code,
     limits: &Limits,
     count: u32,
-) -> Result<bool, AllocError>
+) -> bool
     requires operands { IsSome (take_operands (suc count) frames.old.flat) }
     requires bounds { (heap_of world.now.heap).bounds ≡ limits_of limits.now }
     requires stack { (tables : Tables) × IsLiveStack tables (reach_of world.now []) frames.old.flat }
-    ensures calls { IfOk result (λ done. done ≡ true
-        → CallsInPlace (tables_of code.now) world.now count frames.old.flat frames.new.flat) }
-    ensures not { IfOk result (λ done. done ≡ false → frames.new.flat ≡ frames.old.flat) }
-    ensures err { OnErr result (frames.new.flat ≡ frames.old.flat) }
+    ensures calls { result ≡ true
+        → CallsInPlace (tables_of code.now) world.now count frames.old.flat frames.new.flat }
+    ensures not { result ≡ false → frames.new.flat ≡ frames.old.flat }
 {
     if count > MOST_ARGUMENTS {
-        return Ok(false);
+        return false;
     }
     let Some(number) = procedure_named(world, frames.slot_below(count)) else {
-        return Ok(false);
+        return false;
     };
     let Some(nulls) = locals_besides(code, number, count) else {
-        return Ok(false);
+        return false;
     };
     if frames.level() >= limits.levels {
-        return Ok(false);
+        return false;
     }
-    frames.enter_with(number, count, nulls, 0)
+    match frames.enter_with(number, count, nulls, 0) {
+        Ok(done) => done,
+        Err(_) => false,
+    }
 }

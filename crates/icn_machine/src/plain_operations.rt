@@ -1,23 +1,27 @@
-// Operations on integers and locals, done on the stack alone: no operand is taken into a room, and no row is called. What is not
-// plain stays as it is.
-ghost use Rattle.std.specs.Prelude.{◌≡◌, ◌+◌, ◌<◌, ◌≤◌, IfSome, IsSome, IsTrue, None, Some, slice_get};
+// Operations that are performed on the stack alone, on operands that are told as they stand: none is taken into a room, and no row
+// is called. Elsewhere nothing changes.
+ghost use Rattle.std.specs.Prelude.{[], ◌≡◌, ◌+◌, ◌<◌, ◌≤◌, IfSome, IsSome, IsTrue, None, Some, slice_get};
 ghost use Rattle.std.specs.Result.{result_ok};
 ghost use Rattle.icn_value.specs.declared.item.Item.{Item};
 ghost use Rattle.icn_value.specs.declared.val.Val.TheVariants as Vals;
 ghost use Rattle.icn_text.specs.declared.op.Op.TheVariants as Ops;
 ghost use Rattle.icn_defs.specs.Arities.{arity};
-ghost use Rattle.icn_vars.specs.Worlds.{Reach};
+ghost use Rattle.icn_vars.specs.Worlds.{Reach, reach_of};
+ghost use Rattle.icn_frames.specs.CalledWith.{HasOperands};
 ghost use Rattle.icn_frames.specs.Slots.{plain_operand};
 ghost use Rattle.icn_frames.specs.Stacks as flat;
 ghost use Rattle.icn_code.specs.Codes.{Tables};
 ghost use Rattle.icn_control.specs.LiveStacks.{IsLiveStack};
 ghost use Rattle.icn_control.specs.TakenOperands.{take_operands};
-ghost use Rattle.icn_machine.specs.PlainOperations.{Assigns, Compares, Computes, NamesOwnLocal, OperatesInPlace, TakesSlots, TellIntegers, TellsInteger, integer_result, is_met, local_item};
+ghost use Rattle.icn_machine.specs.PlainFunctions.{HasValueBelow};
+ghost use Rattle.icn_machine.specs.PlainOperations.{Assigns, Compares, Computes, NamesOwnLocal, OperatesInPlace, OperatesInWorld, TakesSlots, TellIntegers, TellsInteger, integer_result, is_met, local_item};
 
-use icn_control::{RunState, put_slot};
-use icn_frames::{Cell, Frames, Stack};
+use crate::plain_functions::value_told;
+use icn_control::{RunState, put_slot, value_slot};
+use icn_frames::{Cell, Frames, Stack, is_plain_operand, operand_as_local};
 use icn_text::{Arith, Op, add, div, mul, rem, sub};
-use icn_value::Val;
+use icn_value::{Item, Root, Val, VarRef};
+use icn_vars::World;
 use std::cmp::Ordering;
 
 // Whether an operand may be an integer: it is one, or a local.
@@ -210,6 +214,17 @@ fn compare<K: Stack<Cell> + Drop>(frames: &mut Frames<K>, op: Op) -> Option<RunS
     Some(RunState::Failing)
 }
 
+// Whether an operand is a local.
+#[inline(always)]
+fn is_local(slot: Cell) -> bool
+    ensures { IsTrue result → IsSome (plain_operand slot) }
+{
+    match slot {
+        Cell::VarLocal(_) => true,
+        _ => false,
+    }
+}
+
 // The index of a local that an operand is.
 #[inline(always)]
 fn local_index(slot: Cell) -> Option<u32>
@@ -221,41 +236,62 @@ fn local_index(slot: Cell) -> Option<u32>
     }
 }
 
-// The index of the local that an operand is, and the integer that the other one is or holds, where it is so.
+// Takes the two top operands, where the lower one is a local, and the slot of the upper one tells all.
+#[inline(always)]
+fn take_assigned<K: Stack<Cell> + Drop>(frames: &mut Frames<K>) -> Option<(Cell, Cell)>
+    requires { IsSome (take_operands 2 frames.old.flat) }
+    ensures taken { IfSome result (TakesSlots frames.old.flat frames.new.flat) }
+    ensures spare { IfSome result (λ slots. 2 ≤ frames.new.spare) }
+    ensures none { result ≡ None → frames.new.flat ≡ frames.old.flat }
+{
+    let upper = frames.top();
+    if !is_plain_operand(upper) {
+        return None;
+    }
+    frames.drop_top();
+    let lower = frames.top();
+    if !is_local(lower) {
+        put_slot(frames, upper);
+        return None;
+    }
+    frames.drop_top();
+    Some((lower, upper))
+}
+
+// The index of the local that an operand is, and the slot of the value that the other one is or holds, where slots tell it.
 #[inline(always)]
 fn assignment_of<K: Stack<Cell> + Drop>(
     frames: &Frames<K>,
     slots: (Cell, Cell),
-) -> Option<(u32, i64)>
-    requires lower { NamesOwnLocal frames.now.flat slots.0 }
-    requires upper { NamesOwnLocal frames.now.flat slots.1 }
+) -> Option<(u32, Cell)>
+    requires { NamesOwnLocal frames.now.flat slots.0 }
     ensures { IfSome result (Assigns frames.now.flat slots) }
 {
     let index = local_index(slots.0)?;
-    let n = integer_in(frames, slots.1)?;
-    Some((index, n))
+    let value = value_slot(frames, slots.1)?;
+    Some((index, value))
 }
 
-// The assignment of an integer to a local.
+// The assignment of a value to a local.
 fn assign<K: Stack<Cell> + Drop>(frames: &mut Frames<K>) -> Option<RunState>
     requires operands { IsSome (take_operands 2 frames.old.flat) }
     requires live { (tables : Tables) × ((reach : Reach) × IsLiveStack tables reach frames.old.flat) }
     ensures { OperatesInPlace Ops.Assign frames.old.flat frames.new.flat result }
 {
-    let slots = take_slots(frames)?;
+    let slots = take_assigned(frames)?;
     frames.local_count();
     let Some(two) = assignment_of(frames, slots) else {
         put_slots(frames, slots);
         return None;
     };
-    frames.set_local(two.0 as u64, Val::Integer(two.1));
+    frames.set_local_plain(two.0 as u64, operand_as_local(two.1));
     frames.local_count();
     put_slot(frames, Cell::VarLocal(two.0));
     Some(RunState::Running)
 }
 
-/// Performs an operation on integers and locals that are on top: arithmetic, a comparison, or an assignment to a local. Elsewhere
-/// nothing changes. Its operands must be there. It takes no memory.
+/// Performs an operation on what is on top, where slots tell it: arithmetic on integers, a comparison of them, or the assignment
+/// of a value to a local. Elsewhere nothing changes. Its operands must be there. It takes no memory.
 pub fn operate_in_place<K: Stack<Cell> + Drop>(frames: &mut Frames<K>, op: Op) -> Option<RunState>
     requires operands { IsSome (take_operands (arity op) frames.old.flat) }
     requires live { (tables : Tables) × ((reach : Reach) × IsLiveStack tables reach frames.old.flat) }
@@ -275,5 +311,78 @@ pub fn operate_in_place<K: Stack<Cell> + Drop>(frames: &mut Frames<K>, op: Op) -
         Op::NotEqual => compare(frames, op),
         Op::Assign => assign(frames),
         _ => None,
+    }
+}
+
+// The size of what the top operand is, or of what the local or the global holds which it names.
+fn size<K: Stack<Cell> + Drop>(frames: &mut Frames<K>, world: &World) -> Option<RunState>
+    requires operands { IsSome (take_operands 1 frames.old.flat) }
+    requires live { (tables : Tables) × IsLiveStack tables (reach_of world.now []) frames.old.flat }
+    ensures { OperatesInWorld world.now Ops.Size frames.old.flat frames.new.flat result }
+{
+    let Some(val) = value_told(frames, world, 0) else {
+        return None;
+    };
+    let Some(n) = world.heap.size(val) else {
+        return None;
+    };
+    frames.drop_with(0);
+    frames.local_count();
+    put_slot(frames, Cell::ValInteger(n as i64));
+    Some(RunState::Running)
+}
+
+// The table that the operand below the top one is, or that the local or the global holds which it names.
+#[inline(always)]
+fn table_below<K: Stack<Cell> + Drop>(frames: &Frames<K>, world: &World) -> Option<u32>
+    requires { HasOperands (1 + 1) frames.now.flat.cells }
+    ensures { IfSome result
+        (λ table. HasValueBelow world.now.globals.items frames.now.flat 1 (Vals.Table table)) }
+{
+    let Some(val) = value_told(frames, world, 1) else {
+        return None;
+    };
+    match val {
+        Val::Table(table) => Some(table),
+        _ => None,
+    }
+}
+
+// The variable of the value at a key of a table.
+fn subscript<K: Stack<Cell> + Drop>(frames: &mut Frames<K>, world: &World) -> Option<RunState>
+    requires operands { IsSome (take_operands 2 frames.old.flat) }
+    requires live { (tables : Tables) × IsLiveStack tables (reach_of world.now []) frames.old.flat }
+    ensures { OperatesInWorld world.now Ops.Subscript frames.old.flat frames.new.flat result }
+{
+    let Some(table) = table_below(frames, world) else {
+        return None;
+    };
+    let Some(key) = value_told(frames, world, 0) else {
+        return None;
+    };
+    frames.drop_with(1);
+    frames.local_count();
+    match frames.push(Item::Var(VarRef::Whole(Root::Key { table, key }))) {
+        Ok(()) => {}
+        Err(_) => unreachable!(),
+    }
+    Some(RunState::Running)
+}
+
+/// Performs an operation on what is on top, where it is told as it stands: one that `operate_in_place` performs, the size of a
+/// value, or the subscript of a table. Elsewhere nothing changes. Its operands must be there. It takes no memory.
+pub fn operate_in_world<K: Stack<Cell> + Drop>(
+    frames: &mut Frames<K>,
+    world: &World,
+    op: Op,
+) -> Option<RunState>
+    requires operands { IsSome (take_operands (arity op) frames.old.flat) }
+    requires live { (tables : Tables) × IsLiveStack tables (reach_of world.now []) frames.old.flat }
+    ensures { OperatesInWorld world.now op frames.old.flat frames.new.flat result }
+{
+    match op {
+        Op::Size => size(frames, world),
+        Op::Subscript => subscript(frames, world),
+        _ => operate_in_place(frames, op),
     }
 }

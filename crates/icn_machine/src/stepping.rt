@@ -1,5 +1,5 @@
 // One instruction of a run.
-ghost use Rattle.std.specs.Prelude.{◌≡◌, ◌≢◌, ◌<◌, false, true, suc, Err, Some, IfOk, length, slice_get, IsTrue};
+ghost use Rattle.std.specs.Prelude.{◌≡◌, ◌≢◌, ◌<◌, false, true, suc, Err, None, Ok, Some, IfOk, IfSome, length, slice_get, IsTrue};
 ghost use Rattle.icn_value.specs.Store.{Outside};
 ghost use Rattle.icn_vars.specs.declared.outcome.Halt.TheVariants.{NoMemory};
 ghost use Rattle.icn_code.specs.declared.instr.Instr.{Instr as InstrSeen};
@@ -13,15 +13,16 @@ ghost use Rattle.icn_control.specs.declared.machine.RunState.TheVariants as RunS
 ghost use Rattle.icn_instructions.specs.FirstStatics.{AreFirstStatics};
 ghost use Rattle.icn_instructions.specs.Groups.{group_of};
 ghost use Rattle.icn_instructions.specs.declared.groups.InstrGroup.TheVariants as Groups;
-ghost use Rattle.icn_machine.specs.Performing.{PerformsOn};
+ghost use Rattle.icn_machine.specs.DoneInPlace.{StaysSame};
+ghost use Rattle.icn_machine.specs.Performing.{PerformsOn, SettlesOn};
 ghost use Rattle.icn_machine.specs.Stepping.{Advances, EndsWhole, GoesOn, IsDoing, IsFailing, IsReady, IsReadyToFail, is_applied, is_failing, is_whole};
 ghost use Rattle.icn_machine.specs.AfterInstruction.{stage_of, stage_result};
 
 use crate::errors::settle;
 use crate::failing::{fail_through, is_failing as fails_now};
 use crate::fields::field;
-use crate::invoking::{appl, invoke};
-use crate::operations::operate;
+use crate::invoking::{appl, call_at_once, invoke};
+use crate::operations::{operate, operate_at_once};
 use icn_apply::CodeNames;
 use icn_code::{Code, Instr};
 use icn_control::{Machine, RunState};
@@ -195,7 +196,65 @@ fn do_on_stack<K: Stack<Cell> + Drop>(
 {
     steps_keep_names();
     steps_keep_sizes();
-    do_stack_instruction(m, code, firsts, instr)
+    match do_stack_instruction(m, code, firsts, instr) {
+        Ok(()) => Ok(RunState::Running),
+        Err(_) => Err(Halt::NoMemory),
+    }
+}
+
+// Does an instruction on the stack alone, where slots tell what it takes and a turn is left: an operation, or the call of a
+// procedure. Elsewhere nothing changes.
+fn do_in_place<K: Stack<Cell> + Drop>(
+    m: &mut Machine<K>,
+    code: &Code,
+    instr: Instr,
+) -> Option<RunState>
+    requires { IsDoing (tables_of code.now) m.old instr }
+    ensures step { IfSome result (λ stage. (outside : Outside)
+        → ComesTo (tables_of code.now) outside (does (tables_of code.now) outside instr m.old) m.new
+        (Ok stage)) }
+    ensures ready { IfSome result (IsReady (tables_of code.now) m.new) }
+    ensures part { IfSome result (λ stage. is_whole instr ≡ false) }
+    ensures limits { m.new.limits ≡ m.old.limits }
+    ensures not_done { result ≡ None → StaysSame m.old m.new }
+{
+    steps_keep_names();
+    steps_keep_sizes();
+    match instr {
+        Instr::Op(op) => operate_at_once(m, op),
+        Instr::Invoke(count) => call_at_once(m, code, count),
+        _ => None,
+    }
+}
+
+// Does an instruction that is due, whatever it takes, but for the failing behind it. The errors are those of the instruction that
+// end the run.
+#[inline(never)]
+fn do_other<K: Stack<Cell> + Drop, N: Names, S: Streams>(
+    m: &mut Machine<K>,
+    code: &Code,
+    firsts: &[u32],
+    instr: Instr,
+    names: &N,
+    rooms: &mut Rooms,
+    streams: &mut S,
+) -> Result<RunState, Halt>
+    requires firsts { AreFirstStatics (tables_of code.now) firsts.now }
+    requires known { N.known names.now ≡ all_names (tables_of code.now) }
+    requires doing { IsDoing (tables_of code.now) m.old instr }
+    ensures step { SettlesOn (tables_of code.now) (λ outside. does (tables_of code.now) outside instr m.old)
+        m.new (S.state streams.old)
+        (S.state streams.new) result }
+    ensures ready { IfOk result (IsReady (tables_of code.now) m.new) }
+    ensures whole { is_whole instr ≡ true → EndsWhole result }
+    ensures within { KeepsLimits m.old m.new result }
+{
+    if is_applied(instr) {
+        let answer = do_applied(m, code, instr, names, rooms, streams);
+        return settle(m, answer);
+    }
+    let answer = do_plain(m, code, firsts, instr, rooms);
+    settle(m, answer)
 }
 
 // Does the instruction that is due, but for the failing behind it. The errors are those of the instruction that end the run.
@@ -221,16 +280,14 @@ fn do_next<K: Stack<Cell> + Drop, N: Names, S: Streams>(
     ensures within { KeepsLimits m.old m.new result }
 {
     let instr = next_instr(m, code);
-    if is_applied(instr) {
-        let answer = do_applied(m, code, instr, names, rooms, streams);
-        return settle(m, answer);
-    }
     if is_on_stack(instr) {
         let answer = do_on_stack(m, code, firsts, instr);
         return settle(m, answer);
     }
-    let answer = do_plain(m, code, firsts, instr, rooms);
-    settle(m, answer)
+    match do_in_place(m, code, instr) {
+        Some(stage) => Ok(stage),
+        None => do_other(m, code, firsts, instr, names, rooms, streams),
+    }
 }
 
 // Where the run stands at a stage at which nothing fails.

@@ -7,6 +7,7 @@ use Rattle.icn_value.specs.Values.{Value, Null, Procedure, ARecord, AList, Item,
 use Rattle.icn_value.specs.Store.{list_at, record_at}
 use Rattle.icn_defs.specs.Arities.{arity}
 use Rattle.icn_defs.specs.Conversions.{position_of}
+use Rattle.icn_defs.specs.NamedValues.{named_by}
 use Rattle.icn_defs.specs.Running.{number_of}
 use Rattle.icn_defs.specs.StepRows.{Operation, Function, apply, list_row, record_row}
 use Rattle.icn_meaning.specs.Program.{Program, Routine, Constructor, Callee, IsRoutine, IsKind, IsFunction, IsNothing, callee_of, index_of}
@@ -85,15 +86,22 @@ abbrev pub argument_at : Option ℕ → List Item → Option Item
 argument_at (Some (suc p)) xs = slice_get xs p
 argument_at _ xs = None
 
--- an integer gives the argument of that number, undereferenced
-abbrev pub choose : Option ℤ → Value → List Item → Works → Choices → Store → Evaluation
-choose (Some i) v xs k r st = choose_item (argument_at (position_of i (length xs)) xs) k r st
-choose None v xs k r st = errs 106 (Some v) r st
+-- a text calls what it names; what names nothing is error 106
+abbrev pub invoke_named : Program → Option ℕ → Value → List Item → Surroundings → Works → Choices → Store
+    → Evaluation
+invoke_named program (Some n) v xs s k r st = invoke_callee (callee_of program n) n xs s k r st
+invoke_named program None v xs s k r st = errs 106 (Some v) r st
 
--- A value is called with arguments. One that is called by number gives the argument of that number.
+-- an integer gives the argument of that number, undereferenced; what is none is called by name
+abbrev pub choose : Program → Option ℤ → Value → List Item → Surroundings → Works → Choices → Store
+    → Evaluation
+choose program (Some i) v xs s k r st = choose_item (argument_at (position_of i (length xs)) xs) k r st
+choose program None v xs s k r st = invoke_named program (named_by st.names v) v xs s k r st
+
+-- A value is called with arguments. One that is called by number gives the argument of that number; another text calls what it names.
 abbrev pub invoke : Program → Value → List Item → Surroundings → Works → Choices → Store → Evaluation
 invoke program (Procedure n) xs s k r st = invoke_callee (callee_of program n) n xs s k r st
-invoke program v xs s k r st = choose (number_of v) v xs k r st
+invoke program v xs s k r st = choose program (number_of v) v xs s k r st
 
 -- values as items
 abbrev pub items : List Value → List Item

@@ -1,9 +1,12 @@
 -- A program of several files, joined, with what each of its names means.
-use Rattle.std.specs.Prelude.{ℕ, zero, suc, pred, ◌+◌, ◌==◌, Bool, true, false, not, List, [], ◌∷◌, ◌++◌, length, Option, Some, None, slice_get, bytes_eq, if◌then◌else◌}
+use Rattle.std.specs.Prelude.{ℕ, zero, suc, pred, ℤ, pos, ◌+◌, ◌==◌, Bool, true, false, not, List, [], ◌∷◌, ◌++◌, length, map, codes, Option, Some, None, slice_get, bytes_eq, if◌then◌else◌}
+use Rattle.std.specs.List.{range_with_len}
 use Rattle.icn_text.specs.Funcs.{func_name, func_number}
 use Rattle.icn_text.specs.declared.func.Func.{Func}
 use Rattle.icn_text.specs.declared.func.TheConstants.Func.{ALL as functions}
 use Rattle.icn_tree.specs.declared.token.Operator.TheVariants.{Backslash}
+use Rattle.icn_tree.specs.declared.tree.DeclItem.{DeclItem}
+use Rattle.icn_tree.specs.declared.tree.DeclItem.TheVariants as Items
 use Rattle.icn_tree.specs.declared.tree.Name.{Name}
 use Rattle.icn_tree.specs.declared.tree.Infix.TheVariants.{Plain}
 use Rattle.icn_tree.specs.declared.tree.LocalKind.{LocalKind}
@@ -11,6 +14,8 @@ use Rattle.icn_tree.specs.declared.tree.LocalKind.TheVariants as Kinds
 use Rattle.icn_tree.specs.Trees.{Tree, Trees, MaybeTree, Clauses, LocalDecl, Initial, Declaration, Empty, Constant, Identifier, Keyword, Parentheses, Listing, Compound, Call, CoCall, Subscript, Section, Field, Prefix, Not, Binary, To, If, Case, Loop, Repeat, Create, Next, Fail, Break, Return, Suspend, Absent, Present, NoTrees, More, Default, Guarded, NoClauses, MoreClauses, NoInitial, Initially, Global as GlobalDeclaration, Link, Invocable, Record, ProcedureOf, Procedure as ProcedureTree}
 use Rattle.icn_value.specs.Values.{Value, Null, Procedure, Root, Global, Static, Local}
 use Rattle.icn_value.specs.Store.{Names}
+use Rattle.icn_defs.specs.KeptProcedures.{Mentioned, dropped, kept_from}
+use Rattle.icn_defs.specs.NamedValues.{arguments_taken}
 
 -- A procedure. Its locals are its parameters, then the names that it declares local, then those that it does not declare and that are no global. The
 -- statics of all procedures are numbered one after the other.
@@ -29,13 +34,15 @@ pub record Constructor : Type 0 where
   pub name : List ℕ
   pub fields : List (List ℕ)
 
--- the procedures and records as declared; the globals by their numbers, each with the value that it begins with; and how many statics there are
+-- The procedures and records as declared; the globals by their numbers, each with the value that it begins with; how many statics there are; and
+-- the procedures that are not kept, which no text names.
 pub record Program : Type 0 where
   pub routines : List Routine
   pub kinds : List Constructor
   pub globals : List (List ℕ)
   pub starts : List Value
   pub statics : ℕ
+  pub hidden : List ℕ
 
 -- whether a name is among some names
 abbrev pub has_name : List ℕ → List (List ℕ) → Bool
@@ -159,10 +166,14 @@ statics_among (locals ∷ others) = of_kind locals.kind ++ statics_among others
 abbrev pub own_names : ProcedureTree → List (List ℕ)
 own_names procedure = texts procedure.parameters ++ locals_among procedure.locals
 
--- the names in a procedure that it does not declare, each once
+-- the names in a procedure that it does not declare, wherever they stand
+abbrev pub undeclared_uses : ProcedureTree → List (List ℕ)
+undeclared_uses procedure = without_names (own_names procedure ++ statics_among procedure.locals)
+    (names_in_initial procedure.initial ++ names_in_all procedure.body)
+
+-- the same, each once
 abbrev pub undeclared_names : ProcedureTree → List (List ℕ)
-undeclared_names procedure = with_more_names [] (without_names (own_names procedure
-    ++ statics_among procedure.locals) (names_in_initial procedure.initial ++ names_in_all procedure.body))
+undeclared_names procedure = with_more_names [] (undeclared_uses procedure)
 
 -- the declarations of all files, as one
 abbrev pub joined_declarations : List (List Declaration) → List Declaration
@@ -220,6 +231,54 @@ abbrev pub globals_of : List Declaration → List (List ℕ)
 globals_of declarations = let declared = with_more_names [] (global_names declarations) in
     declared ++ without_names declared
     (with_more_names [] (only names_function (used_names (procedures_of declarations))))
+
+-- Kept procedures
+
+-- the text by which an item of `invocable` names something
+abbrev pub item_text : DeclItem → List ℕ
+item_text (Items.Identifier name) = name.text
+item_text (Items.Text name) = name.text
+
+-- what the declarations `invocable` name
+abbrev pub invocable_texts : List Declaration → List (List ℕ)
+invocable_texts [] = []
+invocable_texts (Invocable place items ∷ others) = map item_text items ++ invocable_texts others
+invocable_texts (GlobalDeclaration place names ∷ others) = invocable_texts others
+invocable_texts (Link place items ∷ others) = invocable_texts others
+invocable_texts (Record place name fields ∷ others) = invocable_texts others
+invocable_texts (ProcedureOf procedure ∷ others) = invocable_texts others
+
+-- the number of a procedure, if it is one, before others
+abbrev pub with_number : Option ℕ → List ℕ → List ℕ
+with_number (Some number) numbers = number ∷ numbers
+with_number None numbers = numbers
+
+-- which of these procedures the names are of
+abbrev pub numbers_of : List (List ℕ) → List (List ℕ) → List ℕ
+numbers_of procedures [] = []
+numbers_of procedures (name ∷ names) = with_number (index_of name procedures) (numbers_of procedures names)
+
+-- the names of procedures
+abbrev pub procedure_names : List ProcedureTree → List (List ℕ)
+procedure_names [] = []
+procedure_names (procedure ∷ others) = procedure.name.text ∷ procedure_names others
+
+-- What each procedure mentions: a name that it uses and does not declare is global, where it is that of a procedure.
+abbrev pub mentioned_by : List (List ℕ) → List ProcedureTree → Mentioned
+mentioned_by procedures [] = []
+mentioned_by procedures (procedure ∷ others) =
+    numbers_of procedures (undeclared_uses procedure) ∷ mentioned_by procedures others
+
+-- The procedures that are kept for their own sake: `main`, and what `invocable` names, which is each of them where it is `all`.
+abbrev pub own_kept : List (List ℕ) → List (List ℕ) → List ℕ
+own_kept procedures texts = if has_name (codes "all") texts then range_with_len 0 (length procedures)
+    else numbers_of procedures (codes "main" ∷ texts)
+
+-- which procedures are kept: the least set that has these, and with each one all that it mentions
+abbrev pub kept_of : List Declaration → List Bool
+kept_of declarations = let procedures = procedure_names (procedures_of declarations) in
+    kept_from (mentioned_by procedures (procedures_of declarations))
+    (own_kept procedures (invocable_texts declarations))
 
 -- a procedure, where these are the globals and so many statics were numbered before
 abbrev pub routine_of : List (List ℕ) → ℕ → ProcedureTree → Routine
@@ -288,15 +347,29 @@ program_of declarations = let globals = globals_of declarations in
       starts = starts_of (routine_names routines) (kind_names (kinds_of declarations))
           (global_names declarations) globals;
       statics = statics_in routines;
+      hidden = dropped (kept_of declarations);
     }
 
 -- the program of several files, each the list of its declarations
 abbrev pub program : List (List Declaration) → Program
 program files = program_of (joined_declarations files)
 
--- the names of a program's procedures and kinds of record
+-- how many arguments a procedure takes, below 0 where the last parameter collects
+abbrev pub routine_arguments : Routine → ℤ
+routine_arguments routine = arguments_taken routine.parameters routine.collects
+
+-- a constructor takes as many arguments as its records have fields
+abbrev pub kind_arguments : Constructor → ℤ
+kind_arguments kind = pos (length kind.fields)
+
+-- The names of a program's procedures and kinds of record, and how many arguments these take. A text names a procedure that is kept.
 abbrev pub names_of : Program → Names
-names_of program = record { procedures = routine_names program.routines; records = kind_names program.kinds }
+names_of program = record {
+  procedures = routine_names program.routines;
+  records = kind_names program.kinds;
+  arguments = map routine_arguments program.routines ++ map kind_arguments program.kinds;
+  hidden = program.hidden;
+}
 
 -- what is called by a procedure's number
 pub data Callee : Type 0 where

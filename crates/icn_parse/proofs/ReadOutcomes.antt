@@ -14,7 +14,7 @@ use Rattle.icn_expr.specs.Heights.{height, highest, initial_height, procedure_he
 use Rattle.icn_expr.proofs.CappedRuns.{capped_shows, shown_tree, shown_trees}
 use Rattle.icn_parse.specs.FileReading.{file_read}
 use Rattle.icn_parse.specs.KeptDeclarations.{CappedProcedure, CappedDeclaration, IsKept, IsTooHigh, finish_initial, finish_procedure, finish, high_with, done_with, kept_declarations}
-use Rattle.icn_parse.specs.Outcomes.{ProfileFault, UnknownKeyword, NotInProfile, Parsed, NoProgram, TooHigh, Faulty, IsTree, IsOutcome, no_program, too_high, faulty, is_tree, first_too_high, first_fault}
+use Rattle.icn_parse.specs.Outcomes.{ProfileFault, UnknownKeyword, Parsed, NoProgram, TooHigh, Faulty, IsTree, IsOutcome, no_program, too_high, faulty, is_tree, first_too_high, first_fault}
 use Rattle.icn_tree.specs.declared.rule.Rule.{Rule}
 use Rattle.icn_tree.specs.declared.rule.Rule.TheVariants.{S1}
 use Rattle.icn_tree.specs.Phrases.{place_of}
@@ -281,4 +281,3 @@ unspelled_breaks tokens place fault u e = broken_as (IsOutcome tokens) (NoProgra
 pub unfit_breaks : (tokens : List Token) (file : List Declaration) (unfit : Unfit) → IsLowTree tokens file → Some (fault_at unfit) ≡ first_fault file
     → Breaks (IsOutcome tokens) (fault_of_unfit unfit)
 unfit_breaks tokens file (U.UnknownKeyword place) t e = (Faulty (UnknownKeyword place), faulty file (UnknownKeyword place) t.0 t.1 (sym e), refl)
-unfit_breaks tokens file (U.NotInProfile place) t e = (Faulty (NotInProfile place), faulty file (NotInProfile place) t.0 t.1 (sym e), refl)

@@ -10,7 +10,7 @@ use Rattle.icn_tree.specs.declared.tree.Name.{Name}
 use Rattle.icn_text.specs.declared.keyword.Keyword.{Keyword as KnownKeyword}
 use Rattle.icn_text.specs.declared.keyword.Keyword.TheVariants as K
 use Rattle.icn_text.specs.Keywords.{keyword_name}
-use Rattle.icn_tree.specs.Trees.{Tree, MaybeTree, Trees, Clause, Clauses, Keyword, Parentheses, Listing, Compound, Call, CoCall, Subscript, Section, Field, Prefix, Not, Binary, To, If, Case, Loop, Repeat, Create, Break, Return, Suspend, Absent, Present, NoTrees, More, Default, Guarded, NoClauses, MoreClauses, Initial, NoInitial, Initially, Declaration, Invocable, ProcedureOf}
+use Rattle.icn_tree.specs.Trees.{Tree, MaybeTree, Trees, Clause, Clauses, Keyword, Parentheses, Listing, Compound, Call, CoCall, Subscript, Section, Field, Prefix, Not, Binary, To, If, Case, Loop, Repeat, Create, Break, Return, Suspend, Absent, Present, NoTrees, More, Default, Guarded, NoClauses, MoreClauses, Initial, NoInitial, Initially, Declaration, ProcedureOf}
 use Rattle.icn_tree.specs.Phrases.{place_of}
 use Rattle.icn_tree.specs.Pieces.{pieces}
 use Rattle.icn_tree.specs.Declarations.{IsTreeOf, SpellDeclaration}
@@ -81,19 +81,17 @@ first_too_high (ProcedureOf p ∷ others) =
     if nat_le (procedure_height p) highest_tree then first_too_high others else Some p.name.place
 first_too_high (other ∷ others) = first_too_high others
 
--- an unknown keyword, or a form that is not in this profile
+-- what a text has that is not in this profile: an unknown keyword
 pub data ProfileFault : Type 0 where
   UnknownKeyword : Place → ProfileFault
-  NotInProfile : Place → ProfileFault
 
 -- the keywords of the `initial` clause
 abbrev pub initial_keywords : Initial → List Name
 initial_keywords NoInitial = []
 initial_keywords (Initially place value) = keywords value
 
--- what a declaration has that is not in this profile
+-- the first unknown keyword of a declaration
 abbrev pub declaration_fault : Declaration → Option ProfileFault
-declaration_fault (Invocable place items) = Some (NotInProfile place)
 declaration_fault (ProcedureOf p) =
     option_map UnknownKeyword (first_unknown (initial_keywords p.initial ++ all_keywords p.body))
 declaration_fault declaration = None

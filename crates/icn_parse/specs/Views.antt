@@ -5,7 +5,7 @@ use Rattle.icn_tree.specs.declared.tree.Place.{Place}
 use Rattle.icn_tree.specs.declared.token.Token.{Token}
 use Rattle.icn_tree.specs.declared.tree.SourceFile.{SourceFile}
 use Rattle.icn_tree.specs.declared.rule.Rule.{Rule}
-use Rattle.icn_tree.specs.declared.rule.Rule.TheVariants.{S1, S2, S3, S4}
+use Rattle.icn_tree.specs.declared.rule.Rule.TheVariants.{S1, S2, S3}
 use Rattle.icn_tree.specs.TreeOf.{declaration_of, declarations_of, locals_of}
 use Rattle.icn_tree.specs.Trees.{Tree, Declaration}
 use Rattle.icn_tree.specs.Phrases.{place_of}
@@ -25,7 +25,7 @@ use Rattle.icn_parse.specs.declared.fault.ParseFault.{ParseFault}
 use Rattle.icn_parse.specs.declared.fault.ParseFault.TheVariants.{Broken, NoMemory as NoMemoryFault}
 use Rattle.icn_parse.specs.FileReading.{ProcedureIs}
 use Rattle.icn_parse.specs.KeptDeclarations.{CappedDeclaration, Finish, IsKept, IsTooHigh, finish}
-use Rattle.icn_parse.specs.Outcomes.{ProfileFault, UnknownKeyword, NotInProfile, Parsed, NoProgram, TooHigh, Faulty, IsTree, IsFirstUnspelled, first_too_high}
+use Rattle.icn_parse.specs.Outcomes.{ProfileFault, UnknownKeyword, Parsed, NoProgram, TooHigh, Faulty, IsTree, IsFirstUnspelled, first_too_high}
 
 -- nothing is read, or memory ran out
 abbrev pub ReadsNothing : {A : Type 0} → Option A → ParseStop → Type 0
@@ -64,24 +64,21 @@ place_found (Err place) = Some place
 -- what a check answers, as the definitions see it
 abbrev pub fault_at : Unfit → ProfileFault
 fault_at (U.UnknownKeyword place) = UnknownKeyword place
-fault_at (U.NotInProfile place) = NotInProfile place
 
 -- what a check of declarations answers
 abbrev pub fault_found : Result (Unit {0}) Unfit → Option ProfileFault
 fault_found (Ok done) = None
 fault_found (Err unfit) = Some (fault_at unfit)
 
--- the rule that a name after `&` or a form breaks that the profile has not
+-- the rule that a name after `&` breaks that the profile has not
 abbrev pub fault_of_unfit : Unfit → ParseFault
 fault_of_unfit (U.UnknownKeyword place) = Broken S3 place.file place.line
-fault_of_unfit (U.NotInProfile place) = Broken S4 place.file place.line
 
 -- the rule that an outcome breaks, and where
 abbrev pub broken_by : Parsed → Option (Rule × Place)
 broken_by (NoProgram place) = Some (S1, place)
 broken_by (TooHigh place) = Some (S2, place)
 broken_by (Faulty (UnknownKeyword place)) = Some (S3, place)
-broken_by (Faulty (NotInProfile place)) = Some (S4, place)
 broken_by (IsTree file) = None
 
 -- the fault is of an outcome, or memory ran out

@@ -1,4 +1,4 @@
-// The first unknown keyword, or form that is not in this profile, of declarations.
+// The first unknown keyword of declarations.
 ghost use Rattle.std.specs.Prelude.{◌≡◌, ◌++◌, map};
 ghost use Rattle.icn_tree.specs.TreeOf.{declaration_of, procedure_of};
 ghost use Rattle.icn_parse.specs.Outcomes.{all_keywords, declaration_fault, first_fault, first_unknown, initial_keywords};
@@ -12,8 +12,6 @@ use icn_tree::{Decl, Place, Procedure};
 pub enum Unfit {
     /// A keyword that is none; where its name stands.
     UnknownKeyword(Place),
-    /// A form; where its first token stands.
-    NotInProfile(Place),
 }
 
 impl From<Place> for Unfit {
@@ -43,17 +41,16 @@ fn check_declaration(declaration: &Decl) -> Result<(), Unfit>
     ensures { fault_found result ≡ declaration_fault (declaration_of declaration.now) }
 {
     match declaration {
-        Decl::Invocable { place, .. } => Err(Unfit::NotInProfile(*place)),
         Decl::Procedure(procedure) => {
             check_procedure(procedure)?;
             Ok(())
         }
-        Decl::Global { .. } | Decl::Link { .. } | Decl::Record { .. } => Ok(()),
+        Decl::Global { .. } | Decl::Link { .. } | Decl::Invocable { .. } | Decl::Record { .. } =>
+            Ok(()),
     }
 }
 
-/// Checks that declarations have no unknown keyword and no form outside this profile. The error is what the first
-/// declaration with such a thing has, with its place.
+/// Checks that declarations have no unknown keyword. The error is the first one, with its place.
 pub fn check_declarations(declarations: &[Decl]) -> Result<(), Unfit>
     ensures { fault_found result ≡ first_fault (map declaration_of declarations.now) }
 {

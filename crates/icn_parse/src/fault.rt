@@ -10,7 +10,7 @@ use std::alloc::AllocError;
 /// Why a program text has no tree, or one that breaks a rule.
 #[derive(Clone, Copy, Debug, PartialEq, Eq)]
 pub enum ParseFault {
-    /// The first rule that the text breaks, one of S1 to S4; the place of the file's name among the names of the lines, and
+    /// The first rule that the text breaks, one of S1 to S3; the place of the file's name among the names of the lines, and
     /// the number of the line.
     Broken { rule: Rule, file: u32, line: u32 },
     /// Memory ran out.
@@ -44,7 +44,6 @@ impl From<Unfit> for ParseFault {
     fn from(unfit: Unfit) -> Self {
         match unfit {
             Unfit::UnknownKeyword(place) => ParseFault::at(place, Rule::S3),
-            Unfit::NotInProfile(place) => ParseFault::at(place, Rule::S4),
         }
     }
 }

@@ -12,8 +12,7 @@ pub fn one_outcome()
     ensures least { (tokens : List Token) → (outcome : Parsed) × IsOutcome tokens outcome }
 {}
 
-/// The tokens of a tree parse to that tree, unless it is too high, has an unknown keyword or a form that is not in this
-/// profile.
+/// The tokens of a tree parse to that tree, unless it is too high or has an unknown keyword.
 pub fn trees_are_read()
     ensures { (file : List Declaration) (tokens : List Token) → IsTreeOf file tokens
         → first_too_high file ≡ None → first_fault file ≡ None

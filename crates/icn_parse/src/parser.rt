@@ -37,8 +37,7 @@ fn read_declarations(alloc: Global, tokens: &[Token]) -> Result<Vec<Decl>, Parse
 /// `Broken` with S1 where the tokens have no tree, at the first token of the first piece that spells no declaration: a piece
 /// begins with the text and with each word that begins a declaration; with S2, at its name, where a procedure has a tree
 /// higher than 2000, of which an operand, an element or a part of a clause is one lower; with S3, at the name behind `&`,
-/// where a keyword is unknown; with S4 where a form is not in this profile, which is `invocable`. S1 comes before S2, S2
-/// before the others, and these in the order of places. `NoMemory` where memory ran out.
+/// where a keyword is unknown. S1 comes before S2, S2 before S3, which is told of the first place. `NoMemory` where memory ran out.
 pub fn parse(alloc: Global, name: &str, tokens: &[Token]) -> Result<SourceFile, ParseFault>
     ensures exact { Answers (IsOutcome tokens.now) result }
     ensures name { IfOk result (λ file. file.name ≡ name.now) }

@@ -13,11 +13,13 @@ use Rattle.icn_code.specs.Codes.{Proc as Procedure, RecordType}
 use Rattle.icn_defs.specs.Arities.{arity}
 use Rattle.icn_defs.specs.Applying.{again}
 use Rattle.icn_defs.specs.Conversions.{integer_of}
+use Rattle.icn_defs.specs.NamedValues.{named_by}
 use Rattle.icn_defs.specs.Numbers.{func_of}
 use Rattle.icn_run.proofs.Errors.{at_error}
+use Rattle.icn_run.proofs.NamedCallees.{named_is}
 use Rattle.icn_defs.specs.Keywords.{keyword_item}
 use Rattle.icn_defs.specs.Rows.{Outcome, Fails, Gives, Suspends, Error, Ends}
-use Rattle.icn_defs.specs.Running.{Pair, Done, words_row, number_of, after_steps}
+use Rattle.icn_defs.specs.Running.{Pair, Done, words_row, callee_number, number_of, after_steps}
 use Rattle.icn_defs.specs.StepRows.{Operation, Function, apply, value_row, list_row, text_row, record_row, coexpression_row}
 use Rattle.icn_run.specs.Calls.{Why, Alt, Op as Operating, Scan, Escan, Proc, MarkDrop, NoMark, Goes, Repeats, Outside as WithoutLabel, Calls}
 use Rattle.icn_run.specs.Step as S
@@ -224,10 +226,6 @@ module _ {H M : Type 0} (C : Calls H M) (P : Program) (law : StoreLaw P) where
   pushed_or_fails (Some x) m st k = k
   pushed_or_fails None m st k = k
 
-  integer_called : (f : Value) (o : Option ℤ) (xs : List Item) (m : M) (st : Store H) → K st → StateHolds (S.integer_called C f o xs m st)
-  integer_called f (Some n) xs m st k = pushed_or_fails (S.choose_item n xs) m st k
-  integer_called f None xs m st k = errs 106 (Some f) m st k
-
   callee_called : (c : Callee) (n : ℕ) (xs : List Item) (m : M) (st : Store H) → Within c
       → ((func : Func) → c ≡ IsFunc func → LeavesBy law.Is law.Over st.begun (apply st.names (Function func) xs (S.here C m st))) → K st
       → StateHolds (S.callee_called C c n xs m st)
@@ -238,14 +236,28 @@ module _ {H M : Type 0} (C : Calls H M) (P : Program) (law : StoreLaw P) where
   callee_called (IsFunc func) n xs m st w functions k = outcome (apply st.names (Function func) xs (S.here C m st)) m st (functions func refl)
   callee_called IsNothing n xs m st w functions k = errs 106 (Some (ProcedureValue n)) m st k
 
-  -- what a value that is called leaves it so, where it is a function
+  -- what a value that is called leaves it so, where it is a function or names one
   abbrev pub CalleeLeaves : Value → List Item → M → Store H → Type 0
-  CalleeLeaves f xs m st = (n : ℕ) (func : Func) → f ≡ ProcedureValue n → S.callee_of P n ≡ IsFunc func
+  CalleeLeaves f xs m st = (n : ℕ) (func : Func) → callee_number st.names f ≡ Some n → S.callee_of P n ≡ IsFunc func
       → LeavesBy law.Is law.Over st.begun (apply st.names (Function func) xs (S.here C m st))
+
+  named_called : (f : Value) (o : Option ℕ) (xs : List Item) (m : M) (st : Store H)
+      → ((n : ℕ) (func : Func) → o ≡ Some n → S.callee_of P n ≡ IsFunc func
+      → LeavesBy law.Is law.Over st.begun (apply st.names (Function func) xs (S.here C m st))) → K st
+      → StateHolds (S.named_called C P f o xs m st)
+  named_called f (Some n) xs m st functions k =
+      callee_called (S.callee_of P n) n xs m st (callees n P.procs) (λ func e. functions n func refl e) k
+  named_called f None xs m st functions k = errs 106 (Some f) m st k
+
+  integer_called : (f : Value) (o : Option ℤ) (xs : List Item) (m : M) (st : Store H) → number_of f ≡ o → CalleeLeaves f xs m st → K st
+      → StateHolds (S.integer_called C P f o xs m st)
+  integer_called f (Some n) xs m st is functions k = pushed_or_fails (S.choose_item n xs) m st k
+  integer_called f None xs m st is functions k = named_called f (named_by st.names f) xs m st
+      (λ n func e c. functions n func (named_is st.names f n is e) c) k
 
   pub invoked : (f : Value) (xs : List Item) (m : M) (st : Store H) → CalleeLeaves f xs m st → K st → StateHolds (S.invoke_value C P f xs m st)
   invoked (ProcedureValue n) xs m st functions k = callee_called (S.callee_of P n) n xs m st (callees n P.procs) (λ func e. functions n func refl e) k
-  invoked f xs m st functions k = integer_called f (number_of f) xs m st k
+  invoked f xs m st functions k = integer_called f (number_of f) xs m st refl functions k
 
   -- functions leave it so, whatever they are given
   abbrev pub FunctionsLeave : Type 0

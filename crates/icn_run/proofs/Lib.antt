@@ -1,4 +1,5 @@
 pub mod OneObservation
 pub mod Errors
 pub mod StoreLaws
+pub mod NamedCallees
 pub mod EveryStep

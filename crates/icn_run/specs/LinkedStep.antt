@@ -1,5 +1,5 @@
 -- The run of a code on linked marks.
-use Rattle.std.specs.Prelude.{◌==◌, ℕ, Bool, true, false}
+use Rattle.std.specs.Prelude.{◌==◌, ℕ, Bool, true, false, List}
 use Rattle.std.specs.List.{list_any}
 use Rattle.icn_code.specs.declared.instr.Instr.{Instr}
 use Rattle.icn_code.specs.declared.instr.Instr.TheVariants.{Chfail}
@@ -25,10 +25,19 @@ steps repeats P n state = Step.steps (linked_calls repeats) P n state
 abbrev pub start : (ℕ → ℕ → Bool) → Program → Launch → State
 start repeats P launch = Step.start (linked_calls repeats) empty P launch
 
+-- where a run on linked marks begins in which no text names these procedures
+abbrev pub start_hiding : (ℕ → ℕ → Bool) → Program → List ℕ → Launch → State
+start_hiding repeats P hidden launch = Step.start_hiding (linked_calls repeats) empty P hidden launch
+
 -- the same of the run on linked marks
 abbrev pub Runs : (ℕ → ℕ → Bool) → Tables → Launch → Observation → Type 0
 Runs repeats tables launch seen =
     Observes (step repeats tables) Step.observation (start repeats tables launch) seen
+
+-- such a run comes to an end of which this is observed
+abbrev pub RunsHiding : (ℕ → ℕ → Bool) → List ℕ → Tables → Launch → Observation → Type 0
+RunsHiding repeats hidden tables launch seen =
+    Observes (step repeats tables) Step.observation (start_hiding repeats tables hidden launch) seen
 
 -- a label of a `chfail` stands there
 abbrev pub is_chfail_to : ℕ → Instr → Bool

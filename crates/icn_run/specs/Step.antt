@@ -1,9 +1,8 @@
 -- One step of the run of a code, whatever its stacks are made of.
-use Rattle.std.specs.Prelude.{ℕ, zero, suc, pred, ◌+◌, ◌-◌, ◌==◌, ℤ, pos, negsuc, Bool, true, false, ◌&&◌, not, filter, nat_lt, nat_le, List, [], ◌∷◌, ◌++◌, length, take, drop, map, replicate, find, position, codes, slice_get, slice_index_or, slice_set, Option, Some, None, if◌then◌else◌}
+use Rattle.std.specs.Prelude.{ℕ, zero, suc, pred, ◌+◌, ◌-◌, ◌==◌, ℤ, pos, negsuc, Bool, true, false, ◌&&◌, not, filter, nat_lt, nat_le, List, [], ◌∷◌, ◌++◌, length, take, drop, map, replicate, position, slice_get, slice_index_or, slice_set, Option, Some, None, if◌then◌else◌}
 use Rattle.std.specs.List.{sum_by, range_with_len}
 use Rattle.icn_value.specs.Csets.{has}
 use Rattle.std.specs.Option.{option_and_then, option_map_or}
-use Rattle.std.specs.Str.{bytes_eq}
 use Rattle.icn_text.specs.Funcs.{func_number}
 use Rattle.icn_text.specs.declared.func.Func.{Func}
 use Rattle.icn_text.specs.declared.op.Op.{Op}
@@ -11,13 +10,14 @@ use Rattle.icn_text.specs.declared.op.Op.TheVariants as Ops
 use Rattle.icn_value.specs.declared.cset.Cset.{Cset}
 use Rattle.icn_defs.specs.Arities.{arity}
 use Rattle.icn_defs.specs.Numbers.{func_of}
+use Rattle.icn_defs.specs.NamedValues.{arguments_taken, named_by}
 use Rattle.icn_code.specs.declared.instr.Instr.{Instr}
 use Rattle.icn_code.specs.declared.instr.Instr.TheVariants as Instrs
 use Rattle.icn_code.specs.declared.code.Global.{Global as GlobalEntry}
 use Rattle.icn_code.specs.declared.code.Start.{Start}
 use Rattle.icn_code.specs.declared.code.Start.TheVariants as Starts
 use Rattle.icn_code.specs.Codes.{Tables, Proc as Procedure, RecordType}
-use Rattle.icn_code.specs.Rules.{name_of}
+pub use Rattle.icn_code.specs.MainProcedure.{procedure_at, main_of}
 use Rattle.icn_run.specs.Rows.{Value, Null, Integer, Text, Chars, Procedure as ProcedureValue, ARecord, AList, ACoexp, Global, Static, Local, Field, Whole, Part, Item, Val, Var, World, Outside, Setting, Names, list_at, record_at, Outcome, Fails, Gives, Suspends, Error, Ends, error_report, on_error, integer_of, position_of, again, Standing, keyword_item, Operation, Function, apply, value_row, list_row, text_row, record_row, coexpression_row, first_world, words_row, Ending, Done, Exit, Errored, AtBound, number_of}
 pub use Rattle.icn_defs.specs.Running.{Observation, Launch}
 use Rattle.icn_defs.specs.Running.{after_steps, bound_report, files_written, with_errors}
@@ -391,12 +391,6 @@ abbrev pub pushed_or_fails : {K M : Type 0} → Calls K M → Option Item → M 
 pushed_or_fails C (Some item) m st = push_item C item m st
 pushed_or_fails C None m st = failing m st
 
--- an integer selects one of the arguments, or fails; what is no integer can't be called
-abbrev pub integer_called : {K M : Type 0} → Calls K M → Value → Option ℤ → List Item → M → Store K
-    → State K M
-integer_called C callee (Some n) items m st = pushed_or_fails C (choose_item n items) m st
-integer_called C callee None items m st = errs 106 (Some callee) m st
-
 -- What is called by a number: procedures are numbered before constructors, and these before functions.
 pub data Callee : Type 0 where
   IsProc : Procedure → Callee
@@ -435,10 +429,23 @@ callee_called C (IsFunc func) n items m st =
     outcome C (apply st.names (Function func) items (here C m st)) m st
 callee_called C IsNothing n items m st = errs 106 (Some (ProcedureValue n)) m st
 
--- a value is called with these arguments: a procedure, a record constructor or a function, or an integer
+-- a text calls what it names; what names nothing can't be called
+abbrev pub named_called : {K M : Type 0} → Calls K M → Program → Value → Option ℕ → List Item → M → Store K
+    → State K M
+named_called C P callee (Some n) items m st = callee_called C (callee_of P n) n items m st
+named_called C P callee None items m st = errs 106 (Some callee) m st
+
+-- an integer selects one of the arguments, or fails; what is no integer is called by name
+abbrev pub integer_called : {K M : Type 0} → Calls K M → Program → Value → Option ℤ → List Item → M → Store K
+    → State K M
+integer_called C P callee (Some n) items m st = pushed_or_fails C (choose_item n items) m st
+integer_called C P callee None items m st = named_called C P callee (named_by st.names callee) items m st
+
+-- A value is called with these arguments: a procedure, a record constructor or a function; an integer, or a text that converts to
+-- one; or what another text names.
 abbrev pub invoke_value : {K M : Type 0} → Calls K M → Program → Value → List Item → M → Store K → State K M
 invoke_value C P (ProcedureValue n) items m st = callee_called C (callee_of P n) n items m st
-invoke_value C P callee items m st = integer_called C callee (number_of callee) items m st
+invoke_value C P callee items m st = integer_called C P callee (number_of callee) items m st
 
 -- what is called stands below its arguments
 abbrev pub invoked_with : {K M : Type 0} → Calls K M → Program → List Item → M → Store K → State K M
@@ -721,12 +728,26 @@ proc_name tables entry = slice_index_or tables.strings entry.name []
 abbrev pub record_name : Tables → RecordType → List ℕ
 record_name tables entry = slice_index_or tables.strings entry.name []
 
--- the names of all procedures and record types of a code
-abbrev pub all_names : Tables → Names
-all_names tables = record {
+-- a procedure takes as many arguments as it has parameters; where the last one collects, it is told below 0
+abbrev pub proc_arguments : Procedure → ℤ
+proc_arguments entry = arguments_taken entry.parameters entry.collects
+
+-- a constructor takes as many arguments as its records have fields
+abbrev pub record_arguments : RecordType → ℤ
+record_arguments entry = pos (length entry.fields)
+
+-- the names of all procedures and record types of a code, where no text names these procedures
+abbrev pub names_hiding : List ℕ → Tables → Names
+names_hiding hidden tables = record {
   procedures = map (proc_name tables) tables.procs;
   records = map (record_name tables) tables.records;
+  arguments = map proc_arguments tables.procs ++ map record_arguments tables.records;
+  hidden = hidden;
 }
+
+-- the names of all procedures and record types of a code; a text names each of them
+abbrev pub all_names : Tables → Names
+all_names tables = names_hiding [] tables
 
 -- the store that a run begins with
 abbrev pub first_store : {K : Type 0} → Program → Launch → Store K
@@ -739,16 +760,6 @@ first_store P launch = record {
   active = 0;
   names = all_names P;
 }
-
--- the procedure that a global begins with
-abbrev pub procedure_at : Start → Option ℕ
-procedure_at (Starts.Procedure number) = Some number
-procedure_at start = None
-
--- the procedure that the global `main` begins with, if there is one
-abbrev pub main_of : Tables → Option ℕ
-main_of tables = option_and_then (λ (global : GlobalEntry). procedure_at global.start)
-    (find (λ global. bytes_eq (name_of tables.strings global) (codes "main")) tables.globals)
 
 -- `main` is called with a list of the words, whose texts are charged before it; the starting call is no turn
 abbrev pub begun_if : {K M : Type 0} → Calls K M → Bool → ℕ → Procedure → List Value → M → Store K → State K M
@@ -767,3 +778,12 @@ start_of C P words m st (Some main) = with_found (slice_get P.procs main) (λ (e
 -- where a run begins
 abbrev pub start : {K M : Type 0} → Calls K M → M → Program → Launch → State K M
 start C m P launch = start_of C P launch.words m (first_store P launch) (main_of P)
+
+-- the store that a run begins with in which no text names these procedures
+abbrev pub first_store_hiding : {K : Type 0} → Program → List ℕ → Launch → Store K
+first_store_hiding P hidden launch = record (first_store P launch) { names = names_hiding hidden P }
+
+-- where a run begins in which no text names these procedures
+abbrev pub start_hiding : {K M : Type 0} → Calls K M → M → Program → List ℕ → Launch → State K M
+start_hiding C m P hidden launch =
+    start_of C P launch.words m (first_store_hiding P hidden launch) (main_of P)

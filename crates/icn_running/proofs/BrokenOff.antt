@@ -1,5 +1,5 @@
 -- From what is said of the step that a fault or want of memory broke off to what is said of the whole run.
-use Rattle.std.proofs.Common.{◌≡◌, ◌∙◌, refl, sym, ap, subst, ℕ, zero, suc, List, [], ◌++◌, take, Some, None}
+use Rattle.std.proofs.Common.{◌≡◌, ◌∙◌, refl, sym, ap, subst, ℕ, zero, suc, List, ◌++◌, take, Some, None}
 use Rattle.std.specs.Prelude.{drop, map}
 use Rattle.icn_host.specs.Counts.{raised_count}
 use Rattle.icn_host.specs.FileMaps.{FileMap, StoreState}

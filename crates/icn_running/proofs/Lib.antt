@@ -13,3 +13,4 @@ mod EndedRuns
 mod EndsAtStart
 pub mod SettledEnds
 mod ReportedRuns
+pub mod CollectedMachines

@@ -6,3 +6,4 @@ pub mod PlainValues
 pub mod Reported
 pub mod Runs
 pub mod SettledEnds
+pub mod SameMachines

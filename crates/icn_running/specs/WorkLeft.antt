@@ -1,5 +1,5 @@
 -- How much of a run is left: it ends by its bound on turns, and between two turns by what is left to do.
-use Rattle.std.specs.Prelude.{◌<◌, ◌≤◌, ℕ, List, []}
+use Rattle.std.specs.Prelude.{◌<◌, ◌≤◌, ℕ, List}
 use Rattle.icn_value.specs.Store.{Outside, bare_outside}
 use Rattle.icn_code.specs.Codes.{Tables}
 use Rattle.icn_run.specs.Stacks.{Frames, flat}

@@ -1,6 +1,7 @@
 //! The run of verified code, with its reports.
 #![tactic(auto)]
 
+mod collecting;
 mod endings;
 mod fault;
 mod launching;

@@ -9,6 +9,7 @@ ghost use Rattle.icn_machine.specs.AfterInstruction.{stage_of, stage_result};
 ghost use Rattle.icn_running.specs.WorkLeft.{Lasts, MadeTurn};
 ghost use Rattle.icn_running.specs.DueInstructions.{is_on, is_within};
 
+use crate::collecting::{FIRST_BOUND, collect_if_due};
 use icn_control::Machine;
 use icn_frames::{Cell, Stack};
 use icn_machine::{AfterStep, Rooms, step};
@@ -56,7 +57,9 @@ pub fn run_on<K: Stack<Cell> + Drop, S: Streams>(
     ensures limits { m.new.limits ≡ m.old.limits }
 {
     let mut stepped = AfterStep::Running;
+    let mut bound = FIRST_BOUND;
     while is_on(stepped) {
+        collect_if_due(m, &mut bound);
         stepped = run_to_turn(m, code, rooms, streams)?;
     }
     Ok(stepped)

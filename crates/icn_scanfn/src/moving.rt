@@ -5,15 +5,15 @@ ghost use Rattle.icn_value.specs.Store.{Outside};
 ghost use Rattle.icn_defs.specs.Scanning.{move_row, plain_position, pos_row, tab_row};
 ghost use Rattle.icn_heap.specs.Extents.{IsLive, text_in, value_in};
 ghost use Rattle.icn_heap.specs.Heaps.{extent_of};
-ghost use Rattle.icn_vars.specs.Outcomes.{IsLiveAnswer, IsLiveOutcome, outcome_in};
+ghost use Rattle.icn_vars.specs.Outcomes.{IsLiveAnswer, IsLiveOutcome, answer_of, outcome_in, outcome_of};
 ghost use Rattle.icn_vars.specs.Worlds.{AreLiveArguments, KeepsLive, reach_of, setting_of};
 ghost use Rattle.icn_args.specs.RowWords.{Answers};
 ghost use Rattle.icn_scanfn.specs.Moves.{moves_by, tabs_by, tests_position};
 
 use icn_args::{arg, integer_of, tab_to};
 use icn_heap::short_text;
-use icn_value::{Item, Val};
-use icn_vars::{Halt, Locals, Outcome, World, position_of};
+use icn_value::Val;
+use icn_vars::{Halt, Locals, Outcome, ValueOutcome, World, position_of};
 
 /// `tab(i)`: moves to a position of the subject, and gives the bytes between it and the old place; it fails where the position is
 /// out of range. The error is 101.
@@ -99,32 +99,32 @@ fn moved_place(place: u64, n: i64, size: u64) -> Option<u64>
 }
 
 /// `pos(i)`: the place of the position, where a position of the subject means it; else it fails. The error is 101.
-pub fn pos_row<L: Locals>(w: &World, l: &L, args: &[Val]) -> Result<Outcome, Halt>
+pub fn pos_row<L: Locals>(w: &World, l: &L, args: &[Val]) -> Result<ValueOutcome, Halt>
     requires args { All (IsLive (extent_of w.now.heap)) args.now }
     ensures row { Answers w.now (L.items l.now) w.now (L.items l.now)
-        (pos_row (map (value_in (extent_of w.now.heap)) args.now)) result }
-    ensures live { IsLiveAnswer (reach_of w.now (L.items l.now)) result }
+        (pos_row (map (value_in (extent_of w.now.heap)) args.now)) (answer_of result) }
+    ensures live { IsLiveAnswer (reach_of w.now (L.items l.now)) (answer_of result) }
 {
     let n = integer_of(&w.heap, arg(args, 0))?;
     Ok(position_tested(w, l, n))
 }
 
 // The place of the position, where this position means it.
-fn position_tested<L: Locals>(w: &World, _l: &L, n: i64) -> Outcome
+fn position_tested<L: Locals>(w: &World, _l: &L, n: i64) -> ValueOutcome
     ensures row { (outside : Outside) → tests_position n (setting_of outside w.now (L.items _l.now))
-        ≡ outcome_in (extent_of w.now.heap) result (setting_of outside w.now (L.items _l.now)) }
-    ensures live { IsLiveOutcome (reach_of w.now (L.items _l.now)) result }
+        ≡ outcome_in (extent_of w.now.heap) (outcome_of result) (setting_of outside w.now (L.items _l.now)) }
+    ensures live { IsLiveOutcome (reach_of w.now (L.items _l.now)) (outcome_of result) }
 {
     short_text(&w.heap, w.pair.subject);
     let size = w.heap.bytes(w.pair.subject).len() as u64;
     match position_of(n, size) {
         Some(place) => {
             if place == w.pair.position {
-                Outcome::Gives(Item::Val(Val::Integer(place as i64)))
+                ValueOutcome::Gives(Val::Integer(place as i64))
             } else {
-                Outcome::Fails
+                ValueOutcome::Fails
             }
         }
-        None => Outcome::Fails,
+        None => ValueOutcome::Fails,
     }
 }

@@ -5,7 +5,7 @@ ghost use Rattle.icn_value.specs.Store.{Outside, Setting};
 ghost use Rattle.icn_defs.specs.Scanning.{any_row, byte_behind, gives_position, many_row, match_row};
 ghost use Rattle.icn_heap.specs.Extents.{Extent, IsText, text_in, value_in};
 ghost use Rattle.icn_heap.specs.Heaps.{extent_of};
-ghost use Rattle.icn_vars.specs.Outcomes.{IsLiveAnswer, IsLiveOutcome, outcome_in};
+ghost use Rattle.icn_vars.specs.Outcomes.{IsLiveAnswer, IsLiveOutcome, answer_of, outcome_in, outcome_of};
 ghost use Rattle.icn_vars.specs.Worlds.{AreLiveArguments, KeepsLive, Reach, reach_of};
 ghost use Rattle.icn_args.specs.RowWords.{Answers};
 ghost use Rattle.icn_scanfn.specs.Regions.{searched_in};
@@ -16,16 +16,16 @@ use crate::searches::{cset_search, text_search};
 use crate::searching::run_length;
 use icn_args::stands;
 use icn_heap::{Heap, short_text};
-use icn_value::{Cset, Item, Span, Val};
-use icn_vars::{Halt, Locals, Outcome, World};
+use icn_value::{Cset, Span, Val};
+use icn_vars::{Halt, Locals, ValueOutcome, World};
 
 /// `any(c, s, i, j)`: the place behind the first byte of a part of a text, where that byte is of the cset; else it fails. The errors
 /// are 104, 103, 101, 306 and want of memory.
-pub fn any_row<L: Locals>(w: &mut World, l: &L, args: &[Val]) -> Result<Outcome, Halt>
+pub fn any_row<L: Locals>(w: &mut World, l: &L, args: &[Val]) -> Result<ValueOutcome, Halt>
     requires live { AreLiveArguments w.old (L.items l.now) args.now }
     ensures row { Answers w.old (L.items l.now) w.new (L.items l.now)
-        (any_row (map (value_in (extent_of w.old.heap)) args.now)) result }
-    ensures live { IsLiveAnswer (reach_of w.new (L.items l.now)) result }
+        (any_row (map (value_in (extent_of w.old.heap)) args.now)) (answer_of result) }
+    ensures live { IsLiveAnswer (reach_of w.new (L.items l.now)) (answer_of result) }
     ensures kept { KeepsLive w.old (L.items l.now) w.new (L.items l.now) }
 {
     let (wanted, searched) = cset_search(w, l, args)?;
@@ -33,12 +33,12 @@ pub fn any_row<L: Locals>(w: &mut World, l: &L, args: &[Val]) -> Result<Outcome,
 }
 
 // The place behind the first byte, where it is of the cset.
-fn any_in(heap: &Heap, wanted: &Cset, searched: Searched) -> Outcome
+fn any_in(heap: &Heap, wanted: &Cset, searched: Searched) -> ValueOutcome
     requires { IsText (extent_of heap.now) searched.text }
     ensures row { (setting : Setting)
         → any_in (members_of wanted.now) (searched_in (extent_of heap.now) searched) setting
-        ≡ outcome_in (extent_of heap.now) result setting }
-    ensures live { (reach : Reach) → IsLiveOutcome reach result }
+        ≡ outcome_in (extent_of heap.now) (outcome_of result) setting }
+    ensures live { (reach : Reach) → IsLiveOutcome reach (outcome_of result) }
 {
     short_text(heap, searched.text);
     match ends_of(heap, searched) {
@@ -46,10 +46,10 @@ fn any_in(heap: &Heap, wanted: &Cset, searched: Searched) -> Outcome
             if has_behind(wanted, heap.bytes(searched.text), from, to) {
                 place_given(from + 1)
             } else {
-                Outcome::Fails
+                ValueOutcome::Fails
             }
         }
-        None => Outcome::Fails,
+        None => ValueOutcome::Fails,
     }
 }
 
@@ -66,11 +66,11 @@ fn has_behind(wanted: &Cset, text: &[u8], from: u64, to: u64) -> bool
 
 /// `many(c, s, i, j)`: the place behind all bytes of the cset with which a part of a text begins; it fails where there are none. The
 /// errors are 104, 103, 101, 306 and want of memory.
-pub fn many_row<L: Locals>(w: &mut World, l: &L, args: &[Val]) -> Result<Outcome, Halt>
+pub fn many_row<L: Locals>(w: &mut World, l: &L, args: &[Val]) -> Result<ValueOutcome, Halt>
     requires live { AreLiveArguments w.old (L.items l.now) args.now }
     ensures row { Answers w.old (L.items l.now) w.new (L.items l.now)
-        (many_row (map (value_in (extent_of w.old.heap)) args.now)) result }
-    ensures live { IsLiveAnswer (reach_of w.new (L.items l.now)) result }
+        (many_row (map (value_in (extent_of w.old.heap)) args.now)) (answer_of result) }
+    ensures live { IsLiveAnswer (reach_of w.new (L.items l.now)) (answer_of result) }
     ensures kept { KeepsLive w.old (L.items l.now) w.new (L.items l.now) }
 {
     let (wanted, searched) = cset_search(w, l, args)?;
@@ -78,12 +78,12 @@ pub fn many_row<L: Locals>(w: &mut World, l: &L, args: &[Val]) -> Result<Outcome
 }
 
 // The place behind the first bytes that are of the cset.
-fn many_in(heap: &Heap, wanted: &Cset, searched: Searched) -> Outcome
+fn many_in(heap: &Heap, wanted: &Cset, searched: Searched) -> ValueOutcome
     requires { IsText (extent_of heap.now) searched.text }
     ensures row { (setting : Setting)
         → many_in (members_of wanted.now) (searched_in (extent_of heap.now) searched) setting
-        ≡ outcome_in (extent_of heap.now) result setting }
-    ensures live { (reach : Reach) → IsLiveOutcome reach result }
+        ≡ outcome_in (extent_of heap.now) (outcome_of result) setting }
+    ensures live { (reach : Reach) → IsLiveOutcome reach (outcome_of result) }
 {
     short_text(heap, searched.text);
     match ends_of(heap, searched) {
@@ -92,20 +92,20 @@ fn many_in(heap: &Heap, wanted: &Cset, searched: Searched) -> Outcome
             if count > 0 {
                 place_given(from + count)
             } else {
-                Outcome::Fails
+                ValueOutcome::Fails
             }
         }
-        None => Outcome::Fails,
+        None => ValueOutcome::Fails,
     }
 }
 
 /// `match(s1, s, i, j)`: the place behind a text with which a part of another one begins; it fails where that begins otherwise. The
 /// errors are 103, 101, 306 and want of memory.
-pub fn match_row<L: Locals>(w: &mut World, l: &L, args: &[Val]) -> Result<Outcome, Halt>
+pub fn match_row<L: Locals>(w: &mut World, l: &L, args: &[Val]) -> Result<ValueOutcome, Halt>
     requires live { AreLiveArguments w.old (L.items l.now) args.now }
     ensures row { Answers w.old (L.items l.now) w.new (L.items l.now)
-        (match_row (map (value_in (extent_of w.old.heap)) args.now)) result }
-    ensures live { IsLiveAnswer (reach_of w.new (L.items l.now)) result }
+        (match_row (map (value_in (extent_of w.old.heap)) args.now)) (answer_of result) }
+    ensures live { IsLiveAnswer (reach_of w.new (L.items l.now)) (answer_of result) }
     ensures kept { KeepsLive w.old (L.items l.now) w.new (L.items l.now) }
 {
     let (wanted, searched) = text_search(w, l, args)?;
@@ -113,13 +113,13 @@ pub fn match_row<L: Locals>(w: &mut World, l: &L, args: &[Val]) -> Result<Outcom
 }
 
 // The place behind a text that stands at the first place.
-fn match_in(heap: &Heap, wanted: Span, searched: Searched) -> Outcome
+fn match_in(heap: &Heap, wanted: Span, searched: Searched) -> ValueOutcome
     requires wanted { IsText (extent_of heap.now) wanted }
     requires text { IsText (extent_of heap.now) searched.text }
     ensures row { (setting : Setting)
         → match_in (text_in (extent_of heap.now) wanted) (searched_in (extent_of heap.now) searched) setting
-        ≡ outcome_in (extent_of heap.now) result setting }
-    ensures live { (reach : Reach) → IsLiveOutcome reach result }
+        ≡ outcome_in (extent_of heap.now) (outcome_of result) setting }
+    ensures live { (reach : Reach) → IsLiveOutcome reach (outcome_of result) }
 {
     short_text(heap, searched.text);
     let bytes = heap.bytes(wanted);
@@ -128,19 +128,19 @@ fn match_in(heap: &Heap, wanted: Span, searched: Searched) -> Outcome
             if stands(bytes, heap.bytes(searched.text), from, to) {
                 place_given(from + bytes.len() as u64)
             } else {
-                Outcome::Fails
+                ValueOutcome::Fails
             }
         }
-        None => Outcome::Fails,
+        None => ValueOutcome::Fails,
     }
 }
 
 // A place as what a row gives.
-fn place_given(place: u64) -> Outcome
+fn place_given(place: u64) -> ValueOutcome
     requires { place < 2 ^ 63 }
     ensures row { (all : Extent) (setting : Setting)
-        → gives_position place setting ≡ outcome_in all result setting }
-    ensures live { (reach : Reach) → IsLiveOutcome reach result }
+        → gives_position place setting ≡ outcome_in all (outcome_of result) setting }
+    ensures live { (reach : Reach) → IsLiveOutcome reach (outcome_of result) }
 {
-    Outcome::Gives(Item::Val(Val::Integer(place as i64)))
+    ValueOutcome::Gives(Val::Integer(place as i64))
 }

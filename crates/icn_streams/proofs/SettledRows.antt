@@ -330,23 +330,23 @@ module _ (row : Row) (quiet : KeepsHistory row) (w : World) (locals : List Val) 
       subst (λ h. Applies row (call_state w locals a) (call_state w locals b) (Err h)) (sym same) (stops_settling a b halt stops live)
 
 -- only an output that failed, or that wanted memory, was not settled
-stops_unsettled : (a b : CallStreams) (halt : Halt) (output errors : ℕ) → Settles {A = Unit {0}} a b (Err halt)
-    → IsSettled {A = Outcome} (Err halt) output errors
-stops_unsettled a b (ErrorHalt number offending) output errors stops = absurd stops
-stops_unsettled a b (EndsHalt status) output errors stops = absurd stops
-stops_unsettled a b ReadFault output errors stops = absurd stops
-stops_unsettled a b WriteFault output errors stops = tt
-stops_unsettled a b FileFault output errors stops = absurd stops
-stops_unsettled a b NoMemory output errors stops = tt
+stops_unsettled : (A : Type 0) (a b : CallStreams) (halt : Halt) (output errors : ℕ) → Settles {A = Unit {0}} a b (Err halt)
+    → IsSettled {A = A} (Err halt) output errors
+stops_unsettled A a b (ErrorHalt number offending) output errors stops = absurd stops
+stops_unsettled A a b (EndsHalt status) output errors stops = absurd stops
+stops_unsettled A a b ReadFault output errors stops = absurd stops
+stops_unsettled A a b WriteFault output errors stops = tt
+stops_unsettled A a b FileFault output errors stops = absurd stops
+stops_unsettled A a b NoMemory output errors stops = tt
 
-pub unsettled_stops : (a b : CallStreams) (halt : Halt) (result : Result Outcome Halt) (output errors : ℕ)
+pub unsettled_stops : {A : Type 0} (a b : CallStreams) (halt : Halt) (result : Result A Halt) (output errors : ℕ)
     → IsErrAnd result (λ other. other ≡ halt) → Settles {A = Unit {0}} a b (Err halt) → IsSettled result output errors
 unsettled_stops a b halt (Ok outcome) output errors same stops = absurd same
-unsettled_stops a b halt (Err other) output errors same stops =
-    subst (λ h. IsSettled {A = Outcome} (Err h) output errors) (sym same) (stops_unsettled a b halt output errors stops)
+unsettled_stops {A} a b halt (Err other) output errors same stops =
+    subst (λ h. IsSettled {A = A} (Err h) output errors) (sym same) (stops_unsettled A a b halt output errors stops)
 
 -- what read behind a settling leaves nothing pending
-pub settled_where_read : (result : Result Outcome Halt) (output errors : ℕ) → IsSettled result output errors
+pub settled_where_read : {A : Type 0} (result : Result A Halt) (output errors : ℕ) → IsSettled result output errors
     → IsSettledWhereRead result output errors
 settled_where_read (Ok outcome) output errors is = is
 settled_where_read (Err (ErrorHalt number offending)) output errors is = tt
@@ -357,15 +357,15 @@ settled_where_read (Err FileFault) output errors is = is
 settled_where_read (Err NoMemory) output errors is = tt
 
 -- a row that stopped before it read
-unread_stops : (stop : Stop) (output errors : ℕ) → IsSettledWhereRead {A = Outcome} (Err (halt_of stop)) output errors
-unread_stops (ErrorStop number offending) output errors = tt
-unread_stops NoMemoryStop output errors = tt
+unread_stops : (A : Type 0) (stop : Stop) (output errors : ℕ) → IsSettledWhereRead {A = A} (Err (halt_of stop)) output errors
+unread_stops A (ErrorStop number offending) output errors = tt
+unread_stops A NoMemoryStop output errors = tt
 
-pub settled_unread : (stop : Stop) (result : Result Outcome Halt) (output errors : ℕ) → IsErrAnd result (λ halt. halt ≡ halt_of stop)
+pub settled_unread : {A : Type 0} (stop : Stop) (result : Result A Halt) (output errors : ℕ) → IsErrAnd result (λ halt. halt ≡ halt_of stop)
     → IsSettledWhereRead result output errors
 settled_unread stop (Ok outcome) output errors same = absurd same
-settled_unread stop (Err halt) output errors same =
-    subst (λ h. IsSettledWhereRead {A = Outcome} (Err h) output errors) (sym same) (unread_stops stop output errors)
+settled_unread {A} stop (Err halt) output errors same =
+    subst (λ h. IsSettledWhereRead {A = A} (Err h) output errors) (sym same) (unread_stops A stop output errors)
 
 -- Settling one sink, and then the other
 

@@ -14,23 +14,25 @@ use Rattle.icn_value.specs.declared.val.Val.{Val}
 use Rattle.icn_value.specs.Store.{Heap}
 use Rattle.icn_defs.specs.Rows.{builds}
 use Rattle.icn_defs.specs.Strings.{center_text, filling_text, left_text, right_text}
-use Rattle.icn_vars.specs.declared.stop.Stop.{Stop}
+use Rattle.icn_vars.specs.declared.outcome.Halt.{Halt}
+use Rattle.icn_vars.specs.declared.outcome.ValueOutcome.{ValueOutcome}
 use Rattle.icn_vars.specs.declared.world.World.{World}
-use Rattle.icn_args.specs.declared.value_outcome.ValueOutcome.{ValueOutcome}
+use Rattle.icn_vars.specs.Outcomes.{answer_of}
+use Rattle.icn_args.specs.RowWords.{Answers}
 use Rattle.icn_strfn.specs.declared.layouts.Field.{Field}
 use Rattle.icn_strfn.specs.declared.text_arguments.DefaultText.{DefaultText}
 use Rattle.icn_strfn.specs.declared.text_arguments.DefaultText.TheVariants.{Blank, Upper, Lower}
 use Rattle.icn_strfn.specs.Layouts.{in_field}
-use Rattle.icn_strfn.specs.Stopping.{Gives, RefusesFirst}
+use Rattle.icn_strfn.specs.Stopping.{RefusesFirst}
 use Rattle.icn_strfn.specs.TextArguments.{default_bytes}
 
 -- A row and a limit, of the same bytes
 
-pub gives_as : (old new : World) (locals : List Val) (one other : List ℕ) (result : Result ValueOutcome Stop) → one ≡ other
-    → Gives old new locals (builds one) result → Gives old new locals (builds other) result
-gives_as old new locals one other result same is = subst (λ bytes. Gives old new locals (builds bytes) result) same is
+pub gives_as : (old new : World) (locals : List Val) (one other : List ℕ) (result : Result ValueOutcome Halt) → one ≡ other
+    → Answers old locals new locals (builds one) (answer_of result) → Answers old locals new locals (builds other) (answer_of result)
+gives_as old new locals one other result same is = subst (λ bytes. Answers old locals new locals (builds bytes) (answer_of result)) same is
 
-pub refuses_as : (heap : Heap) (one other : List ℕ) (result : Result ValueOutcome Stop) → one ≡ other → RefusesFirst heap one result
+pub refuses_as : (heap : Heap) (one other : List ℕ) (result : Result ValueOutcome Halt) → one ≡ other → RefusesFirst heap one result
     → RefusesFirst heap other result
 refuses_as heap one other result same is = subst (λ bytes. RefusesFirst heap bytes result) same is
 

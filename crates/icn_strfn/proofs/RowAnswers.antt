@@ -1,5 +1,5 @@
 -- What rows come to, from what their parts come to.
-use Rattle.std.proofs.Common.{◌≡◌, ◌∙◌, sym, ap, subst, ℕ, List, Result, Ok, Err}
+use Rattle.std.proofs.Common.{◌≡◌, sym, ap, subst, ℕ, List, Result, Ok, Err}
 use Rattle.std.specs.Prelude.{IsErrAnd}
 use Rattle.std.specs.List.{All}
 use Rattle.icn_value.specs.declared.item.Pair.{Pair}
@@ -14,37 +14,25 @@ use Rattle.icn_vars.specs.declared.words.Words.{Words}
 use Rattle.icn_vars.specs.WorldFacts.{IsSoundWorld}
 use Rattle.icn_vars.specs.declared.stop.Stop.{Stop}
 use Rattle.icn_vars.specs.declared.stop.Stop.TheVariants.{Error, NoMemory}
-use Rattle.icn_vars.specs.Stops.{StopsPassing}
+use Rattle.icn_vars.specs.declared.outcome.Halt.{Halt}
+use Rattle.icn_vars.specs.declared.outcome.ValueOutcome.{ValueOutcome}
+use Rattle.icn_vars.specs.Outcomes.{ComesToAnswer, HaltsRow, answer_of}
+use Rattle.icn_vars.specs.Stops.{StopsPassing, halt_of}
 use Rattle.icn_vars.proofs.GrowingWorlds.{heap_changed, setting_over}
 use Rattle.icn_strfn.specs.Checks.{StopsRow}
-use Rattle.icn_args.specs.declared.value_outcome.ValueOutcome.{ValueOutcome}
-use Rattle.icn_strfn.specs.Stopping.{ComesToOutcome}
-
--- what was answered is this stop
-comes_same : (all : Extent) (row : Row) (before after : Setting) (stop : Stop) (result : Result ValueOutcome Stop) → IsErrAnd result (λ other. other ≡ stop)
-    → (let r : Result ValueOutcome Stop = Err stop in ComesToOutcome all row before after r) → ComesToOutcome all row before after result
-comes_same all row before after stop (Ok given) same is = absurd same
-comes_same all row before after stop (Err other) same is =
-    subst (λ (why : Stop). let r : Result ValueOutcome Stop = Err why in ComesToOutcome all row before after r) (sym same) is
+use Rattle.icn_args.proofs.RowAnswers.{answer_then, value_row_stops_at}
 
 -- the row goes on as another one, of which this is the answer
-pub row_goes_on : (all : Extent) (row rest : Row) (before between after : Setting) (result : Result ValueOutcome Stop) → row before ≡ rest between
-    → ComesToOutcome all rest between after result → ComesToOutcome all row before after result
-row_goes_on all row rest before between after (Ok given) same is = same ∙ is
-row_goes_on all row rest before between after (Err (Error number offending)) same is = same ∙ is
-row_goes_on all row rest before between after (Err NoMemory) same is = tt
-
-stopped_with : (all : Extent) (row : Row) (part : Row → Row) (next : Row) (before between after : Setting) (stop : Stop) → row before ≡ part next between
-    → StopsPassing all part between after stop → (let r : Result ValueOutcome Stop = Err stop in ComesToOutcome all row before after r)
-stopped_with all row part next before between after (Error number offending) reads is = reads ∙ is next
-stopped_with all row part next before between after NoMemory reads is = tt
+pub row_goes_on : (all : Extent) (row rest : Row) (before between after : Setting) (result : Result ValueOutcome Halt) → row before ≡ rest between
+    → ComesToAnswer all rest between after (answer_of result) → ComesToAnswer all row before after (answer_of result)
+row_goes_on all row rest before between after result same is = answer_then all row rest before between after (answer_of result) same is
 
 -- the row goes on as far as a part, where it stops
-pub row_stops_at : (all : Extent) (row : Row) (part : Row → Row) (next : Row) (before between after : Setting) (stop : Stop) (result : Result ValueOutcome Stop)
-    → row before ≡ part next between → IsErrAnd result (λ other. other ≡ stop) → StopsPassing all part between after stop
-    → ComesToOutcome all row before after result
+pub row_stops_at : (all : Extent) (row : Row) (part : Row → Row) (next : Row) (before between after : Setting) (stop : Stop) (result : Result ValueOutcome Halt)
+    → row before ≡ part next between → IsErrAnd result (λ halt. halt ≡ halt_of stop) → StopsPassing all part between after stop
+    → ComesToAnswer all row before after (answer_of result)
 row_stops_at all row part next before between after stop result reads same is =
-    comes_same all row before after stop result same (stopped_with all row part next before between after stop reads is)
+    row_goes_on all row (part next) before between after result reads (value_row_stops_at all part next between after stop result same is)
 
 -- a text is given
 pub gives_text : (row : Row) (before after : Setting) (bytes made : List ℕ) → row before ≡ gives_value (Text bytes) after → made ≡ bytes
@@ -60,13 +48,12 @@ pub holds_text : (outside : Outside) (old new : HeldHeap) (pair : Pair) (words :
 holds_text outside old new pair words globals statics locals bytes made keeps same sound live is =
     rw is (ap (gives_value (Text bytes)) (heap_changed outside old new pair words globals statics locals keeps same sound live))
 
-so_stopped : (all : Extent) (row : Row) (setting : Setting) (stop : Stop) → StopsRow all row setting stop → (let r : Result ValueOutcome Stop = Err stop in
-    ComesToOutcome all row setting setting r)
+so_stopped : (all : Extent) (row : Row) (setting : Setting) (stop : Stop) → StopsRow all row setting stop → HaltsRow all row setting setting (halt_of stop)
 so_stopped all row setting (Error number offending) is = is
 so_stopped all row setting NoMemory is = tt
 
 -- a check stopped the row
-pub stops_so : (all : Extent) (row : Row) (setting : Setting) (stop : Stop) (result : Result ValueOutcome Stop) → IsErrAnd result (λ other. other ≡ stop)
-    → StopsRow all row setting stop
-    → ComesToOutcome all row setting setting result
-stops_so all row setting stop result same is = comes_same all row setting setting stop result same (so_stopped all row setting stop is)
+pub stops_so : (all : Extent) (row : Row) (setting : Setting) (stop : Stop) (result : Result ValueOutcome Halt)
+    → IsErrAnd result (λ halt. halt ≡ halt_of stop) → StopsRow all row setting stop → ComesToAnswer all row setting setting (answer_of result)
+stops_so all row setting stop (Ok given) same is = absurd same
+stops_so all row setting stop (Err halt) same is = subst (HaltsRow all row setting setting) (sym same) (so_stopped all row setting stop is)

@@ -7,12 +7,14 @@ ghost use Rattle.icn_defs.specs.Arguments.{arg};
 ghost use Rattle.icn_defs.specs.Strings.{field_row, map_row};
 ghost use Rattle.icn_heap.specs.Extents.{IsLive, value_in};
 ghost use Rattle.icn_heap.specs.Heaps.{extent_of};
+ghost use Rattle.icn_vars.specs.Outcomes.{IsLiveAnswer, answer_of};
 ghost use Rattle.icn_vars.specs.Assignments.{IsError};
 ghost use Rattle.icn_vars.specs.Stops.{IsLiveStop};
 ghost use Rattle.icn_vars.specs.Worlds.{AreLiveArguments, KeepsLive, reach_of};
+ghost use Rattle.icn_args.specs.RowWords.{Answers};
 ghost use Rattle.icn_strfn.specs.Checks.{IsField, IsMapping, StopsRow};
 ghost use Rattle.icn_strfn.specs.Layouts.{laid_out};
-ghost use Rattle.icn_strfn.specs.Stopping.{Gives, IsLiveGiven, LimitsRow};
+ghost use Rattle.icn_strfn.specs.Stopping.{LimitsRow};
 ghost use Rattle.icn_strfn.specs.declared.layouts.Layout.{Layout as LayoutData};
 
 use crate::defaults::or_one;
@@ -22,11 +24,11 @@ use crate::new_texts::{build_laid_out, build_mapped};
 use crate::text_arguments::{
     DefaultText, argument_len, lacks_argument, lacks_text, text_argument, two_texts,
 };
-use icn_args::{ValueOutcome, arg};
+use icn_args::arg;
 use icn_convert::to_integer;
 use icn_heap::Heap;
 use icn_value::Val;
-use icn_vars::{Locals, Stop, World};
+use icn_vars::{Halt, Locals, Stop, ValueOutcome, World};
 
 /// `left(s, i, s2)`, `right` and `center`: a text in a field of `i` bytes, 1 where it is null, filled with `s2`, a blank where it is
 /// null; or error 103 or 101; 205 where `i` is below 0. Others are 306 and want of memory.
@@ -36,15 +38,15 @@ pub fn field_row<L: Locals>(
     l: &L,
     layout: Layout,
     args: &[Val],
-) -> Result<ValueOutcome, Stop>
+) -> Result<ValueOutcome, Halt>
     requires live { AreLiveArguments w.old (L.items l.now) args.now }
-    ensures row { Gives w.old w.new (L.items l.now)
-        (field_row (laid_out layout) (map (value_in (extent_of w.old.heap)) args.now)) result }
+    ensures row { Answers w.old (L.items l.now) w.new (L.items l.now)
+        (field_row (laid_out layout) (map (value_in (extent_of w.old.heap)) args.now)) (answer_of result) }
     ensures limits { MakesNoText (arg (map (value_in (extent_of w.old.heap)) args.now) 0)
         → MakesNoText (arg (map (value_in (extent_of w.old.heap)) args.now) 2)
         → LimitsRow w.old (L.items l.now)
         (field_row (laid_out layout) (map (value_in (extent_of w.old.heap)) args.now)) result }
-    ensures live { IsLiveGiven (reach_of w.new (L.items l.now)) result }
+    ensures live { IsLiveAnswer (reach_of w.new (L.items l.now)) (answer_of result) }
     ensures kept { KeepsLive w.old (L.items l.now) w.new (L.items l.now) }
 {
     let width = checked_width(&w.heap, args)?;
@@ -86,15 +88,15 @@ fn checked_width(heap: &Heap, args: &[Val]) -> Result<u64, Stop>
 /// `map(s1, s2, s3)`: a text whose bytes in `s2`, the capital letters where it is null, become those at their last places in `s3`,
 /// the small letters where it is null; or error 103; 208 where the two differ in length. Others are 306 and want of memory.
 #[tactic(auto, using(icn_vars::proofs::KeptItems::keeps_items_refl))]
-pub fn map_row<L: Locals>(w: &mut World, l: &L, args: &[Val]) -> Result<ValueOutcome, Stop>
+pub fn map_row<L: Locals>(w: &mut World, l: &L, args: &[Val]) -> Result<ValueOutcome, Halt>
     requires live { AreLiveArguments w.old (L.items l.now) args.now }
-    ensures row { Gives w.old w.new (L.items l.now)
-        (map_row (map (value_in (extent_of w.old.heap)) args.now)) result }
+    ensures row { Answers w.old (L.items l.now) w.new (L.items l.now)
+        (map_row (map (value_in (extent_of w.old.heap)) args.now)) (answer_of result) }
     ensures limits { MakesNoText (arg (map (value_in (extent_of w.old.heap)) args.now) 0)
         → MakesNoText (arg (map (value_in (extent_of w.old.heap)) args.now) 1)
         → MakesNoText (arg (map (value_in (extent_of w.old.heap)) args.now) 2)
         → LimitsRow w.old (L.items l.now) (map_row (map (value_in (extent_of w.old.heap)) args.now)) result }
-    ensures live { IsLiveGiven (reach_of w.new (L.items l.now)) result }
+    ensures live { IsLiveAnswer (reach_of w.new (L.items l.now)) (answer_of result) }
     ensures kept { KeepsLive w.old (L.items l.now) w.new (L.items l.now) }
 {
     checked_mapping(&w.heap, args)?;

@@ -5,9 +5,11 @@ ghost use Rattle.icn_defs.specs.Rows.{builds};
 ghost use Rattle.icn_defs.specs.Strings.{map_byte};
 ghost use Rattle.icn_heap.specs.Extents.{IsLive, IsText, text_in};
 ghost use Rattle.icn_heap.specs.Heaps.{extent_of, heap_of};
+ghost use Rattle.icn_vars.specs.Outcomes.{IsLiveAnswer, answer_of};
 ghost use Rattle.icn_vars.specs.Worlds.{KeepsLive, reach_of};
+ghost use Rattle.icn_args.specs.RowWords.{Answers};
 ghost use Rattle.icn_strfn.specs.Layouts.{laid_out};
-ghost use Rattle.icn_strfn.specs.Stopping.{Gives, IsLiveGiven, RefusesFirst};
+ghost use Rattle.icn_strfn.specs.Stopping.{RefusesFirst};
 ghost use Rattle.icn_strfn.specs.TextArguments.{IsArgument, argument_bytes};
 
 use crate::endings::build_pieces;
@@ -15,21 +17,20 @@ use crate::layouts::{Layout, field_of};
 use crate::mapping::{bytes_are_small, images};
 use crate::origins::{filling, held};
 use crate::text_arguments::TextArgument;
-use icn_args::ValueOutcome;
 use icn_heap::length_of_text;
 use icn_strings::StringPiece;
 use icn_value::Span;
-use icn_vars::{Locals, Stop, World};
+use icn_vars::{Halt, Locals, ValueOutcome, World};
 
 /// A text from its end to its start, which is charged. The errors are 306, before it is made, and want of memory.
-pub fn build_reversed<L: Locals>(w: &mut World, l: &L, span: Span) -> Result<ValueOutcome, Stop>
+pub fn build_reversed<L: Locals>(w: &mut World, l: &L, span: Span) -> Result<ValueOutcome, Halt>
     requires locals { All (IsLive (extent_of w.old.heap)) (L.items l.now) }
     requires text { IsText (extent_of w.old.heap) span }
-    ensures row { Gives w.old w.new (L.items l.now)
-        (builds (reverse (text_in (extent_of w.old.heap) span))) result }
+    ensures row { Answers w.old (L.items l.now) w.new (L.items l.now)
+        (builds (reverse (text_in (extent_of w.old.heap) span))) (answer_of result) }
     ensures limits { RefusesFirst (heap_of w.old.heap) (reverse (text_in (extent_of w.old.heap) span))
         result }
-    ensures live { IsLiveGiven (reach_of w.new (L.items l.now)) result }
+    ensures live { IsLiveAnswer (reach_of w.new (L.items l.now)) (answer_of result) }
     ensures kept { KeepsLive w.old (L.items l.now) w.new (L.items l.now) }
 {
     build_pieces(w, l, &[StringPiece::Reversed(held(span))])
@@ -41,14 +42,14 @@ pub fn build_repeated<L: Locals>(
     l: &L,
     span: Span,
     count: u64,
-) -> Result<ValueOutcome, Stop>
+) -> Result<ValueOutcome, Halt>
     requires locals { All (IsLive (extent_of w.old.heap)) (L.items l.now) }
     requires text { IsText (extent_of w.old.heap) span }
-    ensures row { Gives w.old w.new (L.items l.now)
-        (builds (concat (replicate count (text_in (extent_of w.old.heap) span)))) result }
+    ensures row { Answers w.old (L.items l.now) w.new (L.items l.now)
+        (builds (concat (replicate count (text_in (extent_of w.old.heap) span)))) (answer_of result) }
     ensures limits { RefusesFirst (heap_of w.old.heap)
         (concat (replicate count (text_in (extent_of w.old.heap) span))) result }
-    ensures live { IsLiveGiven (reach_of w.new (L.items l.now)) result }
+    ensures live { IsLiveAnswer (reach_of w.new (L.items l.now)) (answer_of result) }
     ensures kept { KeepsLive w.old (L.items l.now) w.new (L.items l.now) }
 {
     build_pieces(w, l, &[StringPiece::Copies(held(span), count)])
@@ -62,15 +63,15 @@ pub fn build_laid_out<L: Locals>(
     span: Span,
     width: u64,
     fill: TextArgument,
-) -> Result<ValueOutcome, Stop>
+) -> Result<ValueOutcome, Halt>
     requires locals { All (IsLive (extent_of w.old.heap)) (L.items l.now) }
     requires text { IsText (extent_of w.old.heap) span }
     requires fill { IsArgument (extent_of w.old.heap) fill }
-    ensures row { Gives w.old w.new (L.items l.now) (builds (laid_out layout
-        (text_in (extent_of w.old.heap) span) width (argument_bytes (extent_of w.old.heap) fill))) result }
+    ensures row { Answers w.old (L.items l.now) w.new (L.items l.now) (builds (laid_out layout
+        (text_in (extent_of w.old.heap) span) width (argument_bytes (extent_of w.old.heap) fill))) (answer_of result) }
     ensures limits { RefusesFirst (heap_of w.old.heap) (laid_out layout
         (text_in (extent_of w.old.heap) span) width (argument_bytes (extent_of w.old.heap) fill)) result }
-    ensures live { IsLiveGiven (reach_of w.new (L.items l.now)) result }
+    ensures live { IsLiveAnswer (reach_of w.new (L.items l.now)) (answer_of result) }
     ensures kept { KeepsLive w.old (L.items l.now) w.new (L.items l.now) }
 {
     length_of_text(&w.heap, span);
@@ -95,18 +96,18 @@ pub fn build_mapped<L: Locals>(
     span: Span,
     from: TextArgument,
     to: TextArgument,
-) -> Result<ValueOutcome, Stop>
+) -> Result<ValueOutcome, Halt>
     requires locals { All (IsLive (extent_of w.old.heap)) (L.items l.now) }
     requires text { IsText (extent_of w.old.heap) span }
     requires from { IsArgument (extent_of w.old.heap) from }
     requires to { IsArgument (extent_of w.old.heap) to }
-    ensures row { Gives w.old w.new (L.items l.now) (builds (map (map_byte
+    ensures row { Answers w.old (L.items l.now) w.new (L.items l.now) (builds (map (map_byte
         (argument_bytes (extent_of w.old.heap) from) (argument_bytes (extent_of w.old.heap) to))
-        (text_in (extent_of w.old.heap) span))) result }
+        (text_in (extent_of w.old.heap) span))) (answer_of result) }
     ensures limits { RefusesFirst (heap_of w.old.heap) (map (map_byte
         (argument_bytes (extent_of w.old.heap) from) (argument_bytes (extent_of w.old.heap) to))
         (text_in (extent_of w.old.heap) span)) result }
-    ensures live { IsLiveGiven (reach_of w.new (L.items l.now)) result }
+    ensures live { IsLiveAnswer (reach_of w.new (L.items l.now)) (answer_of result) }
     ensures kept { KeepsLive w.old (L.items l.now) w.new (L.items l.now) }
 {
     bytes_are_small(w.heap.bytes(span));
@@ -120,14 +121,14 @@ fn build_by_table<L: Locals>(
     l: &L,
     span: Span,
     table: &[u8; 256],
-) -> Result<ValueOutcome, Stop>
+) -> Result<ValueOutcome, Halt>
     requires locals { All (IsLive (extent_of w.old.heap)) (L.items l.now) }
     requires text { IsText (extent_of w.old.heap) span }
-    ensures row { Gives w.old w.new (L.items l.now)
-        (builds (map (slice_index table.now) (text_in (extent_of w.old.heap) span))) result }
+    ensures row { Answers w.old (L.items l.now) w.new (L.items l.now)
+        (builds (map (slice_index table.now) (text_in (extent_of w.old.heap) span))) (answer_of result) }
     ensures limits { RefusesFirst (heap_of w.old.heap)
         (map (slice_index table.now) (text_in (extent_of w.old.heap) span)) result }
-    ensures live { IsLiveGiven (reach_of w.new (L.items l.now)) result }
+    ensures live { IsLiveAnswer (reach_of w.new (L.items l.now)) (answer_of result) }
     ensures kept { KeepsLive w.old (L.items l.now) w.new (L.items l.now) }
 {
     build_pieces(w, l, &[StringPiece::Mapped(held(span), table)])

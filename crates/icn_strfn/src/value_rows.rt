@@ -9,23 +9,24 @@ ghost use Rattle.icn_defs.specs.Strings.{char_row, cset_row, image_row, type_row
 ghost use Rattle.icn_heap.specs.Extents.{Extent, IsLive, value_in};
 ghost use Rattle.icn_heap.specs.Heaps.{extent_of, heap_of};
 ghost use Rattle.icn_convert.specs.ProgramNames.{AreRecordsNamed, IsNamed};
+ghost use Rattle.icn_vars.specs.Outcomes.{IsLiveAnswer, answer_of};
 ghost use Rattle.icn_vars.specs.Worlds.{AreLiveArguments, KeepsLive, reach_of};
-ghost use Rattle.icn_strfn.specs.Stopping.{Gives, IsLiveGiven};
+ghost use Rattle.icn_args.specs.RowWords.{Answers};
 
 use crate::endings::{build_text, hold_text};
 use crate::integers::natural_number;
-use icn_args::{ValueOutcome, arg};
+use icn_args::arg;
 use icn_convert::{Names, image, to_cset, to_integer};
 use icn_heap::Heap;
 use icn_value::Val;
-use icn_vars::{Locals, Stop, World};
+use icn_vars::{Halt, Locals, ValueOutcome, World};
 
 /// `cset(x)`: the cset that a value converts to; it fails where there is none.
-pub fn cset_row<L: Locals>(w: &World, l: &L, args: &[Val]) -> Result<ValueOutcome, Stop>
+pub fn cset_row<L: Locals>(w: &World, l: &L, args: &[Val]) -> Result<ValueOutcome, Halt>
     requires { All (IsLive (extent_of w.now.heap)) args.now }
-    ensures row { Gives w.now w.now (L.items l.now)
-        (cset_row (map (value_in (extent_of w.now.heap)) args.now)) result }
-    ensures live { IsLiveGiven (reach_of w.now (L.items l.now)) result }
+    ensures row { Answers w.now (L.items l.now) w.now (L.items l.now)
+        (cset_row (map (value_in (extent_of w.now.heap)) args.now)) (answer_of result) }
+    ensures live { IsLiveAnswer (reach_of w.now (L.items l.now)) (answer_of result) }
 {
     match to_cset(&w.heap, arg(args, 0)) {
         Some(cset) => Ok(ValueOutcome::Gives(Val::Chars(cset))),
@@ -35,22 +36,22 @@ pub fn cset_row<L: Locals>(w: &World, l: &L, args: &[Val]) -> Result<ValueOutcom
 
 /// `char(i)`: the text of a byte, which costs nothing, or error 101; 205 for what is no byte. Another is want of memory.
 #[tactic(auto, using(icn_vars::proofs::KeptItems::keeps_items_refl))]
-pub fn char_row<L: Locals>(w: &mut World, l: &L, args: &[Val]) -> Result<ValueOutcome, Stop>
+pub fn char_row<L: Locals>(w: &mut World, l: &L, args: &[Val]) -> Result<ValueOutcome, Halt>
     requires live { AreLiveArguments w.old (L.items l.now) args.now }
-    ensures row { Gives w.old w.new (L.items l.now)
-        (char_row (map (value_in (extent_of w.old.heap)) args.now)) result }
-    ensures live { IsLiveGiven (reach_of w.new (L.items l.now)) result }
+    ensures row { Answers w.old (L.items l.now) w.new (L.items l.now)
+        (char_row (map (value_in (extent_of w.old.heap)) args.now)) (answer_of result) }
+    ensures live { IsLiveAnswer (reach_of w.new (L.items l.now)) (answer_of result) }
     ensures kept { KeepsLive w.old (L.items l.now) w.new (L.items l.now) }
 {
     let val = arg(args, 0);
     let Some(n) = to_integer(&w.heap, val) else {
-        return Err(Stop::Error(101, Some(val)));
+        return Err(Halt::Error(101, Some(val)));
     };
     let Some(byte) = natural_number(n) else {
-        return Err(Stop::Error(205, Some(val)));
+        return Err(Halt::Error(205, Some(val)));
     };
     if byte >= 256 {
-        return Err(Stop::Error(205, Some(val)));
+        return Err(Halt::Error(205, Some(val)));
     }
     hold_text(w, l, &[byte as u8])
 }
@@ -61,13 +62,13 @@ pub fn image_row<N: Names, L: Locals>(
     w: &mut World,
     l: &L,
     args: &[Val],
-) -> Result<ValueOutcome, Stop>
+) -> Result<ValueOutcome, Halt>
     requires live { AreLiveArguments w.old (L.items l.now) args.now }
     requires named { All (IsNamed (N.known names.now)) args.now }
     requires records { AreRecordsNamed (N.known names.now) (heap_of w.old.heap) }
-    ensures row { Gives w.old w.new (L.items l.now)
-        (image_row (N.known names.now) (map (value_in (extent_of w.old.heap)) args.now)) result }
-    ensures live { IsLiveGiven (reach_of w.new (L.items l.now)) result }
+    ensures row { Answers w.old (L.items l.now) w.new (L.items l.now)
+        (image_row (N.known names.now) (map (value_in (extent_of w.old.heap)) args.now)) (answer_of result) }
+    ensures live { IsLiveAnswer (reach_of w.new (L.items l.now)) (answer_of result) }
     ensures kept { KeepsLive w.old (L.items l.now) w.new (L.items l.now) }
 {
     let val = first_argument(args);
@@ -81,12 +82,12 @@ pub fn type_row<N: Names, L: Locals>(
     w: &mut World,
     l: &L,
     args: &[Val],
-) -> Result<ValueOutcome, Stop>
+) -> Result<ValueOutcome, Halt>
     requires live { AreLiveArguments w.old (L.items l.now) args.now }
     requires records { AreRecordsNamed (N.known names.now) (heap_of w.old.heap) }
-    ensures row { Gives w.old w.new (L.items l.now)
-        (type_row (N.known names.now) (map (value_in (extent_of w.old.heap)) args.now)) result }
-    ensures live { IsLiveGiven (reach_of w.new (L.items l.now)) result }
+    ensures row { Answers w.old (L.items l.now) w.new (L.items l.now)
+        (type_row (N.known names.now) (map (value_in (extent_of w.old.heap)) args.now)) (answer_of result) }
+    ensures live { IsLiveAnswer (reach_of w.new (L.items l.now)) (answer_of result) }
     ensures kept { KeepsLive w.old (L.items l.now) w.new (L.items l.now) }
 {
     let val = arg(args, 0);

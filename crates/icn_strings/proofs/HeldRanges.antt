@@ -55,6 +55,15 @@ turned true b is = refl
 turned false true is = refl
 turned false false is = is
 
+false_unless : (a : Bool) → (a ≡ true → ⊥) → false ≡ a
+false_unless true is = absurd (is refl)
+false_unless false is = refl
+
+alike : (a b : Bool) → (a ≡ true → b ≡ true) → (b ≡ true → a ≡ true) → a ≡ b
+alike true b to from = sym (to refl)
+alike false true to from = from refl
+alike false false to from = refl
+
 -- a chunk to which bytes were added holds what it held
 holds_more : (range : ByteRange) (chunk new : Chunk) (more : List ℕ) → new.first ≡ chunk.first → new.bytes.items ≡ chunk.bytes.items ++ more
     → holds range chunk ≡ true → holds range new ≡ true
@@ -166,3 +175,27 @@ found_before chunks range count order is some few before behind =
       within = omega (arith, low, few);
       there = subst (λ (n : ℕ). ((d : Chunk) → holds range (get_or chunks n d) ≡ true)) at_it here;
     }
+
+-- Whether a range lies in chunks in order is seen at the last of those that begin where it does or before
+
+-- none begins so
+pub none_begun : (chunks : List Chunk) (range : ByteRange) (count : ℕ) → AllPairs EndsBefore chunks → 0 < range.len → count ≤ length chunks
+    → AllWithin (λ (chunk : Chunk). chunk.first ≤ range.start) chunks 0 count
+    → AllWithin (λ (chunk : Chunk). range.start < chunk.first) chunks count (length chunks) → count ≡ 0 → false ≡ list_any (holds range) chunks
+none_begun chunks range count order some few before behind none =
+    false_unless (list_any (holds range) chunks)
+    (λ held.
+    let found : IsFoundThere range chunks count = found_before chunks range count order held some few before behind in
+    omega (arith, none, found.some))
+
+-- or one does
+pub at_begun : (chunks : List Chunk) (range : ByteRange) (count : ℕ) (chunk : Chunk) → AllPairs EndsBefore chunks → 0 < range.len
+    → count ≤ length chunks → AllWithin (λ (chunk : Chunk). chunk.first ≤ range.start) chunks 0 count
+    → AllWithin (λ (chunk : Chunk). range.start < chunk.first) chunks count (length chunks) → 0 < count → chunk ≡ get_or chunks (count - 1) chunk
+    → holds range chunk ≡ list_any (holds range) chunks
+at_begun chunks range count chunk order some few before behind begun same =
+    alike (holds range chunk) (list_any (holds range) chunks)
+    (λ is. list_any_at (holds range) chunks (count - 1) chunk (omega (arith, begun, few)) (ap (holds range) (sym same) ∙ is))
+    (λ held.
+    let found : IsFoundThere range chunks count = found_before chunks range count order held some few before behind in
+    ap (holds range) same ∙ found.there chunk)

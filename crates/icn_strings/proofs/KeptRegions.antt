@@ -6,13 +6,22 @@ use Rattle.icn_strings.specs.declared.byte_range.ByteRange.{ByteRange}
 use Rattle.icn_strings.specs.declared.region.Region.{Region}
 use Rattle.icn_strings.specs.Chunks.{AreHeld}
 use Rattle.icn_strings.specs.Ranges.{IsPart}
-use Rattle.icn_strings.specs.Regions.{limit_of, sum_of, IsHeld, IsOf, bytes_of, KeepsRanges, IsUnchanged}
+use Rattle.icn_strings.specs.Regions.{limit_of, sum_of, IsHeld, IsOf, bytes_of, AreWritten, IsWritten, KeepsBytes, KeepsRanges, IsUnchanged}
 use Rattle.icn_strings.proofs.HeldRanges.{held_more, held_closed, held_last, held_part}
 use Rattle.icn_strings.proofs.AddedBytes.{within_stays, as_many, part_bytes_of, part_short, within_all, last_ends, last_bytes, behind_bytes}
 
--- what is kept over two calls, one after the other
+-- what was written over two calls, one after the other
+means_then : {a b c : Region} → KeepsBytes a b → KeepsBytes b c → KeepsBytes a c
+means_then {a} {b} {c} first second = record {
+  limit = second.limit ∙ first.limit;
+  written = λ range is. second.written range (first.written range is);
+  bytes = λ range is. second.bytes range (first.written range is) ∙ first.bytes range is;
+}
+
+-- what is kept over them
 pub keeps_then : {a b c : Region} → KeepsRanges a b → KeepsRanges b c → KeepsRanges a c
 keeps_then {a} {b} {c} first second = record {
+  means = means_then first.means second.means;
   limit = second.limit ∙ first.limit;
   of = λ range is. second.of range (first.of range is);
   bytes = λ range is. second.bytes range (first.of range is) ∙ first.bytes range is;
@@ -23,6 +32,11 @@ pub lies_within : (region : Region) (range : ByteRange) → IsOf region range �
 unfolding IsHeld
 lies_within region range is some =
     within_all region.written.bytes region.closed.items region.last range region.sound.agree region.sound.ends (is.held some)
+
+-- so it was written
+pub was_written_there : (region : Region) (range : ByteRange) → IsOf region range → IsWritten region range
+unfolding AreWritten
+was_written_there region range is = record { bytes = lies_within region range is }
 
 -- it has as many bytes as it says
 pub bytes_are : (region : Region) (range : ByteRange) → IsOf region range → length (bytes_of region range) ≡ range.len
@@ -50,12 +64,34 @@ pub part_bytes : (region : Region) (part whole : ByteRange) → IsPart part whol
 unfolding bytes_of
 part_bytes region part whole part_of = part_bytes_of region.written.bytes part whole part_of
 
+-- more was written, and what was there before means the same
+means_more : {old new : Region} (more : List ℕ) → new.written.bytes ≡ old.written.bytes ++ more → new.limit ≡ old.limit → KeepsBytes old new
+unfolding limit_of bytes_of AreWritten
+means_more {old} {new} more whole limit =
+    let long : length new.written.bytes ≡ length old.written.bytes + length more = ap (λ (ys : List ℕ). length ys) whole ∙ rw length-append refl in
+    record {
+      limit = limit;
+      written = λ range is. record { bytes = λ some. omega (arith, is.bytes some, long) };
+      bytes = λ range is.
+          ap (λ ys. take range.len (drop range.start ys)) whole ∙ within_stays range.len range.start old.written.bytes more is.bytes;
+    }
+
+-- what was written is the same
+pub means_same : {old new : Region} → new.written ≡ old.written → new.limit ≡ old.limit → KeepsBytes old new
+unfolding limit_of bytes_of AreWritten
+means_same {old} {new} written limit = record {
+  limit = limit;
+  written = λ range is. record { bytes = λ some. subst (λ w. range.start + range.len ≤ length w.bytes) (sym written) (is.bytes some) };
+  bytes = λ range is. ap (λ w. take range.len (drop range.start w.bytes)) written;
+}
+
 -- bytes were written into the last chunk
 pub keeps_more : {old new : Region} (more : List ℕ) → new.closed.items ≡ old.closed.items → new.last.first ≡ old.last.first
     → new.last.bytes.items ≡ old.last.bytes.items ++ more → new.written.bytes ≡ old.written.bytes ++ more → new.limit ≡ old.limit
     → KeepsRanges old new
 unfolding limit_of IsHeld bytes_of
 keeps_more {old} {new} more closed first bytes whole limit = record {
+  means = means_more more whole limit;
   limit = limit;
   of = λ range is. record {
     held =
@@ -72,6 +108,7 @@ pub keeps_closed : {old new : Region} → new.closed.items ≡ old.closed.items 
     → KeepsRanges old new
 unfolding limit_of IsHeld bytes_of
 keeps_closed {old} {new} closed written limit = record {
+  means = means_same written limit;
   limit = limit;
   of = λ range is. record {
     held = subst (λ cs. AreHeld cs new.last range) (sym closed) (held_closed range old.closed.items old.last new.last is.held);
@@ -84,6 +121,7 @@ pub keeps_same : {old new : Region} → new.closed.items ≡ old.closed.items �
     → KeepsRanges old new
 unfolding limit_of IsHeld bytes_of
 keeps_same {old} {new} closed last written limit = record {
+  means = means_same written limit;
   limit = limit;
   of = λ range is. record {
     held = subst (λ cs. AreHeld cs new.last range) (sym closed) (subst (λ chunk. AreHeld old.closed.items chunk range) (sym last) is.held);

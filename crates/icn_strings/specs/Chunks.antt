@@ -1,7 +1,7 @@
 -- Which bytes a chunk has, and which ranges lie in chunks.
 use Rattle.std.specs.Prelude.{◌≡◌, ℕ, ◌+◌, ◌-◌, ◌<◌, ◌≤◌, ◌^◌, ◌&&◌, ◌||◌, nat_le, Bool, true, List, length, take, drop, vec_len}
 use Rattle.std.specs.Vec.{vec_capacity}
-use Rattle.std.specs.List.{All, AllPairs, list_any}
+use Rattle.std.specs.List.{All, AllPairs, list_any, sum_by}
 use Rattle.std.proofs.Props.{props}
 use Rattle.icn_strings.specs.declared.byte_range.ByteRange.{ByteRange}
 use Rattle.icn_strings.specs.declared.chunk.Chunk.{Chunk}
@@ -9,6 +9,10 @@ use Rattle.icn_strings.specs.declared.chunk.Chunk.{Chunk}
 -- where the bytes of a chunk end
 abbrev pub end_of : Chunk → ℕ
 end_of chunk = chunk.first + length chunk.bytes.items
+
+-- how many bytes some chunks have together
+abbrev pub sizes : List Chunk → ℕ
+sizes chunks = sum_by (λ (chunk : Chunk). length chunk.bytes.items) chunks
 
 -- whether a range lies in a chunk
 abbrev pub holds : ByteRange → Chunk → Bool
@@ -45,6 +49,10 @@ pub record AreSoundChunks (all : List ℕ) (closed : List Chunk) (last : Chunk) 
   pub ends : IsLast all last
   pub short : length all < 2 ^ 63 - 1
   pub within : sum ≤ limit
+
+-- how many bytes some chunks have is a fact alone, which a ghost field can keep
+pub IsSize-prop : (size : ℕ) (chunks : List Chunk) → IsProp (size ≡ sizes chunks)
+IsSize-prop size chunks = hlevel props
 
 HasItsPart-prop : (all : List ℕ) (chunk : Chunk) → IsProp (HasItsPart all chunk)
 HasItsPart-prop all chunk = hlevel props

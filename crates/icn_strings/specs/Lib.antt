@@ -1,4 +1,5 @@
 pub mod Chunks
+pub mod KeptRuns
 pub mod Pieces
 pub mod Ranges
 pub mod Regions

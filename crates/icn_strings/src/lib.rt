@@ -10,6 +10,7 @@ mod lookup;
 mod piece;
 mod region;
 mod region_laws;
+mod sweeping;
 mod writing;
 
 pub use byte_range::ByteRange;
@@ -17,5 +18,6 @@ pub use full::RegionFull;
 pub use piece::{Origin, StringPiece};
 pub use region::Region;
 pub use region_laws::{
-    empty_range, end_of_range, length_of_bytes, part_of_range, short_string, within_limit,
+    empty_range, end_of_range, length_of_bytes, part_of_range, short_string, was_written,
+    within_limit,
 };

@@ -19,6 +19,20 @@ pub fn bytes_in(chunks: &[Chunk], range: ByteRange) -> &[u8]
     chunks[index].part(range)
 }
 
+/// Whether a range lies in one of these chunks, which are in order.
+pub fn has_range(chunks: &[Chunk], range: ByteRange) -> bool
+    requires order { AllPairs EndsBefore chunks.now }
+    requires some { 0 < range.len }
+    ensures { result ≡ list_any (holds range) chunks.now }
+{
+    let begun = begun_by(chunks, range.start);
+    if begun == 0 {
+        return false;
+    }
+    let last = begun - 1;
+    chunks[last].holds(range)
+}
+
 // The index of the chunk in which a range lies: of the last one that begins where the range does, or before.
 fn index_of(chunks: &[Chunk], range: ByteRange) -> usize
     requires order { AllPairs EndsBefore chunks.now }

@@ -1,7 +1,7 @@
 // The region of strings.
 ghost use Rattle.std.specs.Prelude.{◌≡◌, ◌+◌, ◌-◌, ◌^◌, ◌<◌, ◌≤◌, ◌↔◌, ◌++◌, length, OnOk, OnErr, IfOk, SomeIff};
 ghost use Rattle.std.specs.List.{All};
-ghost use Rattle.icn_strings.specs.Chunks.{end_of, HasRoom, AreSoundChunks, AreSoundChunks-prop};
+ghost use Rattle.icn_strings.specs.Chunks.{end_of, sizes, HasRoom, AreSoundChunks, AreSoundChunks-prop, IsSize-prop};
 
 use crate::all_bytes::AllBytes;
 use crate::byte_range::ByteRange;
@@ -22,30 +22,33 @@ const ROOM: usize = 65536;
 /// The strings of a program's heap.
 ///
 /// A string that is built or joined is charged by its length, in bytes, and what is charged never passes the limit.
-/// One that is held is not charged. Nothing is given back, and the bytes of a range never change.
+/// One that is held is not charged. The bytes of a range never change. `sweep` alone gives memory back: it keeps the strings that it is told to.
 ///
 /// The bytes lie in chunks. What is written goes behind all bytes, into the last chunk, as long as it has room; it never grows, so that
 /// nothing is moved, and a range lies in one chunk.
 #[derive(Drop)]
 pub struct Region {
-    alloc: Global,
+    pub(crate) alloc: Global,
     // the chunks to which nothing is added any more
     pub(crate) closed: Vec<Chunk>,
+    // how many bytes they have together
+    pub(crate) closed_size: u64,
     pub(crate) last: Chunk,
     pub(crate) written: AllBytes,
     sum: u64,
     limit: u64,
     ghost sound: { AreSoundChunks written.bytes closed.items last sum limit } by { AreSoundChunks-prop
         written.bytes closed.items last sum limit },
+    ghost counted: { closed_size ≡ sizes closed.items } by { IsSize-prop closed_size closed.items },
 }
 
 impl Region {
-    ghost use Rattle.icn_strings.specs.Regions.{limit_of, sum_of, IsOf, bytes_of, KeepsRanges, IsUnchanged};
+    ghost use Rattle.icn_strings.specs.Regions.{limit_of, sum_of, held_by, IsOf, bytes_of, KeepsRanges, IsUnchanged};
     ghost use Rattle.icn_strings.specs.Pieces.{IsPieceIn, made_of};
     ghost use Rattle.icn_strings.specs.WrittenBytes.{CanWrite, Writes};
 
     /// A region without strings that charges at most `limit` bytes. It takes no memory until a string has bytes.
-    #[tactic(auto, using(crate::proofs::AddedBytes::sound_new), unfolding(crate::specs::Regions::limit_of, crate::specs::Regions::sum_of))]
+    #[tactic(auto, using(crate::proofs::AddedBytes::sound_new, crate::proofs::ChunkSizes::sizes_none), unfolding(crate::specs::Regions::limit_of, crate::specs::Regions::sum_of))]
     pub fn new(alloc: Global, limit: u64) -> Region
         ensures limit { limit_of result ≡ limit }
         ensures sum { sum_of result ≡ 0 }
@@ -53,6 +56,7 @@ impl Region {
         Region {
             alloc,
             closed: Vec::new(alloc),
+            closed_size: 0,
             last: Chunk {
                 first: 0,
                 bytes: Vec::new(alloc),
@@ -190,8 +194,16 @@ impl Region {
         bytes_in(&self.closed, range)
     }
 
+    /// How many bytes the region holds, those that no string needs any more too: `sweep` makes them as few as what it keeps. It takes no memory.
+    #[tactic(auto, unfolding(crate::specs::Regions::held_by))]
+    pub fn held_bytes(&self) -> u64
+        ensures { result ≡ held_by self.now }
+    {
+        self.closed_size + self.last.bytes.len() as u64
+    }
+
     // Where all bytes end.
-    fn end(&self) -> u64
+    pub(crate) fn end(&self) -> u64
         ensures end { result ≡ length self.now.written.bytes }
         ensures short { result < 2 ^ 63 - 1 }
     {
@@ -225,6 +237,7 @@ impl Region {
         let bytes = Vec::with_capacity(self.alloc, ROOM.max(len as usize))?;
         self.closed.reserve(1)?;
         let before = mem::replace(&mut self.last, Chunk { first, bytes });
+        self.closed_size += before.bytes.len() as u64;
         self.closed.push_reserved(before);
         Ok(())
     }

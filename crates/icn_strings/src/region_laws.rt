@@ -1,7 +1,7 @@
 // What holds of every region. A call does nothing: it tells a caller's proof the law.
 ghost use Rattle.std.specs.Prelude.{◌≡◌, ◌+◌, ◌-◌, ◌^◌, ◌<◌, ◌≤◌, [], length, take, drop};
 ghost use Rattle.icn_strings.specs.Ranges.{IsPart};
-ghost use Rattle.icn_strings.specs.Regions.{limit_of, sum_of, IsOf, bytes_of};
+ghost use Rattle.icn_strings.specs.Regions.{limit_of, sum_of, IsOf, IsWritten, bytes_of};
 
 use crate::byte_range::ByteRange;
 use crate::region::Region;
@@ -29,6 +29,13 @@ pub fn part_of_range(region: &Region, part: ByteRange, whole: ByteRange)
 pub fn length_of_bytes(region: &Region, range: ByteRange)
     requires { IsOf region.now range }
     ensures { length (bytes_of region.now range) ≡ range.len }
+{}
+
+/// What is of a region was written.
+#[tactic(auto, using(crate::proofs::KeptRegions::was_written_there))]
+pub fn was_written(region: &Region, range: ByteRange)
+    requires { IsOf region.now range }
+    ensures { IsWritten region.now range }
 {}
 
 /// The end of a range of a region is a `u64`, so that the range of a part can be computed.

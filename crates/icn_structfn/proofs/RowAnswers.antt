@@ -5,29 +5,30 @@ use Rattle.icn_value.specs.Store.{Setting}
 use Rattle.icn_defs.specs.Calls.{GoesOn}
 use Rattle.icn_defs.specs.Rows.{Row, Finds}
 use Rattle.icn_heap.specs.Extents.{Extent}
-use Rattle.icn_vars.specs.declared.outcome.Outcome.{Outcome}
+use Rattle.icn_vars.specs.declared.outcome.ValueOutcome.{ValueOutcome}
 use Rattle.icn_vars.specs.declared.outcome.Halt.{Halt}
 use Rattle.icn_vars.specs.declared.stop.Stop.{Stop}
 use Rattle.icn_vars.specs.declared.stop.Stop.TheVariants.{Error, NoMemory}
-use Rattle.icn_vars.specs.Outcomes.{ComesToAnswer}
+use Rattle.icn_vars.specs.Outcomes.{ComesToAnswer, answer_of}
 use Rattle.icn_vars.specs.Stops.{StopsFinding, StopsPassing, halt_of}
 use Rattle.icn_args.specs.RowWords.{IsFound}
-use Rattle.icn_args.proofs.RowAnswers.{answer_then, row_stops, row_stops_at}
+use Rattle.icn_args.proofs.RowAnswers.{answer_then, value_row_stops, value_row_stops_at}
 
 -- the row goes on as another one, which stops where a thing is looked for
 pub stops_finding : {A : Type 0} (all : Extent) (row : Row) (find : Finds A) (next : A → Row) (before between after : Setting) (stop : Stop)
-    (result : Result Outcome Halt)
+    (result : Result ValueOutcome Halt)
     → row before ≡ find next between → IsErrAnd result (λ halt. halt ≡ halt_of stop) → StopsFinding all find between after stop
-    → ComesToAnswer all row before after result
+    → ComesToAnswer all row before after (answer_of result)
 stops_finding all row find next before between after stop result same err is =
-    answer_then all row (find next) before between after result same (row_stops all find next between after stop result err is)
+    answer_then all row (find next) before between after (answer_of result) same (value_row_stops all find next between after stop result err is)
 
 -- the row goes on as another one, which stops at a part of it
-pub stops_passing : (all : Extent) (row : Row) (part : Row → Row) (next : Row) (before between after : Setting) (stop : Stop) (result : Result Outcome Halt)
+pub stops_passing : (all : Extent) (row : Row) (part : Row → Row) (next : Row) (before between after : Setting) (stop : Stop)
+    (result : Result ValueOutcome Halt)
     → row before ≡ part next between → IsErrAnd result (λ halt. halt ≡ halt_of stop) → StopsPassing all part between after stop
-    → ComesToAnswer all row before after result
+    → ComesToAnswer all row before after (answer_of result)
 stops_passing all row part next before between after stop result same err is =
-    answer_then all row (part next) before between after result same (row_stops_at all part next between after stop result err is)
+    answer_then all row (part next) before between after (answer_of result) same (value_row_stops_at all part next between after stop result err is)
 
 -- what finds the same
 pub found_as : {A B : Type 0} (all : Extent) (find other : Finds A) (before after : Setting) (shown : B → A) (result : Result B Stop)

@@ -5,7 +5,7 @@ ghost use Rattle.icn_value.specs.Store.{Outside};
 ghost use Rattle.icn_defs.specs.Structures.{put_row, push_row, or_null};
 ghost use Rattle.icn_heap.specs.Extents.{Extent, IsLive, KeepsValues, value_in};
 ghost use Rattle.icn_heap.specs.Heaps.{extent_of, heap_of};
-ghost use Rattle.icn_vars.specs.Outcomes.{IsLiveAnswer};
+ghost use Rattle.icn_vars.specs.Outcomes.{IsLiveAnswer, answer_of};
 ghost use Rattle.icn_vars.specs.Worlds.{AreLiveArguments, KeepsLive, reach_of, setting_of};
 ghost use Rattle.icn_args.specs.RowWords.{Answers, IsPassed};
 ghost use Rattle.icn_structs.specs.Numbered.{with_left, with_right};
@@ -16,23 +16,23 @@ ghost use Rattle.icn_structfn.specs.AddedElements.{added_to, adds};
 
 use icn_args::arg;
 use icn_heap::{Full, Heap};
-use icn_value::{Item, Val};
-use icn_vars::{Halt, Locals, Outcome, Stop, World};
+use icn_value::Val;
+use icn_vars::{Halt, Locals, Stop, ValueOutcome, World};
 
 /// `put(L, x, ..)`: adds values at the right of a list, one after the other, which it gives. Without a value it adds null.
 /// The error is 108 about what is no list, or 307 where the limit refuses the charge: then nothing is added.
-pub fn put<L: Locals>(w: &mut World, l: &L, args: &[Val]) -> Result<Outcome, Halt>
+pub fn put<L: Locals>(w: &mut World, l: &L, args: &[Val]) -> Result<ValueOutcome, Halt>
     requires live { AreLiveArguments w.old (L.items l.now) args.now }
     ensures row { Answers w.old (L.items l.now) w.new (L.items l.now)
-        (put_row (map (value_in (extent_of w.old.heap)) args.now)) result }
-    ensures live { IsLiveAnswer (reach_of w.new (L.items l.now)) result }
+        (put_row (map (value_in (extent_of w.old.heap)) args.now)) (answer_of result) }
+    ensures live { IsLiveAnswer (reach_of w.new (L.items l.now)) (answer_of result) }
     ensures kept { KeepsLive w.old (L.items l.now) w.new (L.items l.now) }
 {
     let list = arg(args, 0);
     match list {
         Val::List(id) => {
             add_right(w, l, id, values_to_add(args))?;
-            Ok(Outcome::Gives(Item::Val(list)))
+            Ok(ValueOutcome::Gives(list))
         }
         _ => Err(Halt::Error(108, Some(list))),
     }
@@ -76,18 +76,18 @@ fn put_each(heap: &mut Heap, list: u32, vals: &[Val]) -> Result<(), Full>
 
 /// `push(L, x, ..)`: adds values at the left of a list, one after the other, which it gives. Without a value it adds null.
 /// The error is 108 about what is no list, or 307 where the limit refuses the charge: then nothing is added.
-pub fn push<L: Locals>(w: &mut World, l: &L, args: &[Val]) -> Result<Outcome, Halt>
+pub fn push<L: Locals>(w: &mut World, l: &L, args: &[Val]) -> Result<ValueOutcome, Halt>
     requires live { AreLiveArguments w.old (L.items l.now) args.now }
     ensures row { Answers w.old (L.items l.now) w.new (L.items l.now)
-        (push_row (map (value_in (extent_of w.old.heap)) args.now)) result }
-    ensures live { IsLiveAnswer (reach_of w.new (L.items l.now)) result }
+        (push_row (map (value_in (extent_of w.old.heap)) args.now)) (answer_of result) }
+    ensures live { IsLiveAnswer (reach_of w.new (L.items l.now)) (answer_of result) }
     ensures kept { KeepsLive w.old (L.items l.now) w.new (L.items l.now) }
 {
     let list = arg(args, 0);
     match list {
         Val::List(id) => {
             add_left(w, l, id, values_to_add(args))?;
-            Ok(Outcome::Gives(Item::Val(list)))
+            Ok(ValueOutcome::Gives(list))
         }
         _ => Err(Halt::Error(108, Some(list))),
     }

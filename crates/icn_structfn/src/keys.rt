@@ -5,7 +5,7 @@ ghost use Rattle.icn_value.specs.Store.{Outside, table_at};
 ghost use Rattle.icn_defs.specs.Structures.{delete_row, has_key, insert_row, key_row, member_row, table_keys_from};
 ghost use Rattle.icn_heap.specs.Extents.{Extent, IsLive, value_in};
 ghost use Rattle.icn_heap.specs.Heaps.{extent_of, heap_of};
-ghost use Rattle.icn_vars.specs.Outcomes.{IsLiveAnswer, IsLiveOutcome, outcome_in};
+ghost use Rattle.icn_vars.specs.Outcomes.{IsLiveAnswer, IsLiveOutcome, answer_of, outcome_in};
 ghost use Rattle.icn_vars.specs.Worlds.{AreLiveArguments, KeepsLive, reach_of, setting_of};
 ghost use Rattle.icn_args.specs.RowWords.{Answers, IsPassed};
 ghost use Rattle.icn_value.specs.declared.val.Val.TheVariants.{Table};
@@ -17,15 +17,15 @@ ghost use Rattle.icn_structfn.specs.SetsAndTables.{inserts_in};
 use icn_args::arg;
 use icn_heap::Heap;
 use icn_value::{Item, Residual, Val};
-use icn_vars::{Halt, Locals, Outcome, Stop, World};
+use icn_vars::{Halt, Locals, Outcome, Stop, ValueOutcome, World};
 use std::alloc::AllocError;
 
 /// `member(X, x)`: gives `x` where it is a member or a key, and fails where it is not.
-pub fn member<L: Locals>(w: &World, l: &L, args: &[Val]) -> Result<Outcome, Halt>
+pub fn member<L: Locals>(w: &World, l: &L, args: &[Val]) -> Result<ValueOutcome, Halt>
     requires live { AreLiveArguments w.now (L.items l.now) args.now }
     ensures row { Answers w.now (L.items l.now) w.now (L.items l.now)
-        (member_row (map (value_in (extent_of w.now.heap)) args.now)) result }
-    ensures live { IsLiveAnswer (reach_of w.now (L.items l.now)) result }
+        (member_row (map (value_in (extent_of w.now.heap)) args.now)) (answer_of result) }
+    ensures live { IsLiveAnswer (reach_of w.now (L.items l.now)) (answer_of result) }
 {
     let kept = arg(args, 0);
     let key = arg(args, 1);
@@ -33,8 +33,8 @@ pub fn member<L: Locals>(w: &World, l: &L, args: &[Val]) -> Result<Outcome, Halt
         return Err(Halt::NoMemory);
     };
     match found {
-        Some(true) => Ok(Outcome::Gives(Item::Val(key))),
-        Some(false) => Ok(Outcome::Fails),
+        Some(true) => Ok(ValueOutcome::Gives(key)),
+        Some(false) => Ok(ValueOutcome::Fails),
         None => Err(Halt::Error(122, Some(kept))),
     }
 }
@@ -55,16 +55,16 @@ fn has(heap: &Heap, kept: Val, key: Val) -> Result<Option<bool>, AllocError>
 
 /// `insert(X, x, y)`: puts a member, or a key with its value, into a set or a table, which it gives. The error is 122 about
 /// what is neither, or 307 where the limit refuses the charge.
-pub fn insert<L: Locals>(w: &mut World, l: &L, args: &[Val]) -> Result<Outcome, Halt>
+pub fn insert<L: Locals>(w: &mut World, l: &L, args: &[Val]) -> Result<ValueOutcome, Halt>
     requires live { AreLiveArguments w.old (L.items l.now) args.now }
     ensures row { Answers w.old (L.items l.now) w.new (L.items l.now)
-        (insert_row (map (value_in (extent_of w.old.heap)) args.now)) result }
-    ensures live { IsLiveAnswer (reach_of w.new (L.items l.now)) result }
+        (insert_row (map (value_in (extent_of w.old.heap)) args.now)) (answer_of result) }
+    ensures live { IsLiveAnswer (reach_of w.new (L.items l.now)) (answer_of result) }
     ensures kept { KeepsLive w.old (L.items l.now) w.new (L.items l.now) }
 {
     let kept = arg(args, 0);
     insert_into(w, l, kept, arg(args, 1), arg(args, 2))?;
-    Ok(Outcome::Gives(Item::Val(kept)))
+    Ok(ValueOutcome::Gives(kept))
 }
 
 // Puts a member, or a key with its value, in, and charges it where it is new.
@@ -90,11 +90,11 @@ fn insert_into<L: Locals>(w: &mut World, l: &L, kept: Val, key: Val, val: Val) -
 
 /// `delete(X, x)`: takes a member or a key out of a set or a table, which it gives. The error is 122 about what is neither.
 #[tactic(auto, using(icn_vars::proofs::GrowingWorlds::grows))]
-pub fn delete<L: Locals>(w: &mut World, l: &L, args: &[Val]) -> Result<Outcome, Halt>
+pub fn delete<L: Locals>(w: &mut World, l: &L, args: &[Val]) -> Result<ValueOutcome, Halt>
     requires live { AreLiveArguments w.old (L.items l.now) args.now }
     ensures row { Answers w.old (L.items l.now) w.new (L.items l.now)
-        (delete_row (map (value_in (extent_of w.old.heap)) args.now)) result }
-    ensures live { IsLiveAnswer (reach_of w.new (L.items l.now)) result }
+        (delete_row (map (value_in (extent_of w.old.heap)) args.now)) (answer_of result) }
+    ensures live { IsLiveAnswer (reach_of w.new (L.items l.now)) (answer_of result) }
     ensures kept { KeepsLive w.old (L.items l.now) w.new (L.items l.now) }
 {
     let kept = arg(args, 0);
@@ -102,7 +102,7 @@ pub fn delete<L: Locals>(w: &mut World, l: &L, args: &[Val]) -> Result<Outcome, 
         return Err(Halt::Error(122, Some(kept)));
     }
     match w.heap.remove(kept, arg(args, 1)) {
-        Ok(_) => Ok(Outcome::Gives(Item::Val(kept))),
+        Ok(_) => Ok(ValueOutcome::Gives(kept)),
         Err(_) => Err(Halt::NoMemory),
     }
 }

@@ -11,7 +11,7 @@ ghost use Rattle.icn_structs.specs.PairLists.{KeysDiffer};
 ghost use Rattle.icn_heap.specs.Extents.{AreLive, Extent, IsLive, value_in, values_in};
 ghost use Rattle.icn_heap.specs.Heaps.{extent_of, heap_of};
 ghost use Rattle.law_names.specs.NamedSettings.{HeapNamed, PairNamed, ValueNamed};
-ghost use Rattle.icn_vars.specs.Outcomes.{IsLiveAnswer};
+ghost use Rattle.icn_vars.specs.Outcomes.{IsLiveAnswer, answer_of};
 ghost use Rattle.icn_vars.specs.Stops.{IsLiveStop};
 ghost use Rattle.icn_vars.specs.Worlds.{AreLiveArguments, KeepsLive, reach_of, setting_of};
 ghost use Rattle.icn_args.specs.RowWords.{Answers, IsFound};
@@ -21,8 +21,8 @@ use crate::ordering::{by_entry, by_key, in_order};
 use icn_args::{arg, integer_of, new_list, value_or};
 use icn_convert::Names;
 use icn_heap::keys_differ;
-use icn_value::{Item, Val};
-use icn_vars::{Halt, Locals, Outcome, Stop, World};
+use icn_value::Val;
+use icn_vars::{Halt, Locals, Stop, ValueOutcome, World};
 use std::alloc::{AllocError, Global};
 
 /// `sort(x, i)`: a list of what a structure holds, in order. A table's pairs are ordered by key where `i` is 1 or 3, and by value and then by key where
@@ -33,17 +33,17 @@ pub fn sort<L: Locals, N: Names>(
     l: &L,
     names: &N,
     args: &[Val],
-) -> Result<Outcome, Halt>
+) -> Result<ValueOutcome, Halt>
     requires live { AreLiveArguments w.old (L.items l.now) args.now }
     requires named { HeapNamed (N.known names.now) (heap_of w.old.heap) }
     ensures row { Answers w.old (L.items l.now) w.new (L.items l.now)
-        (sort_row (N.known names.now) (map (value_in (extent_of w.old.heap)) args.now)) result }
-    ensures live { IsLiveAnswer (reach_of w.new (L.items l.now)) result }
+        (sort_row (N.known names.now) (map (value_in (extent_of w.old.heap)) args.now)) (answer_of result) }
+    ensures live { IsLiveAnswer (reach_of w.new (L.items l.now)) (answer_of result) }
     ensures kept { KeepsLive w.old (L.items l.now) w.new (L.items l.now) }
 {
     let n = integer_of(&w.heap, value_or(Val::Integer(1), arg(args, 1)))?;
     let list = sorted_list(w, l, names, arg(args, 0), n, arg(args, 1))?;
-    Ok(Outcome::Gives(Item::Val(list)))
+    Ok(ValueOutcome::Gives(list))
 }
 
 // A list of what a structure holds, in order.

@@ -6,7 +6,7 @@ use Rattle.std.specs.Option.{option_map_or}
 use Rattle.std.specs.Str.{bytes_eq}
 use Rattle.std.proofs.lemmas.Bool.{eqb-true, leb-true, ltb-true}
 use Rattle.icn_text.specs.declared.func.Func.{Func}
-use Rattle.icn_text.specs.declared.func.Func.TheVariants.{Abs, Any, Bal, Center, Char, Copy, Cset, Delete, Exit, Find, Get, Iand, Icom, Image, Insert, Integer, Ior, Ishift, Ixor, Key, Left, List, Many, Map, Match, Member, Move, Numeric, Ord, Pop, Pos, Pull, Push, Put, Read, Reads, Repl, Reverse, Right, Seq, Set, Sort, Stop, String, Tab, Table, Trim, TypeOf, Upto, Write, Writes, ErrorClear, Open, Close}
+use Rattle.icn_text.specs.declared.func.Func.TheVariants.{Abs, Any, Bal, Center, Char, Copy, Cset, Delete, Exit, Find, Get, Iand, Icom, Image, Insert, Integer, Ior, Ishift, Ixor, Key, Left, List, Many, Map, Match, Member, Move, Numeric, Ord, Pop, Pos, Pull, Push, Put, Read, Reads, Repl, Reverse, Right, Seq, Set, Sort, Stop, String, Tab, Table, Trim, TypeOf, Upto, Write, Writes, ErrorClear, Open, Close, Proc, Args}
 use Rattle.icn_text.specs.declared.func.TheConstants.Func.{ALL}
 use Rattle.icn_text.specs.Funcs.{func_number, func_name}
 use Rattle.icn_text.proofs.Listed as listed
@@ -66,6 +66,8 @@ func_at Writes default = refl
 func_at ErrorClear default = refl
 func_at Open default = refl
 func_at Close default = refl
+func_at Proc default = refl
+func_at Args default = refl
 
 -- what all of the list pass is passed by each
 pub every_func : (test : Func → Bool) → list_all test ALL ≡ true → (any : Func) → test any ≡ true

@@ -1,7 +1,7 @@
 -- The names and the numbers of the built-in functions.
 use Rattle.std.specs.Prelude.{ℕ, List as Bytes, codes}
 use Rattle.icn_text.specs.declared.func.Func.{Func}
-use Rattle.icn_text.specs.declared.func.Func.TheVariants.{Abs, Any, Bal, Center, Char, Copy, Cset, Delete, Exit, Find, Get, Iand, Icom, Image, Insert, Integer, Ior, Ishift, Ixor, Key, Left, List, Many, Map, Match, Member, Move, Numeric, Ord, Pop, Pos, Pull, Push, Put, Read, Reads, Repl, Reverse, Right, Seq, Set, Sort, Stop, String, Tab, Table, Trim, TypeOf, Upto, Write, Writes, ErrorClear, Open, Close}
+use Rattle.icn_text.specs.declared.func.Func.TheVariants.{Abs, Any, Bal, Center, Char, Copy, Cset, Delete, Exit, Find, Get, Iand, Icom, Image, Insert, Integer, Ior, Ishift, Ixor, Key, Left, List, Many, Map, Match, Member, Move, Numeric, Ord, Pop, Pos, Pull, Push, Put, Read, Reads, Repl, Reverse, Right, Seq, Set, Sort, Stop, String, Tab, Table, Trim, TypeOf, Upto, Write, Writes, ErrorClear, Open, Close, Proc, Args}
 
 -- the name of a built-in function
 abbrev pub func_name : Func → Bytes ℕ
@@ -59,6 +59,8 @@ func_name Writes = codes "writes"
 func_name ErrorClear = codes "errorclear"
 func_name Open = codes "open"
 func_name Close = codes "close"
+func_name Proc = codes "proc"
+func_name Args = codes "args"
 
 -- the number of a built-in function, from 1 on: images have it, and the value of the function is made of it
 abbrev pub func_number : Func → ℕ
@@ -116,3 +118,5 @@ func_number Writes = 51
 func_number ErrorClear = 52
 func_number Open = 53
 func_number Close = 54
+func_number Proc = 55
+func_number Args = 56

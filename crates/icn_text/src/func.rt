@@ -60,11 +60,13 @@ pub enum Func {
     ErrorClear = 52,
     Open = 53,
     Close = 54,
+    Proc = 55,
+    Args = 56,
 }
 
 impl Func {
     /// All of them, in the order of their numbers.
-    pub const ALL: [Func; 54] = [
+    pub const ALL: [Func; 56] = [
         Func::Abs,
         Func::Any,
         Func::Bal,
@@ -119,6 +121,8 @@ impl Func {
         Func::ErrorClear,
         Func::Open,
         Func::Close,
+        Func::Proc,
+        Func::Args,
     ];
 
     /// The number, from 1 to how many there are.
@@ -187,6 +191,8 @@ impl Func {
             Func::ErrorClear => b"errorclear",
             Func::Open => b"open",
             Func::Close => b"close",
+            Func::Proc => b"proc",
+            Func::Args => b"args",
         }
     }
 }

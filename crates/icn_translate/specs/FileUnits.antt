@@ -5,7 +5,7 @@ use Rattle.icn_tree.specs.declared.tree.DeclItem.{DeclItem}
 use Rattle.icn_tree.specs.declared.tree.DeclItem.TheVariants.{Identifier, Text}
 use Rattle.icn_tree.specs.Trees.{Declaration, Global, Link, Invocable, Record, ProcedureOf}
 use Rattle.icn_unit.specs.PlainUnits.{PlainProc, PlainDecl, UnitRead}
-use Rattle.icn_unit.specs.PlainUnits.{Global as GlobalLine, Link as LinkLine, Procedure as ProcedureLine, Record as RecordLine}
+use Rattle.icn_unit.specs.PlainUnits.{Global as GlobalLine, Link as LinkLine, Invocable as InvocableLine, Procedure as ProcedureLine, Record as RecordLine}
 use Rattle.icn_translate.specs.ProcCodes.{proc_code, texts_of}
 
 -- the code of a procedure
@@ -20,17 +20,17 @@ codes_in (ProcedureOf procedure) = proc_code procedure ∷ []
 abbrev pub proc_codes : List Declaration → List PlainProc
 proc_codes declarations = flat_map codes_in declarations
 
--- the text that names a linked file
+-- the text of an item of `link` or `invocable`
 abbrev pub item_text : DeclItem → List ℕ
 item_text (Identifier name) = name.text
 item_text (Text name) = name.text
 
--- The declarations of a unit that a declaration gives: one for each name of `global` and for each file of `link`. A text with
--- `invocable` is refused before.
+-- The declarations of a unit that a declaration gives: one for each name of `global`, for each file of `link`, and for each item of
+-- `invocable`.
 abbrev pub lines_in : Declaration → List PlainDecl
 lines_in (Global place names) = map (λ name. GlobalLine name.text) names
 lines_in (Link place items) = map (λ item. LinkLine (item_text item)) items
-lines_in (Invocable place items) = []
+lines_in (Invocable place items) = map (λ item. InvocableLine (item_text item)) items
 lines_in (Record place name fields) = RecordLine name.text (texts_of fields) ∷ []
 lines_in (ProcedureOf procedure) = ProcedureLine procedure.name.text ∷ []
 

@@ -1,7 +1,7 @@
 // What a file gives to its unit.
 ghost use Rattle.std.specs.Prelude.{◌≡◌, ◌++◌, ◌∷◌, [], IfOk, OnOk, map};
 ghost use Rattle.icn_tree.specs.TreeOf.{declaration_of};
-ghost use Rattle.icn_unit.specs.PlainUnits.{Global as GlobalLine, Link as LinkLine, Procedure as ProcedureLine, Record as RecordLine};
+ghost use Rattle.icn_unit.specs.PlainUnits.{Global as GlobalLine, Link as LinkLine, Invocable as InvocableLine, Procedure as ProcedureLine, Record as RecordLine};
 ghost use Rattle.icn_unit.specs.UnitViews.{decl_seen, proc_seen};
 ghost use Rattle.icn_translate.specs.FileUnits.{codes_in, item_text, lines_in, proc_codes, unit_decls};
 ghost use Rattle.icn_translate.specs.NumbersTaken.{HasRoom, HaveRoom};
@@ -41,7 +41,7 @@ fn put_codes(codes: &mut Vec<ProcCode>, alloc: Global, decl: &Decl) -> Result<()
     }
 }
 
-/// The declarations of a unit, in their order, where a file has these. A declaration of several names or files gives one for
+/// The declarations of a unit, in their order, where a file has these. A declaration of several names, files or items gives one for
 /// each. An error is want of memory.
 pub fn unit_decls(alloc: Global, decls: &[Decl]) -> Result<Vec<UnitDecl>, AllocError>
     ensures { IfOk result (λ lines. map decl_seen lines.items ≡ unit_decls (map declaration_of decls.now)) }
@@ -60,7 +60,7 @@ fn put_lines(lines: &mut Vec<UnitDecl>, alloc: Global, decl: &Decl) -> Result<()
     match decl {
         Decl::Global { names, .. } => put_globals(lines, alloc, names),
         Decl::Link { items, .. } => put_links(lines, alloc, items),
-        Decl::Invocable { .. } => Ok(()),
+        Decl::Invocable { items, .. } => put_invocables(lines, alloc, items),
         Decl::Record { name, fields, .. } => put_record(lines, alloc, name, fields),
         Decl::Procedure(procedure) => put_procedure(lines, alloc, &procedure.name),
     }
@@ -103,6 +103,34 @@ fn put_link(lines: &mut Vec<UnitDecl>, alloc: Global, item: &DeclItem) -> Result
 {
     let text = Bytes::from_slice(alloc, item_text(item))?;
     lines.push(UnitDecl::Link(text))?;
+    Ok(())
+}
+
+fn put_invocables(
+    lines: &mut Vec<UnitDecl>,
+    alloc: Global,
+    items: &[DeclItem],
+) -> Result<(), AllocError>
+    ensures { OnOk result (map decl_seen lines.new.items ≡ map decl_seen lines.old.items
+        ++ map (λ item. InvocableLine (item_text item)) items.now) }
+{
+    for item in items {
+        put_invocable(lines, alloc, item)?;
+    }
+    Ok(())
+}
+
+#[tactic(auto, using(crate::proofs::DraftStarts::seen_more))]
+fn put_invocable(
+    lines: &mut Vec<UnitDecl>,
+    alloc: Global,
+    item: &DeclItem,
+) -> Result<(), AllocError>
+    ensures { OnOk result (map decl_seen lines.new.items ≡ map decl_seen lines.old.items
+        ++ InvocableLine (item_text item.now) ∷ []) }
+{
+    let text = Bytes::from_slice(alloc, item_text(item))?;
+    lines.push(UnitDecl::Invocable(text))?;
     Ok(())
 }
 

@@ -1,7 +1,7 @@
 -- What each rule says.
 use Rattle.std.specs.Prelude.{ℕ, List, codes}
 use Rattle.icn_tree.specs.declared.rule.Rule.{Rule}
-use Rattle.icn_tree.specs.declared.rule.Rule.TheVariants.{P1, P2, P3, P4, P5, P6, P7, P8, P9, L1, L2, L3, L4, L5, L6, L7, S1, S2, S3, S4, C1, C2, C3, C4, C5, C6, C7, C8, K1, K2, K3, U1, U2, U3, U4, U5, U6, U7, U8, I1, I2, I3, I4, I5, I6, I7, V1, V2, V3, V4, V5}
+use Rattle.icn_tree.specs.declared.rule.Rule.TheVariants.{P1, P2, P3, P4, P5, P6, P7, P8, P9, L1, L2, L3, L4, L5, L6, L7, S1, S2, S3, C1, C2, C3, C4, C5, C6, C7, C8, K1, K2, K3, K4, U1, U2, U3, U4, U5, U6, U7, U8, I1, I2, I3, I4, I5, I6, I7, V1, V2, V3, V4, V5}
 
 -- what a message says of a broken rule: its code and a few words
 abbrev pub rule_text : Rule → List ℕ
@@ -24,7 +24,6 @@ rule_text L7 = codes "L7 literal or name over 65535 bytes"
 rule_text S1 = codes "S1 not a program"
 rule_text S2 = codes "S2 tree higher than 2000"
 rule_text S3 = codes "S3 unknown keyword"
-rule_text S4 = codes "S4 form not in this profile"
 rule_text C1 = codes "C1 name declared twice in a procedure"
 rule_text C2 = codes "C2 break outside a loop"
 rule_text C3 = codes "C3 next outside a loop"
@@ -36,6 +35,7 @@ rule_text C8 = codes "C8 procedure or record declared twice"
 rule_text K1 = codes "K1 inconsistent redeclaration"
 rule_text K2 = codes "K2 linked file not there"
 rule_text K3 = codes "K3 program too large"
+rule_text K4 = codes "K4 invocable name not there"
 rule_text U1 = codes "U1"
 rule_text U2 = codes "U2"
 rule_text U3 = codes "U3"

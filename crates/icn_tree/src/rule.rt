@@ -42,8 +42,6 @@ pub enum Rule {
     S2,
     /// A keyword is unknown.
     S3,
-    /// The text has a form that is not in this profile.
-    S4,
     /// A name is declared twice in a procedure.
     C1,
     /// A `break` stands outside a loop.
@@ -66,6 +64,8 @@ pub enum Rule {
     K2,
     /// A program is too large for the tables of its code.
     K3,
+    /// What `invocable` names is not there.
+    K4,
     /// A line of ucode is none of the grammar.
     U1,
     /// An instruction of ucode is unknown.
@@ -135,7 +135,6 @@ impl Rule {
             Rule::S1 => b"S1 not a program",
             Rule::S2 => b"S2 tree higher than 2000",
             Rule::S3 => b"S3 unknown keyword",
-            Rule::S4 => b"S4 form not in this profile",
             Rule::C1 => b"C1 name declared twice in a procedure",
             Rule::C2 => b"C2 break outside a loop",
             Rule::C3 => b"C3 next outside a loop",
@@ -147,6 +146,7 @@ impl Rule {
             Rule::K1 => b"K1 inconsistent redeclaration",
             Rule::K2 => b"K2 linked file not there",
             Rule::K3 => b"K3 program too large",
+            Rule::K4 => b"K4 invocable name not there",
             Rule::U1 => b"U1",
             Rule::U2 => b"U2",
             Rule::U3 => b"U3",

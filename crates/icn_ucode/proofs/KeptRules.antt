@@ -12,10 +12,10 @@ use Rattle.icn_unit.specs.declared.instr_word.InstrWord.{InstrWord}
 use Rattle.icn_unit.specs.declared.unit.UnitInstr.{UnitInstr}
 use Rattle.icn_unit.specs.declared.unit.UnitName.{UnitName}
 use Rattle.icn_unit.specs.InstrWords.{instr_word_of}
-use Rattle.icn_unit.specs.PlainUnits.{PlainProc, PlainDecl, Global, Procedure, Link, Record, entry_names, owned_name, owned_names, params_in, proc_names}
+use Rattle.icn_unit.specs.PlainUnits.{PlainProc, PlainDecl, Global, Procedure, Link, Invocable, Record, entry_names, owned_name, owned_names, params_in, proc_names}
 use Rattle.icn_unit.specs.UnitOperands.{first_field, is_name, number_of}
 use Rattle.icn_unit.specs.UnitRules.{has_label, has_name, in_order, is_number, keeps_code, keeps_decl, keeps_decls, keeps_head, keeps_names, keeps_operand, keeps_proc, keeps_procs, keeps_rules, labels_differ, labels_placed, names_differ, own_labels, own_label, placed_labels, rank, same_names}
-use Rattle.icn_ucode.specs.UnitReading.{UcodeHead, ProcStage, Heading, Outside, Naming, Coding, ProcsRead, DeclStage, DeclHeading, Declaring, Ended, DeclsRead, empty_proc, bytes_read, code_line, coding_line, collects_read, decl_stage_end, decl_stage_line, declaring_line, decls_end, decls_line, decls_of, each_line, end_line, ended_line, entry_by, entry_named, entry_read, fields_from, fields_read, flag_of, global_read, head_by, head_read, instr_line, instr_of, is_indented, is_repeated, kind_of, last_rank, link_read, name_read, naming_line, or_bad, outside_line, params_read, procedure_read, procs_end, procs_line, procs_of, record_by, record_read, stage_end, stage_line, then_step, with_decl, with_entry, with_field, with_instr}
+use Rattle.icn_ucode.specs.UnitReading.{UcodeHead, ProcStage, Heading, Outside, Naming, Coding, ProcsRead, DeclStage, DeclHeading, Declaring, Ended, DeclsRead, empty_proc, bytes_read, code_line, coding_line, collects_read, decl_stage_end, decl_stage_line, declaring_line, decls_end, decls_line, decls_of, each_line, end_line, ended_line, entry_by, entry_named, entry_read, fields_from, fields_read, flag_of, global_read, head_by, head_read, instr_line, instr_of, is_indented, is_repeated, kind_of, last_rank, link_read, invocable_read, name_read, naming_line, or_bad, outside_line, params_read, procedure_read, procs_end, procs_line, procs_of, record_by, record_read, stage_end, stage_line, then_step, with_decl, with_entry, with_field, with_instr}
 use Rattle.icn_ucode.proofs.ListTests.{all_last, and_intro, and_parts, differ_last, in_order_last, not_true}
 use Rattle.icn_ucode.proofs.KeptInstrs.{bytes_kept, instr_kept, number_kept}
 use Rattle.icn_ucode.proofs.KnownNames.{bytes_turned, nat_turned, entries_named, more_placed}
@@ -313,6 +313,10 @@ link_keeps : (operand : Option (List ℕ)) (bytes : List ℕ) → bytes_read ope
 link_keeps None bytes e = absurd (none-some bytes e)
 link_keeps (Some text) bytes e = bytes_kept text bytes e
 
+invocable_keeps : (operand : Option (List ℕ)) (bytes : List ℕ) → bytes_read operand ≡ Some bytes → keeps_decl (Invocable bytes) ≡ true
+invocable_keeps None bytes e = absurd (none-some bytes e)
+invocable_keeps (Some text) bytes e = bytes_kept text bytes e
+
 abbrev FieldsKeep : List (List ℕ) → Type 0
 FieldsKeep fields = (list_all is_name fields ≡ true) × (names_differ fields ≡ true)
 
@@ -387,6 +391,13 @@ link_decl_keeps decls operand decl good e =
     subst (λ (decl : PlainDecl). keeps_decls (decls ++ decl ∷ []) ≡ true) found.2
     (decl_keeps decls (Link found.0) good (link_keeps operand found.0 found.1) (unowned decls good))
 
+invocable_decl_keeps : (decls : List PlainDecl) (operand : Option (List ℕ)) (decl : PlainDecl) → keeps_decls decls ≡ true
+    → invocable_read operand ≡ Some decl → keeps_decls (decls ++ decl ∷ []) ≡ true
+invocable_decl_keeps decls operand decl good e =
+    let found = mapped_decl (bytes_read operand) (λ bytes. Invocable bytes) decl e in
+    subst (λ (decl : PlainDecl). keeps_decls (decls ++ decl ∷ []) ≡ true) found.2
+    (decl_keeps decls (Invocable found.0) good (invocable_keeps operand found.0 found.1) (unowned decls good))
+
 -- a declaration, where the line has one
 line_pushed : (decls : List PlainDecl) (found : Option PlainDecl) (next : DeclsRead)
     → ((decl : PlainDecl) → found ≡ Some decl → keeps_decls (decls ++ decl ∷ []) ≡ true)
@@ -413,10 +424,13 @@ declaring_keeps procs decls word operand next good e =
     (bytes_eq word (codes "proc")) _ _ next (line_pushed decls (procedure_read decls operand) next (λ decl f. proc_decl_keeps decls operand decl good f))
     (either_way (DeclReadKeeps next)
     (bytes_eq word (codes "link")) _ _ next (line_pushed decls (link_read operand) next (λ decl f. link_decl_keeps decls operand decl good f))
+    (either_way (DeclReadKeeps next)
+    (bytes_eq word (codes "invocable")) _ _ next
+    (line_pushed decls (invocable_read operand) next (λ decl f. invocable_decl_keeps decls operand decl good f))
     (either_way (DeclReadKeeps next) (bytes_eq word (codes "record"))
     _ _ next (line_pushed decls (record_read procs decls operand) next (λ decl f. record_keeps procs decls operand decl good f))
     (either_way (DeclReadKeeps next) (bytes_eq word (codes "end")) (ended_line decls operand) (Err U1) next (ended_keeps decls operand next good)
-    (λ f. absurd (err_ok U1 next f)))))) e
+    (λ f. absurd (err_ok U1 next f))))))) e
 
 decl_stage_keeps : (procs : List (List ℕ)) (decls : List PlainDecl) (stage : DeclStage) (line : List ℕ) (next : DeclsRead) → DeclsKeep decls stage
     → decl_stage_line procs decls stage line ≡ Ok next → DeclReadKeeps next

@@ -7,7 +7,7 @@ use Rattle.std.specs.Str.{bytes_eq}
 use Rattle.std.specs.Cmp.Lexicographic.{same_text}
 use Rattle.std.proofs.lemmas.Bool.{cond-true, cond-false, false≢true}
 use Rattle.icn_unit.specs.OperandViews.{is_in_line}
-use Rattle.icn_unit.specs.PlainUnits.{PlainDecl, Global, Procedure, Link, PlainProc, Record, declared_name, declared_names, owned_name, owned_names, proc_names}
+use Rattle.icn_unit.specs.PlainUnits.{PlainDecl, Global, Procedure, Link, Invocable, PlainProc, Record, declared_name, declared_names, owned_name, owned_names, proc_names}
 use Rattle.icn_unit.specs.UnitOperands.{first_field, is_inside, is_name}
 use Rattle.icn_unit.specs.UnitRules.{has_name, keeps_decl, keeps_decls, names_differ, same_names, same_texts}
 use Rattle.icn_unit.specs.UnitTexts.{behind_blank, bytes_text, decl_text, decls_text}
@@ -108,6 +108,7 @@ abbrev IsApart : List (List ℕ) → PlainDecl → Type 0
 IsApart procs (Global name) = Unit {0}
 IsApart procs (Procedure name) = Unit {0}
 IsApart procs (Link bytes) = Unit {0}
+IsApart procs (Invocable bytes) = Unit {0}
 IsApart procs (Record name fields) = has_name procs name ≡ false
 
 free_name : (decls : List PlainDecl) (name : List ℕ) → (not (has_name (owned_names decls) name) && true) ≡ true → has_name (owned_names decls) name ≡ false
@@ -150,6 +151,15 @@ decl_line procs decls (Link bytes) h apart free = record {
   words = cut_word (codes "link") (bytes_text bytes) refl;
   read = ap (λ found. or_bad (option_map (λ bytes. Link bytes) found) (with_decl decls)) (bytes_again bytes h);
 }
+decl_line procs decls (Invocable bytes) h apart free = record {
+  word = codes "invocable";
+  operand = bytes_text bytes;
+  spelled = refl;
+  plain = clean_in_line (bytes_text bytes) (bytes_clean bytes h);
+  flush = refl;
+  words = cut_word (codes "invocable") (bytes_text bytes) refl;
+  read = ap (λ found. or_bad (option_map (λ bytes. Invocable bytes) found) (with_decl decls)) (bytes_again bytes h);
+}
 decl_line procs decls (Record name fields) h apart free =
     let parts = and_parts (is_name name && list_all is_name fields) (names_differ fields) h in
     let firsts = and_parts (is_name name) (list_all is_name fields) parts.0 in
@@ -182,6 +192,7 @@ decl_free : (done : List PlainDecl) (decl : PlainDecl) (more : List (List ℕ)) 
     → IsFree done decl
 decl_free done (Global name) more h = refl
 decl_free done (Link bytes) more h = refl
+decl_free done (Invocable bytes) more h = refl
 decl_free done (Procedure name) more h = and_intro (not (has_name (owned_names done) name)) true
     (not_of_false (has_name (owned_names done) name) (differs_at bytes_eq bytes_turned (owned_names done) name more h)) refl
 decl_free done (Record name fields) more h = and_intro (not (has_name (owned_names done) name)) true
@@ -192,6 +203,7 @@ subset : (decls : List PlainDecl) (name : List ℕ) → has_name (owned_names de
 subset [] name h = refl
 subset (Global other ∷ decls) name h = subset decls name h
 subset (Link bytes ∷ decls) name h = subset decls name h
+subset (Invocable bytes ∷ decls) name h = subset decls name h
 subset (Procedure other ∷ decls) name h = let parts = neither (bytes_eq name other) (has_name (owned_names decls) name) h in
     nor (bytes_eq name other) (has_name (declared_names decls) name) parts.0 (subset decls name parts.1)
 subset (Record other fields ∷ decls) name h = subset decls name (neither (bytes_eq name other) (has_name (owned_names decls) name) h).1
@@ -213,6 +225,7 @@ decl_apart : (done : List PlainDecl) (decl : PlainDecl) (rest : List PlainDecl)
 decl_apart done (Global name) rest h = tt
 decl_apart done (Procedure name) rest h = tt
 decl_apart done (Link bytes) rest h = tt
+decl_apart done (Invocable bytes) rest h = tt
 decl_apart done (Record name fields) rest h =
     let before = differs_at bytes_eq bytes_turned (owned_names done) name (owned_names rest) h in
     let behind = differs_behind (owned_names done) name (owned_names rest) h in

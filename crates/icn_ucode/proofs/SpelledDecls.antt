@@ -10,9 +10,9 @@ use Rattle.std.proofs.lemmas.Option.{none-some, same_Some}
 use Rattle.icn_tree.specs.declared.rule.Rule.{Rule}
 use Rattle.icn_tree.specs.declared.rule.Rule.TheVariants.{U1, U3, U6}
 use Rattle.icn_unit.specs.UnitOperands.{first_field, is_name}
-use Rattle.icn_unit.specs.PlainUnits.{PlainDecl, Global, Procedure, Link, Record, owned_names}
+use Rattle.icn_unit.specs.PlainUnits.{PlainDecl, Global, Procedure, Link, Invocable, Record, owned_names}
 use Rattle.icn_unit.specs.UnitRules.{has_name}
-use Rattle.icn_ucode.specs.UnitReading.{global_read, is_indented, link_read, DeclStage, DeclHeading, Declaring, Ended, DeclsRead, bytes_read, decl_stage_end, decl_stage_line, declaring_line, decls_end, decls_line, decls_of, each_line, ended_line, fields_from, fields_read, name_read, or_bad, procedure_read, record_by, record_read, then_step, with_decl, with_field}
+use Rattle.icn_ucode.specs.UnitReading.{global_read, invocable_read, is_indented, link_read, DeclStage, DeclHeading, Declaring, Ended, DeclsRead, bytes_read, decl_stage_end, decl_stage_line, declaring_line, decls_end, decls_line, decls_of, each_line, ended_line, fields_from, fields_read, name_read, or_bad, procedure_read, record_by, record_read, then_step, with_decl, with_field}
 use Rattle.icn_unit.specs.UnitTexts.{behind_blank, bytes_text, decl_text, decls_text}
 use Rattle.icn_ucode.proofs.Spelling.{rest_text, cut_all, bytes_spelled}
 use Rattle.icn_ucode.proofs.SpelledLines.{ok_same, err_ok, heading_line, lines_spelled, not_chosen_step, found_in, then_some, picked, texts_more, going}
@@ -67,6 +67,12 @@ link_line : (operand : Option (List ℕ)) (decl : PlainDecl) → link_read opera
 link_line operand decl e =
     let found = mapped_decl (bytes_read operand) (λ bytes. Link bytes) decl e in
     ap decl_text (sym found.2) ∙ ap (λ xs. (codes "link" ++ xs) ++ 10 ∷ []) (sym (link_spelled operand found.0 found.1))
+
+invocable_line : (operand : Option (List ℕ)) (decl : PlainDecl) → invocable_read operand ≡ Some decl
+    → decl_text decl ≡ (codes "invocable" ++ rest_text operand) ++ 10 ∷ []
+invocable_line operand decl e =
+    let found = mapped_decl (bytes_read operand) (λ bytes. Invocable bytes) decl e in
+    ap decl_text (sym found.2) ∙ ap (λ xs. (codes "invocable" ++ xs) ++ 10 ∷ []) (sym (link_spelled operand found.0 found.1))
 
 record_named : (procs : List (List ℕ)) (decls : List PlainDecl) (name : List ℕ) (rest : Option (List ℕ)) (decl : PlainDecl)
     → record_by procs decls name rest ≡ Some decl
@@ -153,19 +159,28 @@ declaring_adds procs decls word operand next e = by_global (bytes_eq word (codes
       pushed decls found.0 (word ++ rest_text operand) next (record_spelled procs decls operand found.0 found.1 ∙ line_is (codes "record") t) found.2
   by_record false t e = by_end (bytes_eq word (codes "end")) refl e
 
-  by_link : (test : Bool) → bytes_eq word (codes "link") ≡ test
-      → cond test (or_bad (link_read operand) (with_decl decls)) (cond (bytes_eq word (codes "record"))
+  by_invocable : (test : Bool) → bytes_eq word (codes "invocable") ≡ test
+      → cond test (or_bad (invocable_read operand) (with_decl decls)) (cond (bytes_eq word (codes "record"))
       (or_bad (record_read procs decls operand) (with_decl decls)) (cond (bytes_eq word (codes "end")) (ended_line decls operand) (Err U1))) ≡ Ok next
+      → Adds (declared decls) (word ++ rest_text operand) next
+  by_invocable true t e =
+      let found = found_in (invocable_read operand) (with_decl decls) next e in
+      pushed decls found.0 (word ++ rest_text operand) next (invocable_line operand found.0 found.1 ∙ line_is (codes "invocable") t) found.2
+  by_invocable false t e = by_record (bytes_eq word (codes "record")) refl e
+
+  by_link : (test : Bool) → bytes_eq word (codes "link") ≡ test
+      → cond test (or_bad (link_read operand) (with_decl decls)) (cond (bytes_eq word (codes "invocable")) (or_bad (invocable_read operand) (with_decl decls)) (cond (bytes_eq word (codes "record"))
+      (or_bad (record_read procs decls operand) (with_decl decls)) (cond (bytes_eq word (codes "end")) (ended_line decls operand) (Err U1)))) ≡ Ok next
       → Adds (declared decls) (word ++ rest_text operand) next
   by_link true t e =
       let found = found_in (link_read operand) (with_decl decls) next e in
       pushed decls found.0 (word ++ rest_text operand) next (link_line operand found.0 found.1 ∙ line_is (codes "link") t) found.2
-  by_link false t e = by_record (bytes_eq word (codes "record")) refl e
+  by_link false t e = by_invocable (bytes_eq word (codes "invocable")) refl e
 
   by_proc : (test : Bool) → bytes_eq word (codes "proc") ≡ test
       → cond test (or_bad (procedure_read decls operand) (with_decl decls))
-      (cond (bytes_eq word (codes "link")) (or_bad (link_read operand) (with_decl decls)) (cond (bytes_eq word (codes "record"))
-      (or_bad (record_read procs decls operand) (with_decl decls)) (cond (bytes_eq word (codes "end")) (ended_line decls operand) (Err U1)))) ≡ Ok next
+      (cond (bytes_eq word (codes "link")) (or_bad (link_read operand) (with_decl decls)) (cond (bytes_eq word (codes "invocable")) (or_bad (invocable_read operand) (with_decl decls)) (cond (bytes_eq word (codes "record"))
+      (or_bad (record_read procs decls operand) (with_decl decls)) (cond (bytes_eq word (codes "end")) (ended_line decls operand) (Err U1))))) ≡ Ok next
       → Adds (declared decls) (word ++ rest_text operand) next
   by_proc true t e =
       let found = found_in (procedure_read decls operand) (with_decl decls) next e in
@@ -174,8 +189,8 @@ declaring_adds procs decls word operand next e = by_global (bytes_eq word (codes
 
   by_global : (test : Bool) → bytes_eq word (codes "global") ≡ test
       → cond test (or_bad (global_read operand) (with_decl decls)) (cond (bytes_eq word (codes "proc")) (or_bad (procedure_read decls operand)
-      (with_decl decls)) (cond (bytes_eq word (codes "link")) (or_bad (link_read operand) (with_decl decls)) (cond (bytes_eq word (codes "record"))
-      (or_bad (record_read procs decls operand) (with_decl decls)) (cond (bytes_eq word (codes "end")) (ended_line decls operand) (Err U1))))) ≡ Ok next
+      (with_decl decls)) (cond (bytes_eq word (codes "link")) (or_bad (link_read operand) (with_decl decls)) (cond (bytes_eq word (codes "invocable")) (or_bad (invocable_read operand) (with_decl decls)) (cond (bytes_eq word (codes "record"))
+      (or_bad (record_read procs decls operand) (with_decl decls)) (cond (bytes_eq word (codes "end")) (ended_line decls operand) (Err U1)))))) ≡ Ok next
       → Adds (declared decls) (word ++ rest_text operand) next
   by_global true t e =
       let found = found_in (global_read operand) (with_decl decls) next e in

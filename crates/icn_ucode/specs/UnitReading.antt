@@ -16,7 +16,7 @@ use Rattle.icn_unit.specs.declared.unit.NameKind.{NameKind}
 use Rattle.icn_unit.specs.declared.unit.NameKind.TheVariants.{Parameter, Local, Static, Undeclared}
 use Rattle.icn_unit.specs.declared.unit.UnitName.{UnitName}
 use Rattle.icn_unit.specs.InstrWords.{instr_word_of, alone_of, labelled_of}
-use Rattle.icn_unit.specs.PlainUnits.{PlainProc, PlainDecl, Global, Procedure, Link, Record, UnitRead, params_in, proc_names, entry_names, owned_names}
+use Rattle.icn_unit.specs.PlainUnits.{PlainProc, PlainDecl, Global, Procedure, Link, Invocable, Record, UnitRead, params_in, proc_names, entry_names, owned_names}
 use Rattle.icn_unit.specs.UnitOperands.{first_field, number_of, label_of, is_name, bytes_of, ascends, keyword_of}
 use Rattle.icn_unit.specs.UnitRules.{has_name, has_label, labels_placed, own_label, placed_labels, rank, same_names}
 
@@ -273,6 +273,10 @@ global_read operand = option_map (λ name. Global name) (name_read operand)
 abbrev pub link_read : Option (List ℕ) → Option PlainDecl
 link_read operand = option_map (λ bytes. Link bytes) (bytes_read operand)
 
+-- the declaration of what may be called by its name
+abbrev pub invocable_read : Option (List ℕ) → Option PlainDecl
+invocable_read operand = option_map (λ bytes. Invocable bytes) (bytes_read operand)
+
 -- a record of this name, which neither a procedure nor another record has, with the text of its fields
 abbrev pub record_by : List (List ℕ) → List PlainDecl → List ℕ → Option (List ℕ) → Option PlainDecl
 record_by procs decls name rest =
@@ -316,8 +320,9 @@ declaring_line procs decls word operand =
     if bytes_eq word (codes "global") then or_bad (global_read operand) (with_decl decls)
     else (if bytes_eq word (codes "proc") then or_bad (procedure_read decls operand) (with_decl decls)
     else (if bytes_eq word (codes "link") then or_bad (link_read operand) (with_decl decls)
+    else (if bytes_eq word (codes "invocable") then or_bad (invocable_read operand) (with_decl decls)
     else (if bytes_eq word (codes "record") then or_bad (record_read procs decls operand) (with_decl decls)
-    else (if bytes_eq word (codes "end") then ended_line decls operand else Err U1))))
+    else (if bytes_eq word (codes "end") then ended_line decls operand else Err U1)))))
 
 -- a line that is not indented, by what the next line may be
 abbrev pub decl_stage_line : List (List ℕ) → List PlainDecl → DeclStage → List ℕ → Result DeclsRead Rule

@@ -6,7 +6,7 @@ ghost use Rattle.icn_unit.specs.UnitOperands.{first_field, is_name};
 ghost use Rattle.icn_unit.specs.UnitRules.{has_name};
 ghost use Rattle.icn_unit.specs.UnitViews.{decl_seen, proc_seen};
 ghost use Rattle.icn_ucode.specs.DeclViews.{DeclsAre, LineIs, reading_seen, stage_seen};
-ghost use Rattle.icn_ucode.specs.UnitReading.{Declaring, bytes_read, decl_stage_end, decl_stage_line, decls_line, decls_of, ended_line, fields_read, global_read, with_heading, link_read, name_read, or_bad, procedure_read, record_read, with_decl};
+ghost use Rattle.icn_ucode.specs.UnitReading.{Declaring, bytes_read, decl_stage_end, decl_stage_line, decls_line, decls_of, ended_line, fields_read, global_read, invocable_read, with_heading, link_read, name_read, or_bad, procedure_read, record_read, with_decl};
 
 use crate::decl_lists::{DeclReading, DeclStage, Decls, RecordFields};
 use crate::proc_lists::Procs;
@@ -92,6 +92,21 @@ fn link_line<'a>(
     Ok(decls_so_far(decls.with(UnitDecl::Link(bytes))?))
 }
 
+// Takes the line of what may be called by its name.
+fn invocable_line<'a>(
+    alloc: Global,
+    decls: Decls<'a>,
+    operand: Option<&[u8]>,
+) -> Result<DeclReading<'a>, UnitStop>
+    ensures { LineIs result (or_bad (invocable_read (option_copied operand.entry))
+        (with_decl (map decl_seen decls.entry.decls.items))) }
+{
+    let Some(bytes) = read_bytes(alloc, operand)? else {
+        return Err(UnitStop::Broken(Rule::U3));
+    };
+    Ok(decls_so_far(decls.with(UnitDecl::Invocable(bytes))?))
+}
+
 // Takes the line of a procedure.
 fn proc_line<'a>(
     alloc: Global,
@@ -162,6 +177,8 @@ fn decl_line<'a>(
         proc_line(alloc, decls, operand)
     } else if word == b"link".as_slice() {
         link_line(alloc, decls, operand)
+    } else if word == b"invocable".as_slice() {
+        invocable_line(alloc, decls, operand)
     } else if word == b"record".as_slice() {
         record_line(alloc, procs, decls, operand)
     } else if word == b"end".as_slice() {

@@ -14,11 +14,12 @@ pub record PlainProc : Type 0 where
   pub names : List UnitName
   pub instrs : List UnitInstr
 
--- a declaration: of a global, a procedure, a linked unit, or a record with its fields
+-- a declaration: of a global, a procedure, a linked unit, something that may be called by its name, or a record with its fields
 pub data PlainDecl : Type 0 where
   Global : List ℕ → PlainDecl
   Procedure : List ℕ → PlainDecl
   Link : List ℕ → PlainDecl
+  Invocable : List ℕ → PlainDecl
   Record : List ℕ → List (List ℕ) → PlainDecl
 
 -- a unit: its name, the code of its procedures, and its declarations
@@ -51,6 +52,7 @@ abbrev pub owned_name : PlainDecl → List (List ℕ)
 owned_name (Global name) = []
 owned_name (Procedure name) = name ∷ []
 owned_name (Link bytes) = []
+owned_name (Invocable bytes) = []
 owned_name (Record name fields) = name ∷ []
 
 -- the names of the procedures and the records that are declared
@@ -62,6 +64,7 @@ abbrev pub declared_name : PlainDecl → List (List ℕ)
 declared_name (Procedure name) = name ∷ []
 declared_name (Global name) = []
 declared_name (Link bytes) = []
+declared_name (Invocable bytes) = []
 declared_name (Record name fields) = []
 
 -- the names of the procedures among declarations

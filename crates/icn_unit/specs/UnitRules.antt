@@ -10,7 +10,7 @@ use Rattle.icn_unit.specs.declared.unit.UnitInstr.{UnitInstr}
 use Rattle.icn_unit.specs.declared.unit.UnitInstr.TheVariants.{Int, Str, Cset, Var, Llist, Field, Invoke, Mark, Chfail, Goto, Loop, Init, Create, Lab}
 use Rattle.icn_unit.specs.declared.unit.UnitInstr.TheVariants as I
 use Rattle.icn_unit.specs.declared.unit.UnitName.{UnitName}
-use Rattle.icn_unit.specs.PlainUnits.{PlainProc, PlainDecl, Global, Procedure, Link, Record, params_in, proc_names, entry_names, owned_names, declared_names}
+use Rattle.icn_unit.specs.PlainUnits.{PlainProc, PlainDecl, Global, Procedure, Link, Invocable, Record, params_in, proc_names, entry_names, owned_names, declared_names}
 use Rattle.icn_unit.specs.UnitOperands.{is_name, ascends}
 
 -- Texts and numbers
@@ -177,6 +177,7 @@ abbrev pub keeps_decl : PlainDecl → Bool
 keeps_decl (Global name) = is_name name
 keeps_decl (Procedure name) = is_name name
 keeps_decl (Link bytes) = is_byte_text bytes
+keeps_decl (Invocable bytes) = is_byte_text bytes
 keeps_decl (Record name fields) = is_name name && list_all is_name fields && names_differ fields
 
 -- the rules of the declarations of a unit, of which no two own the same name

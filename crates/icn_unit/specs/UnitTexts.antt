@@ -10,7 +10,7 @@ use Rattle.icn_unit.specs.declared.unit.UnitInstr.{UnitInstr}
 use Rattle.icn_unit.specs.declared.unit.UnitInstr.TheVariants.{Int, Str, Cset, Var, Keywd, Op, Field, Llist, Invoke, Mark, Chfail, Goto, Loop, Init, Create, Lab}
 use Rattle.icn_unit.specs.declared.unit.UnitName.{UnitName}
 use Rattle.icn_unit.specs.InstrWords.{word_of, word_text}
-use Rattle.icn_unit.specs.PlainUnits.{PlainProc, PlainDecl, Global, Procedure, Link, Record, params_in}
+use Rattle.icn_unit.specs.PlainUnits.{PlainProc, PlainDecl, Global, Procedure, Link, Invocable, Record, params_in}
 
 -- a digit of hexadecimal, in lower case
 abbrev pub hexadecimal_digit : ℕ → ℕ
@@ -92,6 +92,7 @@ abbrev pub decl_text : PlainDecl → List ℕ
 decl_text (Global name) = codes "global " ++ name ++ 10 ∷ []
 decl_text (Procedure name) = codes "proc " ++ name ++ 10 ∷ []
 decl_text (Link bytes) = codes "link " ++ bytes_text bytes ++ 10 ∷ []
+decl_text (Invocable bytes) = codes "invocable " ++ bytes_text bytes ++ 10 ∷ []
 decl_text (Record name fields) = codes "record " ++ name ++ flat_map behind_blank fields ++ 10 ∷ []
 
 -- the second

@@ -118,6 +118,8 @@ pub enum UnitDecl {
     Proc(Bytes),
     /// A file that is to be linked.
     Link(Bytes),
+    /// What may be called by its name, or `all`.
+    Invocable(Bytes),
     /// A record with its fields.
     Record(Bytes, Vec<Bytes>),
 }

@@ -222,11 +222,8 @@ fn put_decl(text: &mut Vec<u8>, decl: &UnitDecl) -> Result<(), AllocError>
     match decl {
         UnitDecl::Global(name) => put_line(text, b"global", name.as_slice()),
         UnitDecl::Proc(name) => put_line(text, b"proc", name.as_slice()),
-        UnitDecl::Link(bytes) => {
-            text.extend_from_slice(b"link")?;
-            put_bytes(text, bytes.as_slice())?;
-            text.extend_from_slice(b"\n")
-        }
+        UnitDecl::Link(bytes) => put_bytes_line(text, b"link", bytes.as_slice()),
+        UnitDecl::Invocable(bytes) => put_bytes_line(text, b"invocable", bytes.as_slice()),
         UnitDecl::Record(name, fields) => put_record(text, name.as_slice(), fields),
     }
 }
@@ -237,6 +234,16 @@ fn put_line(text: &mut Vec<u8>, word: &[u8], name: &[u8]) -> Result<(), AllocErr
 {
     text.extend_from_slice(word)?;
     put_word(text, name)?;
+    text.extend_from_slice(b"\n")
+}
+
+// A line of a word and bytes in hexadecimal.
+fn put_bytes_line(text: &mut Vec<u8>, word: &[u8], bytes: &[u8]) -> Result<(), AllocError>
+    ensures { OnOk result
+        (text.new.items ≡ text.old.items ++ word.now ++ behind_blank (bytes_text bytes.now) ++ 10 ∷ []) }
+{
+    text.extend_from_slice(word)?;
+    put_bytes(text, bytes)?;
     text.extend_from_slice(b"\n")
 }
 

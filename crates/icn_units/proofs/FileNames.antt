@@ -11,7 +11,7 @@ use Rattle.icn_decls.specs.Contexts.{BrokenRule, fault}
 use Rattle.icn_decls.specs.Faults.{fault_if_met, names_after, declaration_faults, declarations_faults, all_repeated, too_many}
 use Rattle.icn_tree.specs.NameSets.{NameTest, with_name, none_met}
 use Rattle.icn_unit.specs.PlainUnits.{PlainDecl, proc_names, owned_name, owned_names, declared_name, declared_names}
-use Rattle.icn_unit.specs.PlainUnits.{Global as GlobalLine, Link as LinkLine}
+use Rattle.icn_unit.specs.PlainUnits.{Global as GlobalLine, Link as LinkLine, Invocable as InvocableLine}
 use Rattle.icn_unit.specs.UnitRules.{names_differ, same_texts, same_names}
 use Rattle.icn_translate.specs.FileUnits.{proc_codes, item_text, lines_in, unit_decls}
 use Rattle.icn_translate.specs.ProcCodes.{texts_of}
@@ -63,7 +63,8 @@ unit_owners (Link place items ∷ others) =
     in_front owned_name (Link place items) others [] (owners others)
     (no_names (λ (item : DeclItem). LinkLine (item_text item)) owned_name (λ item. refl) items) (unit_owners others)
 unit_owners (Invocable place items ∷ others) =
-    in_front owned_name (Invocable place items) others [] (owners others) refl (unit_owners others)
+    in_front owned_name (Invocable place items) others [] (owners others)
+    (no_names (λ (item : DeclItem). InvocableLine (item_text item)) owned_name (λ item. refl) items) (unit_owners others)
 unit_owners (Record place name fields ∷ others) =
     in_front owned_name (Record place name fields) others (name.text ∷ []) (owners others) refl (unit_owners others)
 unit_owners (ProcedureOf procedure ∷ others) =
@@ -81,7 +82,9 @@ unit_declared (Link place items ∷ others) =
     (no_names (λ (item : DeclItem). LinkLine (item_text item)) declared_name (λ item. refl) items)
     (unit_declared others)
 unit_declared (Invocable place items ∷ others) =
-    in_front declared_name (Invocable place items) others [] (procedures others) refl (unit_declared others)
+    in_front declared_name (Invocable place items) others [] (procedures others)
+    (no_names (λ (item : DeclItem). InvocableLine (item_text item)) declared_name (λ item. refl) items)
+    (unit_declared others)
 unit_declared (Record place name fields ∷ others) =
     in_front declared_name (Record place name fields) others [] (procedures others) refl (unit_declared others)
 unit_declared (ProcedureOf procedure ∷ others) =
@@ -243,7 +246,8 @@ line_fields met (Global place names) h =
     all_pass fields_differ (λ (name : Name). GlobalLine name.text) (λ name. refl) names
 line_fields met (Link place items) h = all_pass fields_differ (λ (item : DeclItem). LinkLine (item_text item))
     (λ item. refl) items
-line_fields met (Invocable place items) h = refl
+line_fields met (Invocable place items) h = all_pass fields_differ (λ (item : DeclItem). InvocableLine (item_text item))
+    (λ item. refl) items
 line_fields met (Record place name fields) h =
     ap (λ b. b && true) (record_fields met name (too_many (length fields) name) fields h)
 line_fields met (ProcedureOf p) h = refl

@@ -20,7 +20,7 @@ use Rattle.icn_unit.specs.declared.unit.UnitInstr.TheVariants as I
 use Rattle.icn_unit.specs.declared.unit.NameKind.TheVariants.{Parameter, Undeclared}
 use Rattle.icn_unit.specs.declared.unit.UnitName.{UnitName}
 use Rattle.icn_unit.specs.PlainUnits.{PlainProc, PlainDecl, is_parameter, params_in}
-use Rattle.icn_unit.specs.PlainUnits.{Global as GlobalLine, Link as LinkLine}
+use Rattle.icn_unit.specs.PlainUnits.{Global as GlobalLine, Link as LinkLine, Invocable as InvocableLine}
 use Rattle.icn_unit.specs.UnitOperands.{is_name, ascends}
 use Rattle.icn_unit.specs.UnitRules.{is_byte, is_number, keeps_operand, keeps_proc, keeps_decl, keeps_rules, names_differ}
 use Rattle.icn_translate.specs.FileUnits.{proc_codes, item_text, lines_in, unit_decls}
@@ -182,7 +182,7 @@ codes_kept met (Link place items ∷ others) f w n =
     (and_second (declaration_fits is_short (Link place items)) (file_fits is_short others) w) n
 codes_kept met (Invocable place items ∷ others) f w n =
     codes_kept met others (others_faultless met (Invocable place items) others f)
-    (and_second true (file_fits is_short others) w) n
+    (and_second (declaration_fits is_short (Invocable place items)) (file_fits is_short others) w) n
 codes_kept met (Record place name fields ∷ others) f w n =
     codes_kept (names_after met (Record place name fields)) others
     (others_faultless met (Record place name fields) others f)
@@ -222,12 +222,23 @@ links_kept (item ∷ items) h b =
     (links_kept items (and_second (item_fits is_short item) (list_all (item_fits is_short) items) h)
     (and_second (list_all is_byte (item_text item)) rest b))
 
+invocables_kept : (items : List DeclItem) → list_all (item_fits is_short) items ≡ true
+    → list_all bytes_fit (map (λ (item : DeclItem). InvocableLine (item_text item)) items) ≡ true
+    → list_all keeps_decl (map (λ (item : DeclItem). InvocableLine (item_text item)) items) ≡ true
+invocables_kept [] h b = refl
+invocables_kept (item ∷ items) h b =
+    let rest = list_all bytes_fit (map (λ (item : DeclItem). InvocableLine (item_text item)) items) in
+    and_intro (and_intro (and_first (list_all is_byte (item_text item)) rest b)
+    (short_item item (and_first (item_fits is_short item) (list_all (item_fits is_short) items) h)))
+    (invocables_kept items (and_second (item_fits is_short item) (list_all (item_fits is_short) items) h)
+    (and_second (list_all is_byte (item_text item)) rest b))
+
 lines_kept : (declaration : Declaration) → declaration_fits is_short declaration ≡ true
     → list_all fields_differ (lines_in declaration) ≡ true → list_all bytes_fit (lines_in declaration) ≡ true
     → list_all keeps_decl (lines_in declaration) ≡ true
 lines_kept (Global place names) h f b = globals_kept names h
 lines_kept (Link place items) h f b = links_kept items h b
-lines_kept (Invocable place items) h f b = refl
+lines_kept (Invocable place items) h f b = invocables_kept items h b
 lines_kept (Record place name fields) h f b =
     and_intro (and_intro (and_intro (and_first (name_fits name) (names_fit fields) h)
     (texts_fit fields (and_second (name_fits name) (names_fit fields) h)))

@@ -85,8 +85,8 @@ module _ (passes : List ℕ → Bool) where
       (keeps_then (keeps_sign_at place _) (fits_all identifier name_fits name_keeps names)) (λ y. y.1)
   fits_declaration (Link place items) = keeps_map
       (keeps_then (keeps_sign_at place _) (fits_all SpellsItem (item_fits passes) fits_item items)) (λ y. y.1)
-  fits_declaration (Invocable place items) =
-      keeps_map (keeps_then (keeps_sign_at place _) (fits_all SpellsItem (item_fits passes) fits_item items)) (λ y. refl)
+  fits_declaration (Invocable place items) = keeps_map
+      (keeps_then (keeps_sign_at place _) (fits_all SpellsItem (item_fits passes) fits_item items)) (λ y. y.1)
   fits_declaration (Record place name fields) =
       keeps_map (keeps_then (keeps_sign_at place _)
       (keeps_then (name_keeps name) (keeps_then (keeps_sign _) (keeps_then (fits_names fields) (keeps_sign _)))))

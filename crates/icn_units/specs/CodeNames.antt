@@ -3,7 +3,7 @@ use Rattle.std.specs.Prelude.{ℕ, Bool, true, nat_lt, length}
 use Rattle.std.specs.List.{list_all}
 use Rattle.icn_unit.specs.declared.unit.UnitInstr.{UnitInstr}
 use Rattle.icn_unit.specs.declared.unit.UnitInstr.TheVariants.{Var}
-use Rattle.icn_unit.specs.PlainUnits.{PlainProc, PlainDecl, Global, Procedure, Link, Record}
+use Rattle.icn_unit.specs.PlainUnits.{PlainProc, PlainDecl, Global, Procedure, Link, Invocable, Record}
 use Rattle.icn_unit.specs.UnitRules.{names_differ}
 
 -- where an instruction pushes a variable, it is that of one of so many names
@@ -20,4 +20,5 @@ abbrev pub fields_differ : PlainDecl → Bool
 fields_differ (Global name) = true
 fields_differ (Procedure name) = true
 fields_differ (Link text) = true
+fields_differ (Invocable text) = true
 fields_differ (Record name fields) = names_differ fields

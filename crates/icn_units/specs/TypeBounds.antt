@@ -3,7 +3,7 @@ use Rattle.std.specs.Prelude.{Bool, true}
 use Rattle.std.specs.List.{list_all}
 use Rattle.icn_unit.specs.declared.unit.UnitInstr.{UnitInstr}
 use Rattle.icn_unit.specs.declared.unit.UnitInstr.TheVariants as I
-use Rattle.icn_unit.specs.PlainUnits.{PlainProc, PlainDecl, Global, Procedure, Link, Record}
+use Rattle.icn_unit.specs.PlainUnits.{PlainProc, PlainDecl, Global, Procedure, Link, Invocable, Record}
 use Rattle.icn_unit.specs.UnitRules.{is_byte, is_number}
 
 -- the number of an instruction has 32 bits, and its text is of bytes
@@ -49,9 +49,10 @@ number_fits I.Cofail = true
 abbrev pub numbers_fit : PlainProc → Bool
 numbers_fit proc = list_all number_fits proc.instrs
 
--- the text of a link declaration is of bytes
+-- the text of what is linked or may be called is of bytes
 abbrev pub bytes_fit : PlainDecl → Bool
 bytes_fit (Global name) = true
 bytes_fit (Procedure name) = true
 bytes_fit (Link text) = list_all is_byte text
+bytes_fit (Invocable text) = list_all is_byte text
 bytes_fit (Record name fields) = true

@@ -89,7 +89,7 @@ abbrev pub initial_fits : (List ℕ → Bool) → Initial → Bool
 initial_fits passes NoInitial = true
 initial_fits passes (Initially place value) = tree_fits passes value
 
--- a linked file is named by an identifier or a text
+-- an item of `link` or `invocable` is an identifier or a text
 abbrev pub item_fits : (List ℕ → Bool) → DeclItem → Bool
 item_fits passes (Items.Identifier name) = name_fits name
 item_fits passes (Items.Text name) = passes name.text
@@ -112,7 +112,7 @@ collects_fits procedure = not procedure.is_variadic || nat_lt 0 (length procedur
 abbrev pub declaration_fits : (List ℕ → Bool) → Declaration → Bool
 declaration_fits passes (Global place names) = names_fit names
 declaration_fits passes (Link place items) = list_all (item_fits passes) items
-declaration_fits passes (Invocable place items) = true
+declaration_fits passes (Invocable place items) = list_all (item_fits passes) items
 declaration_fits passes (Record place name fields) = name_fits name && names_fit fields
 declaration_fits passes (ProcedureOf procedure) = procedure_fits passes procedure && collects_fits procedure
 

@@ -84,6 +84,7 @@ fn decl_fits(decl: &UnitDecl)
 {
     match decl {
         UnitDecl::Link(text) => bytes_are(text.as_slice()),
+        UnitDecl::Invocable(text) => bytes_are(text.as_slice()),
         UnitDecl::Global(_) | UnitDecl::Proc(_) | UnitDecl::Record(_, _) => {}
     }
 }

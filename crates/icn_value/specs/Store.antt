@@ -153,10 +153,13 @@ pub record Setting : Type 0 where
   pub locals : List Value
   pub outside : Outside
 
--- the names of the procedures and those of the record constructors, by their numbers
+-- The names of the procedures and those of the record constructors, by their numbers; how many arguments each takes,
+-- procedures first, below 0 where the last parameter collects; and the numbers that no text names.
 pub record Names : Type 0 where
   pub procedures : List (List ℕ)
   pub records : List (List ℕ)
+  pub arguments : List ℤ
+  pub hidden : List ℕ
 
 -- Structures by their numbers. Each number of a value is that of a structure; elsewhere these give
 -- something empty.

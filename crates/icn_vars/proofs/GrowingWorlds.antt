@@ -56,18 +56,18 @@ setting_over outside heap pair words globals statics locals = record {
   outside = outside;
 }
 
-value_same : (a b : Extent) (value : Option Val) → KeepsValues a b → ((val : Val) → value ≡ Some val → IsLive a val)
-    → option_map (value_in b) value ≡ option_map (value_in a) value
-value_same a b None keeps live = refl
-value_same a b (Some val) keeps live = ap Some (keeps.value val (live val refl))
+value_same : (a b : Extent) (value : Option Val) → ((val : Val) → IsLive a val → value_in b val ≡ value_in a val)
+    → ((val : Val) → value ≡ Some val → IsLive a val) → option_map (value_in b) value ≡ option_map (value_in a) value
+value_same a b None same live = refl
+value_same a b (Some val) same live = ap Some (same val (live val refl))
 
 -- the error that is kept stands for the same
-kept_same : (a b : Extent) (kept : Option HeldError) → KeepsValues a b
+pub kept_same : (a b : Extent) (kept : Option HeldError) → ((val : Val) → IsLive a val → value_in b val ≡ value_in a val)
     → ((error : HeldError) (val : Val) → kept ≡ Some error → error.value ≡ Some val → IsLive a val) → kept_in b kept ≡ kept_in a kept
-kept_same a b None keeps live = refl
-kept_same a b (Some error) keeps live =
+kept_same a b None same live = refl
+kept_same a b (Some error) same live =
     ap (λ (about : Option Value). let k : Option KeptError = Some (record { number = error.number; value = about }) in k)
-    (value_same a b error.value keeps (λ val is. live error val refl is))
+    (value_same a b error.value same (λ val is. live error val refl is))
 
 setting_by : (outside : Outside)
     (position random : ℕ)
@@ -89,4 +89,4 @@ pub heap_changed : (outside : Outside) (old new : HeldHeap) (pair : Pair) (words
 heap_changed outside old new pair words globals statics locals keeps same sound live =
     setting_by outside pair.position words.random words.error same (keeps.bytes pair.subject sound.subject) (values_kept keeps globals sound.live_globals)
     (values_kept keeps statics sound.live_statics) (values_kept keeps locals live)
-    (kept_same (extent_of old) (extent_of new) words.kept keeps sound.kept)
+    (kept_same (extent_of old) (extent_of new) words.kept keeps.value sound.kept)

@@ -12,3 +12,4 @@ pub mod StartWorlds
 pub mod HeldValues
 pub mod HeapRows
 pub mod UndoMemory
+pub mod CollectedItems

@@ -5,3 +5,4 @@ pub mod SettingFacts
 pub mod FoundValues
 pub mod Outcomes
 pub mod Assignments
+pub mod NeededItems

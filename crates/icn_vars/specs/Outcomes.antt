@@ -1,9 +1,10 @@
 -- What a row comes to, as a call over a world answers it.
-use Rattle.std.specs.Prelude.{◌≡◌, ◌≤◌, ◌+◌, ℕ, length, true, Result, MatchResult, IfSome, ⊤}
+use Rattle.std.specs.Prelude.{◌≡◌, ◌≤◌, ◌+◌, ℕ, length, true, Result, Ok, Err, MatchResult, IfSome, ⊤}
 use Rattle.std.specs.Option.{option_map}
 use Rattle.icn_value.specs.declared.val.Span.{Span}
 use Rattle.icn_value.specs.declared.val.Val.{Val}
 use Rattle.icn_value.specs.declared.val.Val.TheVariants.{List as ListVal, Set as SetVal, Table as TableVal, Rec as RecVal, Std as StdVal}
+use Rattle.icn_value.specs.declared.item.Item.TheVariants.{Val as ValItem}
 use Rattle.icn_value.specs.declared.item.VarRef.{VarRef}
 use Rattle.icn_value.specs.declared.residual.Mover.{Mover as HeldMover}
 use Rattle.icn_value.specs.declared.residual.Mover.TheVariants.{Neither as HeldNeither, Left as HeldLeft, Right as HeldRight}
@@ -17,6 +18,8 @@ use Rattle.icn_heap.specs.Extents.{Extent, IsLive, IsText, text_in, value_in}
 use Rattle.icn_heap.specs.Keys.{file_of}
 use Rattle.icn_vars.specs.declared.outcome.Outcome.{Outcome as HeldOutcome}
 use Rattle.icn_vars.specs.declared.outcome.Outcome.TheVariants.{Fails as HeldFails, Gives as HeldGives, Suspends as HeldSuspends}
+use Rattle.icn_vars.specs.declared.outcome.ValueOutcome.{ValueOutcome}
+use Rattle.icn_vars.specs.declared.outcome.ValueOutcome.TheVariants.{Fails as NoValue, Gives as AValue}
 use Rattle.icn_vars.specs.declared.outcome.Halt.{Halt}
 use Rattle.icn_vars.specs.declared.outcome.Halt.TheVariants.{Error as ErrorHalt, Ends as EndsHalt, ReadFault, WriteFault, FileFault, NoMemory}
 use Rattle.icn_vars.specs.Worlds.{IsLiveItem, IsLiveVariable, Reach, item_in, variable_in}
@@ -56,6 +59,16 @@ abbrev pub outcome_in : Extent → HeldOutcome → Setting → Outcome
 outcome_in all HeldFails setting = Fails setting
 outcome_in all (HeldGives item) setting = Gives (item_in all item) setting
 outcome_in all (HeldSuspends item rest) setting = Suspends (item_in all item) (residual_in all rest) setting
+
+-- what a row comes to that gives a value at most, as an outcome that could suspend
+abbrev pub outcome_of : ValueOutcome → HeldOutcome
+outcome_of NoValue = HeldFails
+outcome_of (AValue val) = HeldGives (ValItem val)
+
+-- what such a row answers, as an answer that could suspend
+abbrev pub answer_of : Result ValueOutcome Halt → Result HeldOutcome Halt
+answer_of (Ok given) = Ok (outcome_of given)
+answer_of (Err halt) = Err halt
 
 -- Which of them are of a world
 

@@ -4,6 +4,7 @@
 mod assigning;
 mod assignment;
 mod change_laws;
+mod collecting;
 mod errors;
 mod exchanging;
 mod keywords;
@@ -23,12 +24,13 @@ pub use assignment::{Assignment, Exchange};
 pub use change_laws::{
     coexpressions_are_made, fields_are_assigned, results_are_counted, settings_stay,
 };
+pub use collecting::{add_texts_of_item, add_texts_of_variable};
 pub use errors::ends_by;
 pub use exchanging::exchange;
 pub use keywords::position_of;
 pub use locals::Locals;
 pub use movers::mover_of;
-pub use outcome::{Halt, Outcome};
+pub use outcome::{Halt, Outcome, ValueOutcome};
 pub use reading::deref;
 pub use stop::Stop;
 pub use undoing::{undo, undo_exchange};

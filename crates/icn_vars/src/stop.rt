@@ -1,6 +1,7 @@
 // Why a variable was not read or assigned.
 ghost use Rattle.std.specs.Prelude.{◌≡◌};
 ghost use Rattle.icn_vars.specs.Stops.{halt_of, stop_of};
+ghost use Rattle.icn_vars.specs.declared.outcome.Halt.TheVariants.{NoMemory as NoMemoryHalt};
 ghost use Rattle.icn_vars.specs.declared.stop.Stop.TheVariants.{NoMemory};
 
 use crate::outcome::Halt;
@@ -44,5 +45,13 @@ impl From<Stop> for Halt {
             Stop::Error(number, offending) => Halt::Error(number, offending),
             Stop::NoMemory => Halt::NoMemory,
         }
+    }
+}
+
+impl From<AllocError> for Halt {
+    ghost from_gives = { λ _ halt. halt ≡ NoMemoryHalt };
+
+    fn from(_: AllocError) -> Self {
+        Halt::NoMemory
     }
 }

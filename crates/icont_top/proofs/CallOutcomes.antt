@@ -1,5 +1,5 @@
 -- What the words, the files and the input ask for, and what became of it.
-use Rattle.std.proofs.Common.{◌≡◌, ◌⊎◌, ◌↔◌, inl, inr, ℕ, List, [], ◌∷◌, Option, None, Some, Ok, Err, IsErrOf, Result, map, refl, sym, ap, ◌∙◌, subst}
+use Rattle.std.proofs.Common.{◌≡◌, ◌⊎◌, ◌↔◌, inl, inr, ℕ, List, [], ◌∷◌, Option, None, Some, Ok, Err, IsErrOf, Result, map, refl, sym, ap, ◌∙◌, subst, arith}
 use Rattle.std.specs.Prelude.{All, true}
 use Rattle.std.specs.Option.{option_map}
 use Rattle.std.specs.Str.{bytes_eq}
@@ -28,7 +28,7 @@ use Rattle.icn_link.specs.LinkFaults.{first_fault}
 use Rattle.icn_verify.specs.Faults.{IsVerified}
 use Rattle.icn_image.specs.Reading.{image_read}
 use Rattle.icn_image.specs.Spelling.{image_of}
-use Rattle.law_simulation.specs.FirstLaw.{IsLinked, FilesMean, RunsFlat}
+use Rattle.law_simulation.specs.FirstLaw.{FilesMean, RunsFlat}
 use Rattle.icn_streams.specs.Handed.{CallStreams, KeepsStoreCounts, TellsOutside, call_streams, streams_of}
 use Rattle.icn_running.specs.declared.fault.RunFault.{RunFault}
 use Rattle.icn_running.specs.declared.fault.RunFault.TheVariants as RunFaults
@@ -217,25 +217,21 @@ asked_program Comes plan answer plans (inl f) = inl f
 asked_program Comes plan answer plans (inr (inl comes)) = inr (no_members plan answer (plans (Err answer) comes))
 asked_program Comes plan answer plans (inr (inr some)) = inr (no_program plan some.0 answer (plans (Ok some.0) some.1.0) some.1.1.1)
 
-abbrev pub EndsAlike : Type 0
-EndsAlike = (files : List (List Declaration)) (tables : Tables) (launch : Launch) (seen : Observation) → IsLinked files tables
-    → FilesMean files launch seen ↔ RunsFlat tables launch seen
-
-by_files : EndsAlike → (found : Option (List (List Declaration))) (tables : Tables) (launch : Launch) (seen : Observation)
-    → ((files : List (List Declaration)) → found ≡ Some files → IsLinked files tables)
+by_files : (found : Option (List (List Declaration))) (tables : Tables) (launch : Launch) (seen : Observation)
+    → ((files : List (List Declaration)) → found ≡ Some files → FilesMean files launch seen ↔ RunsFlat tables launch seen)
     → (RunsBy found tables launch seen → RunsFlat tables launch seen) × (RunsFlat tables launch seen → RunsBy found tables launch seen)
-by_files alike None tables launch seen joins = (λ x. x, λ x. x)
-by_files alike (Some files) tables launch seen joins =
-    ((alike files tables launch seen (joins files refl)).0, (alike files tables launch seen (joins files refl)).1)
+by_files None tables launch seen means = (λ x. x, λ x. x)
+by_files (Some files) tables launch seen means = ((means files refl).0, (means files refl).1)
 
-behaves_alike : EndsAlike → (members : List Member) (program : LoadedProgram) → IsProgram members program → (launch : Launch) (seen : Observation)
+behaves_alike : (members : List Member) (program : LoadedProgram) → IsProgram members program → (launch : Launch) (seen : Observation)
     → (Behaves members launch seen → RunsFlat (linked_code members) launch seen) × (RunsFlat (linked_code members) launch seen → Behaves members launch seen)
-behaves_alike alike members program is launch seen = by_files alike (files_of members) (linked_code members) launch seen is.made.joins
+behaves_alike members program is launch seen =
+    by_files (files_of members) (linked_code members) launch seen (λ files e. is.made.means files e launch seen)
 
-behaves : EndsAlike → (members : List Member) (program : LoadedProgram) → IsProgram members program → (launch : Launch) (seen : Observation)
+behaves : (members : List Member) (program : LoadedProgram) → IsProgram members program → (launch : Launch) (seen : Observation)
     → RunsFlat (tables_of program.made.code.code) launch seen → Behaves members launch seen
-behaves alike members program is launch seen flat =
-    (behaves_alike alike members program is launch seen).1 (subst (λ t. RunsFlat t launch seen) is.made.code flat)
+behaves members program is launch seen flat =
+    (behaves_alike members program is launch seen).1 (subst (λ t. RunsFlat t launch seen) is.made.code flat)
 
 -- the code of a program breaks no rule of linking
 fits_by : {members : List Member} (result : Result Tables Answer) → Links members result → (tables : Tables) → result ≡ Ok tables
@@ -248,14 +244,17 @@ abbrev pub ReadBack : Type 0
 ReadBack = (tables : Tables) → keeps_rules tables ≡ true → image_read (image_of tables) ≡ Ok tables
 
 -- a program's image is one that `iconx` takes
-is_image : (members : List Member) (program : LoadedProgram) → ReadBack → EndsAlike → IsProgram members program
+is_image : (members : List Member) (program : LoadedProgram) → ReadBack → IsProgram members program
     → IsImage members (image_of (linked_code members))
-is_image members program back alike is = record {
+is_image members program back is = record {
   tables = linked_code members;
-  within = image_within (units_of members) (fits_by (Ok (linked_code members)) is.made.links (linked_code members) refl);
+  within =
+      let whole = image_within (units_of members) (fits_by (Ok (linked_code members)) is.made.links (linked_code members) refl) in
+      let less = is.made.shorter in
+      omega (arith, whole, less);
   read = back (linked_code members) (subst (λ t. keeps_rules t ≡ true) is.made.code program.made.code.code.rules);
   verified = subst IsVerified is.made.code program.made.code.verified;
-  runs = behaves_alike alike members program is;
+  runs = behaves_alike members program is;
 }
 
 -- The image
@@ -288,19 +287,19 @@ written_there files next e sets =
     (follows.0, follows.1, follows.2 next.name ∙ cond-true (bytes_eq next.name next.name) _ _ ((bytes_eq-Decides next.name next.name).1 refl))
 
 holds_image : {words : List (List ℕ)} {files : FileMap} {after : Option FileMap} (answer : Answer) (members : List Member) (plan : PlanHeld)
-    (program : LoadedProgram) → ReadBack → EndsAlike → IsReadyProgram words files members plan program
+    (program : LoadedProgram) → ReadBack → IsReadyProgram words files members plan program
     → (answer ≡ Wrote → HoldsNow after (plan_file plan members)) → HoldsWritten words files answer after
-holds_image answer members plan program back alike ready stands =
-    HoldsWritten.image (plan_seen plan) members (linked_code members) (planned ready) stands (is_image members program back alike ready.is)
+holds_image answer members plan program back ready stands =
+    HoldsWritten.image (plan_seen plan) members (linked_code members) (planned ready) stands (is_image members program back ready.is)
 
 -- Outcomes of a program
 
 pub wrote_done : {words : List (List ℕ)} {files : FileMap} (held held' : StoreState) (members : List Member) (plan : PlanHeld) (program : LoadedProgram)
-    (left : Option (List ℕ)) (input : SourceCounts) (out errors : SinkState) → ReadBack → EndsAlike → IsReadyProgram words files members plan program
+    (left : Option (List ℕ)) (input : SourceCounts) (out errors : SinkState) → ReadBack → IsReadyProgram words files members plan program
     → held.held ≡ Some files
     → WritesAll held.held held'.held (plan_file plan members ∷ []) → plan.run ≡ None
     → IsDone words files Wrote (call_streams held left input out errors) (call_streams held' left input out errors)
-wrote_done {files = files} held held' members plan program left input out errors back alike ready e sets no_run =
+wrote_done {files = files} held held' members plan program left input out errors back ready e sets no_run =
     let none : (plan_seen plan).run ≡ None = ap (option_map run_seen) no_run in
     record {
       outcome = if_some_intro left _ (λ bytes d. done (files_job (plan_file plan members ∷ []) bytes)
@@ -313,7 +312,7 @@ wrote_done {files = files} held held' members plan program left input out errors
             output = gains_nothing out.held;
             errors = gains_nothing errors.held;
           }));
-      headline = λ w. holds_image Wrote members plan program back alike ready (λ _. written_there files (plan_file plan members) e sets);
+      headline = λ w. holds_image Wrote members plan program back ready (λ _. written_there files (plan_file plan members) e sets);
       leaves = all_written _ (AreWritten.image (plan_seen plan) members (linked_code members) (planned ready)) refl sets;
       answered = answered_wrote (plan_seen plan) members (linked_code members) (planned ready) none;
       ran = tt;
@@ -478,17 +477,17 @@ all_by_run {held} {held'} files next left seen e extends holds =
 
 ran_outcome : {words : List (List ℕ)} {files : FileMap} (held mid : StoreState) (told : Option (List ℕ)) (input : SourceCounts) (out errors : SinkState)
     (left : List ℕ) (members : List Member) (plan : PlanHeld) (program : LoadedProgram) (run : Run) (answer : Answer) (after : CallStreams)
-    → EndsAlike → Leave → IsReadyProgram words files members plan program → held.held ≡ Some files
+    → Leave → IsReadyProgram words files members plan program → held.held ≡ Some files
     → WritesAll held.held mid.held (plan_file plan members ∷ []) → KeepsStoreCounts held mid → (plan_seen plan).run ≡ Some run
     → HasRun (tables_of program.made.code.code) (run_launch run left (with_image (plan_file plan members) files)) (plan_seen plan).number answer
     (call_streams mid told input out errors) after
     → AnswersCommand words files left answer (call_streams held told input out errors) after
-ran_outcome {files = files} held mid told input out errors left members plan program run answer after alike leave ready there sets kept e
+ran_outcome {files = files} held mid told input out errors left members plan program run answer after leave ready there sets kept e
     (has_ended seen flat same holds left' calls output err) =
     let found = with_image (plan_file plan members) files in
     done (run_job (plan_file plan members) seen (behind (plan_seen plan).number seen.ending))
     (runs (plan_seen plan) members (linked_code members) run seen (planned ready) e
-    (behaves alike members program ready.is (run_launch run left found) seen flat))
+    (behaves members program ready.is (run_launch run left found) seen flat))
     (record {
       answered = same;
       files = all_by_run files (plan_file plan members) left seen there
@@ -499,7 +498,7 @@ ran_outcome {files = files} held mid told input out errors left members plan pro
       output = output;
       errors = err;
     })
-ran_outcome {files = files} held mid told input out errors left members plan program run answer after alike leave ready there sets kept e
+ran_outcome {files = files} held mid told input out errors left members plan program run answer after leave ready there sets kept e
     (was_broken wrong between same first off behind) =
     let found = with_image (plan_file plan members) files in
     let tells = tells_written files (plan_file plan members) there sets in
@@ -517,12 +516,12 @@ ran_outcome {files = files} held mid told input out errors left members plan pro
       first = first_since held mid told input out errors tells kept wrong between first;
       broken = record {
         seen = off.0;
-        behaves = behaves alike members program ready.is (run_launch run left found) off.0 off.1.0;
+        behaves = behaves members program ready.is (run_launch run left found) off.0 off.1.0;
         leaves = broken_since held mid told input out errors tells kept wrong (outside_of left found) off.0 between off.1.1;
       };
       line = behind;
     }))
-ran_outcome {files = files} held mid told input out errors left members plan program run answer after alike leave ready there sets kept e
+ran_outcome {files = files} held mid told input out errors left members plan program run answer after leave ready there sets kept e
     (was_broken_behind n wrong between seen number stops same first flat leaves puts) =
     let found = with_image (plan_file plan members) files in
     let tells = tells_written files (plan_file plan members) there sets in
@@ -543,7 +542,7 @@ ran_outcome {files = files} held mid told input out errors left members plan pro
       first = first_since held mid told input out errors tells kept wrong (with_errors between after) first;
       broken = record {
         seen = seen;
-        behaves = behaves alike members program ready.is (run_launch run left found) seen flat;
+        behaves = behaves members program ready.is (run_launch run left found) seen flat;
         leaves = record {
           done = leaves.done;
           files = holds_since tells leaves.files;
@@ -613,7 +612,7 @@ over_since tables launch number NoMemory held mid left input out errors after ov
 
 pub ran_done : {words : List (List ℕ)} {files : FileMap} (held mid : StoreState) (left : Option (List ℕ)) (input : SourceCounts)
     (out errors : SinkState) (members : List Member) (plan : PlanHeld) (program : LoadedProgram) (run : Run) (answer : Answer) (after : CallStreams)
-    → ReadBack → EndsAlike → Leave → IsReadyProgram words files members plan program
+    → ReadBack → Leave → IsReadyProgram words files members plan program
     → held.held ≡ Some files → WritesAll held.held mid.held (plan_file plan members ∷ []) → KeepsStoreCounts held mid
     → (plan_seen plan).run ≡ Some run → IsOfRun answer
     → ((bytes : List ℕ) (found : FileMap) → TellsOutside (call_streams mid left input out errors) (outside_of bytes found)
@@ -621,12 +620,12 @@ pub ran_done : {words : List (List ℕ)} {files : FileMap} (held mid : StoreStat
     → ((found : FileMap) → IsOver (tables_of program.made.code.code) (run_launch run [] found) (plan_seen plan).number answer
     (call_streams mid left input out errors) after)
     → IsDone words files answer (call_streams held left input out errors) after
-ran_done {words} {files} held mid left input out errors members plan program run answer after back alike leave ready e sets kept asks o has over =
+ran_done {words} {files} held mid left input out errors members plan program run answer after back leave ready e sets kept asks o has over =
     let found = with_image (plan_file plan members) files in
     record {
-      outcome = if_some_intro left _ (λ bytes d. ran_outcome held mid left input out errors bytes members plan program run answer after alike leave ready e
+      outcome = if_some_intro left _ (λ bytes d. ran_outcome held mid left input out errors bytes members plan program run answer after leave ready e
           sets kept asks (has bytes found (record { left = d; files = tells_written files (plan_file plan members) e sets })));
-      headline = λ w. holds_image answer members plan program back alike ready (λ wrote. absurd (run_wrote answer o wrote));
+      headline = λ w. holds_image answer members plan program back ready (λ wrote. absurd (run_wrote answer o wrote));
       leaves = by_run (plan_seen plan) members (linked_code members) run o (planned ready) asks;
       answered = run_answered answer (planned ready) asks o;
       ran = runs_asked members plan program run answer (call_streams held left input out errors) after ready asks

@@ -5,12 +5,12 @@ use Rattle.std.specs.List.{sum_by}
 use Rattle.std.specs.Option.{option_map, option_or}
 use Rattle.std.proofs.lemmas.Bool.Decides.{nat_tests}
 use Rattle.std.proofs.lemmas.Option.{none-some}
-use Rattle.icn_unit.specs.PlainUnits.{PlainProc, PlainDecl, UnitRead}
+use Rattle.icn_unit.specs.PlainUnits.{PlainProc, PlainDecl, UnitRead, owned_names}
 use Rattle.icn_image.specs.Spelling.{image_of}
 use Rattle.icn_link.specs.declared.fault.LinkFault.{LinkFault}
 use Rattle.icn_link.specs.declared.fault.LinkFault.TheVariants.{NoMemory}
 use Rattle.icn_link.specs.Joined.{joined_code, joined_of}
-use Rattle.icn_link.specs.LinkFaults.{all_statics, kind_counts, Owner, count_fault, first_fault, local_counts, missing_unit, missing_fault, missing_from, missing_in, over, owner_named, owners_from, record_sizes, repeat_of, repeated_name, repeated_from, size_of, static_counts, table_sizes, too_large_of, unit_names}
+use Rattle.icn_link.specs.LinkFaults.{all_statics, kind_counts, Owner, count_fault, first_fault, local_counts, missing_unit, missing_fault, missing_from, missing_in, over, owner_named, owners_from, record_sizes, repeat_of, repeated_name, repeated_from, size_of, static_counts, table_sizes, too_large_of, unit_names, unknown_fault, unknown_from, unknown_in, unknown_name}
 use Rattle.icn_link.specs.Mentions.{globals, all_mentions}
 use Rattle.icn_link.specs.Units.{all_decls, all_procs}
 
@@ -36,6 +36,11 @@ repeated_none : (before owners : List Owner) → IsNoWant (repeated_from before 
 repeated_none before [] = tt
 repeated_none before (next ∷ others) = or_none (option_map (repeat_of next) (owner_named next.name before)) (repeated_from (before ++ next ∷ []) others)
     (mapped (repeat_of next) (owner_named next.name before) (λ x e. cc)) (repeated_none (before ++ next ∷ []) others)
+
+unknown_none : (owned : List (List ℕ)) (place : ℕ) (units : List UnitRead) → IsNoWant (unknown_from owned place units)
+unknown_none owned place [] = tt
+unknown_none owned place (unit ∷ units) = or_none (option_map (unknown_fault place) (unknown_in owned unit.decls)) (unknown_from owned (suc place) units)
+    (mapped (unknown_fault place) (unknown_in owned unit.decls) (λ x e. cc)) (unknown_none owned (suc place) units)
 
 over_none : (most : ℕ) (counts : List ℕ) → IsNoWant (over most counts)
 over_none most counts = mapped count_fault (find (λ count. nat_lt most count) counts) (λ n e. cc)
@@ -96,9 +101,13 @@ large_none D P = or_none (instrs P) (behind_instrs D P) (over_none 16777216 (sum
 abbrev large : List UnitRead → Option LinkFault
 large units = too_large_of (all_decls units) (all_procs units)
 
+abbrev behind_repeats : List UnitRead → Option LinkFault
+behind_repeats units = option_or (unknown_name units) (large units)
+
 first_none : (units : List UnitRead) → IsNoWant (first_fault units)
-first_none units = or_none (missing_unit units) (option_or (repeated_name units) (large units)) (missing_none (unit_names units) 0 units)
-    (or_none (repeated_name units) (large units) (repeated_none [] (owners_from 0 units)) (large_none (all_decls units) (all_procs units)))
+first_none units = or_none (missing_unit units) (option_or (repeated_name units) (behind_repeats units)) (missing_none (unit_names units) 0 units)
+    (or_none (repeated_name units) (behind_repeats units) (repeated_none [] (owners_from 0 units))
+    (or_none (unknown_name units) (large units) (unknown_none (owned_names (all_decls units)) 0 units) (large_none (all_decls units) (all_procs units))))
 
 -- no unit has a fault that is want of memory
 pub faults_are_rules : {A : Type 0} (units : List UnitRead) → first_fault units ≡ Some NoMemory → A
@@ -120,7 +129,8 @@ image_counted : (decls : List PlainDecl) (procs : List PlainProc) → too_large_
 image_counted D P e = right_none (statics D P) (bytes D P) (right_none (locals D P) (behind_locals D P) (right_none (fields D) (behind_fields D P)
     (right_none (kinds D P) (behind_kinds D P) (right_none (together D P) (behind_together D P) (right_none (entries D P) (behind_entries D P) (right_none (instrs P) (behind_instrs D P) e))))))
 
--- where the linker finds no fault, the image is within the bound
+-- where the linker finds no fault, the image of the code with all procedures is within the bound
 pub image_within : (units : List UnitRead) → first_fault units ≡ None → length (image_of (joined_code units)) ≤ 1073741824
 image_within units e = within_count 1073741824 (length (image_of (joined_code units))) (image_counted (all_decls units) (all_procs units)
-    (right_none (repeated_name units) (large units) (right_none (missing_unit units) (option_or (repeated_name units) (large units)) e)))
+    (right_none (unknown_name units) (large units) (right_none (repeated_name units) (behind_repeats units)
+    (right_none (missing_unit units) (option_or (repeated_name units) (behind_repeats units)) e))))

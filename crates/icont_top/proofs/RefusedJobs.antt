@@ -7,7 +7,7 @@ use Rattle.icn_unit.specs.PlainUnits.{UnitRead}
 use Rattle.icn_tree.specs.declared.rule.Rule.TheVariants as Rules
 use Rattle.icn_code.specs.Codes.{Tables}
 use Rattle.icn_link.specs.declared.fault.LinkFault.{LinkFault}
-use Rattle.icn_link.specs.declared.fault.LinkFault.TheVariants.{K1, K2, K3, NoMemory}
+use Rattle.icn_link.specs.declared.fault.LinkFault.TheVariants.{K1, K2, K3, K4, NoMemory}
 use Rattle.icn_link.specs.LinkFaults.{first_fault}
 use Rattle.icn_verify.specs.ShapeLaws.{HaveOneFault, HaveNoFault}
 use Rattle.icn_answer.specs.declared.answer.Answer.{Answer}
@@ -87,6 +87,8 @@ told_none units (Some (K2 unit name)) answer e f =
     no_fault (Refused (unit_named units unit) 0 Rules.K2) refl (subst IsFault (sym (same_Some (Refused (unit_named units unit) 0 Rules.K2) answer e)) f)
 told_none units (Some (K3 count)) answer e f =
     no_fault (Refused (unit_named units 0) 0 Rules.K3) refl (subst IsFault (sym (same_Some (Refused (unit_named units 0) 0 Rules.K3) answer e)) f)
+told_none units (Some (K4 unit name)) answer e f =
+    no_fault (Refused (unit_named units unit) 0 Rules.K4) refl (subst IsFault (sym (same_Some (Refused (unit_named units unit) 0 Rules.K4) answer e)) f)
 told_none units (Some NoMemory) answer e f = none-some answer e
 
 -- what refuses members is no fault

@@ -1,6 +1,6 @@
 -- Words, files and input ask for a job: what is named and what is linked comes to members, these are linked or break a rule, and what is
 -- linked runs to an end.
-use Rattle.std.proofs.Common.{◌≡◌, inl, inr, ℕ, zero, suc, Bool, true, List, [], ◌∷◌, length, Option, None, Some, Result, Ok, Err, refl, sym, ap, subst, arith}
+use Rattle.std.proofs.Common.{◌≡◌, inl, inr, ℕ, zero, suc, ◌<◌, Bool, true, List, [], ◌∷◌, length, Option, None, Some, Result, Ok, Err, refl, sym, ap, subst, arith}
 use Rattle.std.specs.Prelude.{All}
 use Rattle.std.specs.List.{list_all}
 use Rattle.std.specs.Option.{option_and_then}
@@ -13,9 +13,11 @@ use Rattle.icn_code.specs.Codes.{Tables}
 use Rattle.icn_code.specs.Rules.{keeps_rules}
 use Rattle.icn_defs.specs.Running.{Launch, Observation}
 use Rattle.icn_link.specs.declared.fault.LinkFault.{LinkFault}
-use Rattle.icn_link.specs.declared.fault.LinkFault.TheVariants.{K1, K2, K3, NoMemory}
-use Rattle.icn_link.specs.Joined.{joined_code}
+use Rattle.icn_link.specs.declared.fault.LinkFault.TheVariants.{K1, K2, K3, K4, NoMemory}
+use Rattle.icn_link.specs.Joined.{joined_code, named_procs, names_all}
 use Rattle.icn_link.specs.LinkFaults.{first_fault}
+use Rattle.icn_prune.specs.KeptCode.{MayBeKept, kept_of}
+use Rattle.icn_prune.specs.PrunedCode.{pruned}
 use Rattle.icn_verify.specs.Faults.{IsVerified}
 use Rattle.icn_verify.specs.ShapeLaws.{IsSoundOrBroken, AreSoundOrBroken, HaveNoFault}
 use Rattle.law_safe.specs.Ended.{AreOver}
@@ -23,6 +25,7 @@ use Rattle.law_simulation.specs.Faultless.{IsFaultless}
 use Rattle.law_simulation.specs.JoinedFiles.{IsJoined}
 use Rattle.law_simulation.specs.FirstLaw.{IsLinked, FilesMean}
 use Rattle.law_link.specs.TranslatedUnits.{translated_units}
+use Rattle.law_link.proofs.PrunedFiles.{named_below}
 use Rattle.icn_answer.specs.declared.answer.Answer.{Answer}
 use Rattle.icont_words.specs.Words.{WordsReading, Run, Translate, Link, Generate, Asks, Faulty, ComeTo}
 use Rattle.icont_units.specs.Files.{files_named, sources_in}
@@ -32,7 +35,7 @@ use Rattle.icont_units.proofs.ShortTexts.{and_intro}
 use Rattle.icont_units.proofs.SomeLoading.{AreSpelled, KeepRules, some_come, some_generated, some_load}
 use Rattle.icont_units.proofs.SoundMembers.{Each, OfAll}
 use Rattle.icont_top.specs.Job.{Job, Plan, Plans, IsPlanned, RefusesCommand, IsJob, run_launch, image_file, with_image}
-use Rattle.icont_top.specs.Programs.{Links, linked_code, first_ucode, files_of, with_file, RunsBy, Behaves}
+use Rattle.icont_top.specs.Programs.{Links, kept_procs, linked_code, whole_code, first_ucode, files_of, with_file, RunsBy, Behaves}
 use Rattle.icont_top.proofs.LinkingRules.{faults_are_rules}
 
 -- Members that are sources alone
@@ -68,6 +71,10 @@ pub record Laws (is_joinable : UnitRead → Bool) : Type 0 where
   pub translations : (names : List (List ℕ)) (files : List (List Declaration)) → length names ≡ length files → All IsFaultless files
       → IsJoined files (joined_code (translated_units names files))
   pub verified : (files : List (List Declaration)) (tables : Tables) → IsLinked files tables → IsVerified tables
+  pub least : (tables : Tables) (named : List ℕ) (all : Bool) → keeps_rules tables ≡ true → All (λ number. number < length tables.procs) named
+      → MayBeKept tables (kept_of tables named all)
+  pub pruned_rules : (tables : Tables) (keep : List Bool) → keeps_rules tables ≡ true → MayBeKept tables keep → keeps_rules (pruned keep tables) ≡ true
+  pub pruned_verified : (tables : Tables) (keep : List Bool) → MayBeKept tables keep → IsVerified tables → IsVerified (pruned keep tables)
   pub no_fault : HaveNoFault
   pub judged : AreSoundOrBroken
   pub means : (files : List (List Declaration)) (tables : Tables) (launch : Launch) → IsLinked files tables → keeps_rules tables ≡ true
@@ -90,9 +97,9 @@ module _ (is_joinable : UnitRead → Bool) (laws : Laws is_joinable) where
   of_sources (FromSource base file ∷ members) h = with_source base file members h.0.0 (files_of members) (of_sources members h.1)
   of_sources (FromUcode unit ∷ members) h = tt
 
-  -- where all members are sources their code is that of their files
+  -- where all members are sources their code with all procedures is that of their files
   sources_linked : (members : List Member) (files : List (List Declaration)) → Each (IsSound is_joinable) members → files_of members ≡ Some files
-      → IsLinked files (linked_code members)
+      → IsLinked files (whole_code members)
   sources_linked members files h e =
       let sources : OfSources members files = subst (OfSourcesBy members) e (of_sources members h) in
       record {
@@ -115,22 +122,32 @@ module _ (is_joinable : UnitRead → Bool) (laws : Laws is_joinable) where
 
   pub data Linking (members : List Member) : Type 0 where
     breaks : (answer : Answer) → Links members (Err answer) → Linking members
-    runs_as : first_fault (units_of members) ≡ None → keeps_rules (linked_code members) ≡ true → IsVerified (linked_code members) → Linking members
+    runs_as : first_fault (units_of members) ≡ None → keeps_rules (whole_code members) ≡ true → IsVerified (linked_code members) → Linking members
 
   by_fault : (members : List Member) (fault : LinkFault) → first_fault (units_of members) ≡ Some fault → Linking members
   by_fault members (K1 unit name first second) e = breaks _ (Links.not_linked _ (ap (option_and_then (link_answer (units_of members))) e))
   by_fault members (K2 unit name) e = breaks _ (Links.not_linked _ (ap (option_and_then (link_answer (units_of members))) e))
   by_fault members (K3 count) e = breaks _ (Links.not_linked _ (ap (option_and_then (link_answer (units_of members))) e))
+  by_fault members (K4 unit name) e = breaks _ (Links.not_linked _ (ap (option_and_then (link_answer (units_of members))) e))
   by_fault members NoMemory e = absurd (faults_are_rules (units_of members) e)
 
+  may_be_kept : (members : List Member) → keeps_rules (whole_code members) ≡ true → MayBeKept (whole_code members) (kept_procs members)
+  may_be_kept members rules =
+      laws.least (whole_code members) (named_procs (units_of members)) (names_all (units_of members)) rules (named_below (units_of members))
+
+  -- what is pruned keeps the rules too
+  linked_keeps : (members : List Member) → keeps_rules (whole_code members) ≡ true → keeps_rules (linked_code members) ≡ true
+  linked_keeps members rules = laws.pruned_rules (whole_code members) (kept_procs members) rules (may_be_kept members rules)
+
   module _ (members : List Member) (sound : Each (IsSound is_joinable) members) (fits : first_fault (units_of members) ≡ None) where
-    keeps : keeps_rules (linked_code members) ≡ true
+    keeps : keeps_rules (whole_code members) ≡ true
     keeps = laws.kept (units_of members) (all_joinable members sound) fits
 
     by_sources : first_ucode members ≡ None → Linking members
     by_sources e =
         let sources = all_sources members e in
-        runs_as fits keeps (laws.verified sources.0 (linked_code members) (sources_linked members sources.0 sound sources.1))
+        let whole = laws.verified sources.0 (whole_code members) (sources_linked members sources.0 sound sources.1) in
+        runs_as fits keeps (laws.pruned_verified (whole_code members) (kept_procs members) (may_be_kept members keeps) whole)
 
     by_ucode : (first : Option (List ℕ)) → first_ucode members ≡ first → IsSoundOrBroken (linked_code members).procs → Linking members
     by_ucode first e (inl verified) = runs_as fits keeps verified
@@ -140,27 +157,27 @@ module _ (is_joinable : UnitRead → Bool) (laws : Laws is_joinable) where
   by_first : (members : List Member) → Each (IsSound is_joinable) members → (fault : Option LinkFault) → first_fault (units_of members) ≡ fault
       → Linking members
   by_first members sound (Some fault) e = by_fault members fault e
-  by_first members sound None e = by_ucode members sound e (first_ucode members) refl (laws.judged (linked_code members) (keeps members sound e))
+  by_first members sound None e = by_ucode members sound e (first_ucode members) refl (laws.judged (linked_code members) (linked_keeps members (keeps members sound e)))
 
   some_links : (members : List Member) → Each (IsSound is_joinable) members → Linking members
   some_links members sound = by_first members sound (first_fault (units_of members)) refl
 
   -- Runs
 
-  by_files : (members : List Member) (launch : Launch) → Each (IsSound is_joinable) members → keeps_rules (linked_code members) ≡ true
+  by_files : (members : List Member) (launch : Launch) → Each (IsSound is_joinable) members → keeps_rules (whole_code members) ≡ true
       → IsVerified (linked_code members)
       → (files : Option (List (List Declaration))) → files_of members ≡ files → (seen : Observation) × RunsBy files (linked_code members) launch seen
-  by_files members launch sound rules verified (Some files) e = laws.means files (linked_code members) launch (sources_linked members files sound e) rules
-  by_files members launch sound rules verified None e = (laws.ends (linked_code members) rules verified).flat launch
+  by_files members launch sound rules verified (Some files) e = laws.means files (whole_code members) launch (sources_linked members files sound e) rules
+  by_files members launch sound rules verified None e = (laws.ends (linked_code members) (linked_keeps members rules) verified).flat [] launch
 
-  some_behaves : (members : List Member) (launch : Launch) → Each (IsSound is_joinable) members → keeps_rules (linked_code members) ≡ true
+  some_behaves : (members : List Member) (launch : Launch) → Each (IsSound is_joinable) members → keeps_rules (whole_code members) ≡ true
       → IsVerified (linked_code members) → (seen : Observation) × Behaves members launch seen
   some_behaves members launch sound rules verified = by_files members launch sound rules verified (files_of members) refl
 
   -- Jobs
 
   module _ (words : List (List ℕ)) (files : FileMap) (left : List ℕ) where
-    with_run : (plan : Plan) (members : List Member) → Each (IsSound is_joinable) members → keeps_rules (linked_code members) ≡ true
+    with_run : (plan : Plan) (members : List Member) → Each (IsSound is_joinable) members → keeps_rules (whole_code members) ≡ true
         → IsVerified (linked_code members)
         → IsPlanned words files plan members (linked_code members) → (run : Option Run) → plan.run ≡ run → (job : Job) × IsJob words files left job
     with_run plan members sound rules verified is None e = (_, IsJob.writes plan members (linked_code members) is e)

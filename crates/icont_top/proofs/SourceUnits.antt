@@ -1,21 +1,24 @@
 -- Members that are sources alone, and the unit at a place.
-use Rattle.std.proofs.Common.{◌≡◌, ℕ, zero, suc, ◌<◌, List, [], ◌∷◌, length, Option, None, Some, refl, sym, ap, subst, arith}
-use Rattle.std.specs.Prelude.{All, slice_index_or}
+use Rattle.std.proofs.Common.{◌≡◌, ℕ, zero, suc, ◌<◌, List, [], ◌∷◌, length, Option, None, Some, true, refl, sym, ap, subst, arith}
+use Rattle.std.specs.Prelude.{All, ◌↔◌, slice_index_or}
 use Rattle.std.specs.Option.{option_map}
 use Rattle.std.proofs.lemmas.Option.{none-some, same_Some}
 use Rattle.icn_tree.specs.Trees.{Declaration}
 use Rattle.icn_unit.specs.PlainUnits.{UnitRead}
 use Rattle.icn_unit.specs.declared.unit.Unit.{Unit as HeldUnit}
 use Rattle.icn_translate.specs.FileUnits.{translated_unit}
+use Rattle.icn_code.specs.Rules.{keeps_rules}
+use Rattle.icn_defs.specs.Running.{Launch, Observation}
 use Rattle.icn_link.specs.Joined.{joined_code}
 use Rattle.icn_link.specs.Units.{units_seen}
 use Rattle.law_simulation.specs.Faultless.{IsFaultless}
 use Rattle.law_simulation.specs.JoinedFiles.{IsJoined}
-use Rattle.law_simulation.specs.FirstLaw.{IsLinked}
+use Rattle.law_simulation.specs.FirstLaw.{FilesMean, IsLinked, RunsFlat}
+use Rattle.law_link.specs.PrunedUnits.{pruned_code}
 use Rattle.law_link.specs.TranslatedUnits.{translated_units}
 use Rattle.icont_units.specs.Loading.{IsFaultlessMember, ucode_index}
 use Rattle.icont_units.specs.Units.{Member, FromSource, FromUcode, unit_named, units_of}
-use Rattle.icont_top.specs.Programs.{files_of, first_ucode, linked_code, with_file}
+use Rattle.icont_top.specs.Programs.{files_of, first_ucode, linked_code, whole_code, with_file}
 
 -- Sources
 
@@ -64,15 +67,29 @@ abbrev pub AllJoin : Type 0
 AllJoin = (names : List (List ℕ)) (files : List (List Declaration)) → length names ≡ length files → All IsFaultless files
     → IsJoined files (joined_code (translated_units names files))
 
--- where all members are sources their code is that of their files
+-- where all members are sources their code with all procedures is that of their files
 pub sources_join : AllJoin → (members : List Member) → All IsFaultlessMember members → (files : List (List Declaration)) → files_of members ≡ Some files
-    → IsLinked files (linked_code members)
+    → IsLinked files (whole_code members)
 sources_join joins members h files e =
     let sources : OfFiles members files = subst (OfFilesBy members) e (of_files members h) in
     record {
       faultless = sources.faultless;
       code = subst (λ units. IsJoined files (joined_code units)) (sym sources.units) (joins sources.names files sources.few sources.faultless);
     }
+
+abbrev pub AllRun : Type 0
+AllRun = (names : List (List ℕ)) (files : List (List Declaration)) (launch : Launch) (seen : Observation) → length names ≡ length files
+    → All IsFaultless files → keeps_rules (joined_code (translated_units names files)) ≡ true
+    → FilesMean files launch seen ↔ RunsFlat (pruned_code (translated_units names files)) launch seen
+
+-- and their files mean what their code comes to without the procedures that are not kept
+pub sources_mean : AllRun → (members : List Member) → All IsFaultlessMember members → keeps_rules (whole_code members) ≡ true
+    → (files : List (List Declaration)) → files_of members ≡ Some files → (launch : Launch) (seen : Observation)
+    → FilesMean files launch seen ↔ RunsFlat (linked_code members) launch seen
+sources_mean run members h rules files e launch seen =
+    let sources : OfFiles members files = subst (OfFilesBy members) e (of_files members h) in
+    subst (λ units. FilesMean files launch seen ↔ RunsFlat (pruned_code units) launch seen) (sym sources.units)
+    (run sources.names files launch seen sources.few sources.faultless (subst (λ units. keeps_rules (joined_code units) ≡ true) sources.units rules))
 
 no_place : {T : Type 0} (place : Option ℕ) → (place ≡ None → T) → option_map suc place ≡ None → T
 no_place None f e = f refl

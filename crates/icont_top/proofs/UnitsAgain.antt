@@ -9,7 +9,7 @@ use Rattle.icn_unit.specs.UnitTexts.{decls_text, procs_text}
 use Rattle.icn_ucode.specs.UnitReading.{Whole, unit_read}
 use Rattle.icn_code.specs.Codes.{Tables}
 use Rattle.icn_image.specs.Spelling.{image_of}
-use Rattle.icn_link.specs.Joined.{joined_code}
+use Rattle.law_link.specs.PrunedUnits.{pruned_code}
 use Rattle.icn_link.specs.LinkFaults.{first_fault, unit_names}
 use Rattle.icn_verify.specs.Faults.{IsVerified}
 use Rattle.icn_answer.specs.declared.answer.Answer.{Answer}
@@ -116,7 +116,7 @@ gather_again before after a b mentioned more e others x =
 -- Code
 
 pub same_linked : (a b : List Member) → units_of a ≡ units_of b → linked_code a ≡ linked_code b
-same_linked a b e = ap joined_code e
+same_linked a b e = ap pruned_code e
 
 program_again : (members other : List Member) (result : Result Tables Answer) (tables : Tables) → units_of other ≡ units_of members → Links members result
     → result ≡ Ok tables → Links other (Ok tables)

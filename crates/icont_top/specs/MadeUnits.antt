@@ -1,5 +1,5 @@
 -- How the code tells what it made of units.
-use Rattle.std.specs.Prelude.{◌≡◌, ◌≢◌, ◌⊎◌, ℕ, List, Option, Some, Result, Ok, Err}
+use Rattle.std.specs.Prelude.{◌≡◌, ◌≢◌, ◌≤◌, ◌⊎◌, ◌↔◌, ℕ, List, length, Option, Some, Result, Ok, Err}
 use Rattle.std.specs.Option.{option_and_then}
 use Rattle.icn_tree.specs.declared.rule.Rule.{Rule}
 use Rattle.icn_tree.specs.declared.rule.Rule.TheVariants.{P6}
@@ -10,21 +10,24 @@ use Rattle.icn_image.specs.Spelling.{image_of}
 use Rattle.icn_unit.specs.PlainUnits.{UnitRead}
 use Rattle.icn_link.specs.LinkFaults.{first_fault}
 use Rattle.icn_verify.specs.Faults.{IsFirstFault}
-use Rattle.law_simulation.specs.FirstLaw.{IsLinked}
+use Rattle.icn_defs.specs.Running.{Launch, Observation}
+use Rattle.law_simulation.specs.FirstLaw.{FilesMean, RunsFlat}
 use Rattle.icn_answer.specs.declared.answer.Answer.{Answer}
 use Rattle.icn_answer.specs.declared.answer.Answer.TheVariants.{Refused, Missing, BadUcode, FileFault, NoMemory}
 use Rattle.icont_units.specs.Files.{first_name}
 use Rattle.icont_units.specs.Units.{Member, link_answer, unit_named}
 use Rattle.icont_top.specs.declared.programs.MadeProgram.{MadeProgram}
-use Rattle.icont_top.specs.Programs.{Links, files_of, linked_code}
+use Rattle.icont_top.specs.Programs.{Links, files_of, linked_code, whole_code}
 
 -- the code and the image of a program
 pub record IsMadeProgram (members : List Member) (made : MadeProgram) : Type 0 where
   pub code : tables_of made.code.code ≡ linked_code members
   pub bytes : made.image.items ≡ image_of (linked_code members)
   pub links : Links members (Ok (linked_code members))
-  pub joins : (files : List (List Declaration)) → files_of members ≡ Some files
-      → IsLinked files (linked_code members)
+  pub means : (files : List (List Declaration)) → files_of members ≡ Some files
+      → (launch : Launch) (seen : Observation)
+      → FilesMean files launch seen ↔ RunsFlat (linked_code members) launch seen
+  pub shorter : length (image_of (linked_code members)) ≤ length (image_of (whole_code members))
 
 -- a program was made, or what refuses it is answered, or that memory was wanting
 abbrev pub Makes : List Member → Result MadeProgram Answer → Type 0

@@ -1,12 +1,14 @@
 -- The program of units: the rule that it breaks, or its code, its image, and what its runs are.
-use Rattle.std.specs.Prelude.{◌≡◌, ℕ, List, [], ◌∷◌, Option, None, Some, Result, Ok, Err}
+use Rattle.std.specs.Prelude.{◌≡◌, ℕ, Bool, List, [], ◌∷◌, Option, None, Some, Result, Ok, Err}
 use Rattle.std.specs.Option.{option_and_then, option_map, option_or}
 use Rattle.icn_tree.specs.declared.rule.Rule.{Rule}
 use Rattle.icn_tree.specs.Trees.{Declaration}
 use Rattle.icn_code.specs.Codes.{Tables}
 use Rattle.icn_defs.specs.Running.{Launch, Observation}
-use Rattle.icn_link.specs.Joined.{joined_code}
+use Rattle.icn_link.specs.Joined.{joined_code, named_procs, names_all}
 use Rattle.icn_link.specs.LinkFaults.{first_fault}
+use Rattle.icn_prune.specs.KeptCode.{kept_of}
+use Rattle.icn_prune.specs.PrunedCode.{pruned}
 use Rattle.icn_verify.specs.Faults.{IsFirstFault, IsVerified}
 use Rattle.law_simulation.specs.FirstLaw.{FilesMean, RunsFlat}
 use Rattle.icn_answer.specs.declared.answer.Answer.{Answer}
@@ -14,9 +16,17 @@ use Rattle.icn_answer.specs.declared.answer.Answer.TheVariants.{BadUcode}
 use Rattle.icont_units.specs.Files.{first_name}
 use Rattle.icont_units.specs.Units.{Member, FromSource, FromUcode, units_of, link_answer}
 
--- the code of all units
+-- the code of all units, with all procedures
+abbrev pub whole_code : List Member → Tables
+whole_code members = joined_code (units_of members)
+
+-- which of its procedures are kept
+abbrev pub kept_procs : List Member → List Bool
+kept_procs members = kept_of (whole_code members) (named_procs (units_of members)) (names_all (units_of members))
+
+-- the code of a program: that of its units, without the procedures that are not kept
 abbrev pub linked_code : List Member → Tables
-linked_code members = joined_code (units_of members)
+linked_code members = pruned (kept_procs members) (whole_code members)
 
 -- the refusal of the first rule of linking that is broken
 abbrev pub link_refusal : List Member → Option Answer

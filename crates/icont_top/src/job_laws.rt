@@ -15,10 +15,12 @@ ghost use Rattle.icont_top.specs.Relinking.{AllFit, AreHeld, GathersAlike, HoldT
 
 use icn_link::{joined_keeps_rules, units_are_joinable};
 use icn_meaning::one_observation;
+use icn_prune::{kept_is_least, pruned_code_fits};
 use icn_ucode::one_spelling;
 use icn_verify::one_fault;
 use icont_words::one_reading;
 use law_link::{translations_are_joinable, translations_join};
+use law_prune::pruned_code_is_verified;
 use law_safe::runs_end;
 use law_source::{lines_of_bytes, texts_of_bytes};
 use law_verified::{joined_code_is_verified, programs_mean};
@@ -47,6 +49,9 @@ pub fn one_job()
     translations_join();
     translations_are_joinable();
     joined_code_is_verified();
+    kept_is_least();
+    pruned_code_fits();
+    pruned_code_is_verified();
     programs_mean();
     runs_end();
     lines_of_bytes();

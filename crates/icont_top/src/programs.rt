@@ -1,9 +1,12 @@
 // The program of units: its code and its image.
-ghost use Rattle.std.specs.Prelude.{◌≡◌, ◌⊎◌, List, None, Some, IfOk, IfErr, OnOk};
+ghost use Rattle.std.specs.Prelude.{◌≡◌, ◌⊎◌, ◌<◌, List, None, Some, length, IfOk, IfErr, OnOk};
+ghost use Rattle.std.specs.List.{All};
 ghost use Rattle.icn_code.specs.CodeTables.{tables_of};
-ghost use Rattle.icn_link.specs.Joined.{joined_code};
+ghost use Rattle.icn_link.specs.Joined.{joined_code, named_procs, names_all};
 ghost use Rattle.icn_link.specs.LinkFaults.{first_fault};
 ghost use Rattle.icn_link.specs.Units.{units_seen};
+ghost use Rattle.icn_prune.specs.KeptCode.{kept_of};
+ghost use Rattle.icn_prune.specs.PrunedCode.{pruned};
 ghost use Rattle.icn_verify.specs.Faults.{IsVerified};
 ghost use Rattle.icn_answer.specs.declared.answer.Answer.TheVariants.{BadUcode, Refused};
 ghost use Rattle.icont_units.specs.Files.{first_name};
@@ -14,12 +17,14 @@ ghost use Rattle.icont_top.specs.MadeUnits.{IsOfLink, Makes, RefusesCode, Refuse
 use icn_answer::Answer;
 use icn_code::Code;
 use icn_image::write_image;
-use icn_link::{LinkFault, link};
+use icn_link::{LinkFault, Linked, link};
+use icn_prune::{kept, kept_is_least, prune};
 use icn_tree::{Bytes, Rule};
 use icn_unit::Unit;
 use icn_verify::{Verified, VerifyFault, one_fault, verify};
 use icont_units::Members;
-use law_link::translations_join;
+use law_link::{translations_join, translations_run};
+use law_prune::{pruned_code_is_no_longer, pruned_code_is_verified};
 use law_verified::joined_code_is_verified;
 use std::alloc::{AllocError, Global};
 
@@ -44,7 +49,12 @@ pub fn make(alloc: Global, members: &Members) -> Result<MadeProgram, Answer>
 {
     joined_code_is_verified();
     translations_join();
-    let code = link_members(alloc, &members.units)?;
+    translations_run();
+    kept_is_least();
+    pruned_code_is_verified();
+    pruned_code_is_no_longer();
+    let linked = link_members(alloc, &members.units)?;
+    let code = prune_linked(alloc, linked)?;
     let code = verify_linked(alloc, code, members)?;
     match write_image(alloc, code.code()) {
         Ok(image) => Ok(MadeProgram { code, image }),
@@ -53,15 +63,35 @@ pub fn make(alloc: Global, members: &Members) -> Result<MadeProgram, Answer>
 }
 
 // The linked code of units.
-fn link_members(alloc: Global, units: &[Unit]) -> Result<Code, Answer>
-    ensures code { IfOk result (λ code. tables_of code ≡ joined_code (units_seen units.now)) }
+fn link_members(alloc: Global, units: &[Unit]) -> Result<Linked, Answer>
+    ensures code { IfOk result (λ linked. tables_of linked.code ≡ joined_code (units_seen units.now)) }
+    ensures named { IfOk result (λ linked. linked.named.items ≡ named_procs (units_seen units.now)) }
+    ensures all { IfOk result (λ linked. linked.all ≡ names_all (units_seen units.now)) }
     ensures fits { OnOk result (first_fault (units_seen units.now) ≡ None) }
     ensures refused { IfErr result (RefusesLink (units_seen units.now)) }
     ensures others { IfErr result IsOfLink }
 {
     match link(alloc, units) {
-        Ok(code) => Ok(code),
+        Ok(linked) => Ok(linked),
         Err(fault) => Err(not_linked(alloc, units, &fault)),
+    }
+}
+
+// The code of what was linked, without the procedures that nothing needs. The answer is want of memory.
+fn prune_linked(alloc: Global, linked: Linked) -> Result<Code, Answer>
+    requires named { All (λ number. number < length (tables_of linked.code).procs) linked.named.items }
+    ensures code { IfOk result (λ code. tables_of code ≡ pruned
+        (kept_of (tables_of linked.code) linked.named.items linked.all) (tables_of linked.code)) }
+    ensures memory { IfErr result (λ answer. answer ≡ Answer.NoMemory) }
+{
+    kept_is_least();
+    let Linked { code, named, all } = linked;
+    let Ok(keep) = kept(alloc, &code, &named, all) else {
+        return Err(Answer::NoMemory);
+    };
+    match prune(alloc, code, &keep) {
+        Ok(code) => Ok(code),
+        Err(_) => Err(Answer::NoMemory),
     }
 }
 
@@ -75,6 +105,7 @@ fn not_linked(alloc: Global, units: &[Unit], fault: &LinkFault) -> Answer
         LinkFault::K1 { unit, .. } => link_refusal(alloc, units, *unit, Rule::K1),
         LinkFault::K2 { unit, .. } => link_refusal(alloc, units, *unit, Rule::K2),
         LinkFault::K3 { .. } => link_refusal(alloc, units, 0, Rule::K3),
+        LinkFault::K4 { unit, .. } => link_refusal(alloc, units, *unit, Rule::K4),
         LinkFault::NoMemory => Answer::NoMemory,
     }
 }

@@ -47,7 +47,6 @@ use icn_verify::{Verified, one_fault};
 use icont_units::sizes_line;
 use icont_words::{Run, Task, WordsFault, one_reading, read_command};
 use law_outside::outsides_grow;
-use law_simulation::same_ends;
 use std::alloc::Global;
 
 const USAGE: &[u8] =
@@ -358,7 +357,6 @@ fn image_answer<F: Files, I: Source, O: Sink, E: Sink>(
         (pending_bytes (O.pending out.new) (E.pending err.new)) }
 {
     one_spelling();
-    same_ends();
     outsides_grow();
     match files.write(plan.image.unwrap_or(program.base), &program.made.image) {
         Ok(()) => match plan.run {

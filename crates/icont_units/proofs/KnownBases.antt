@@ -9,7 +9,7 @@ use Rattle.std.proofs.lemmas.Option.{none-some, same_Some}
 use Rattle.std.proofs.lemmas.Slice.Eq.{bytes_eq-Decides}
 use Rattle.indexmap.specs.IndexSet.{insert_key}
 use Rattle.icn_host.specs.Counts.{Rose, one_more}
-use Rattle.icn_unit.specs.PlainUnits.{PlainDecl, Global, Procedure, Link, Record, UnitRead}
+use Rattle.icn_unit.specs.PlainUnits.{PlainDecl, Global, Procedure, Link, Invocable, Record, UnitRead}
 use Rattle.icn_link.specs.declared.fault.LinkFault.{LinkFault}
 use Rattle.icn_link.specs.declared.fault.LinkFault.TheVariants.{K2}
 use Rattle.icn_link.specs.FirstMentions.{with_text, with_texts}
@@ -238,6 +238,7 @@ linked_by names (Link text) name e = by (list_any (bytes_eq (base_of text)) name
         linked = ap (λ x. x || false) ((bytes_eq-Decides name (base_of text)).1 (sym same));
         absent = subst (λ base. list_any (bytes_eq base) names ≡ false) same t;
       }
+linked_by names (Invocable text) name e = absurd (none-some name e)
 linked_by names (Global other) name e = absurd (none-some name e)
 linked_by names (Procedure other) name e = absurd (none-some name e)
 linked_by names (Record other fields) name e = absurd (none-some name e)

@@ -9,7 +9,7 @@ use Rattle.std.proofs.lemmas.Slice.Eq.{bytes_eq-Decides}
 use Rattle.icn_host.specs.FileMaps.{FileMap}
 use Rattle.icn_tree.specs.declared.token.Token.{Token}
 use Rattle.icn_tree.specs.Tokens.{Tokenized, Scanned, Fault, tokens_of}
-use Rattle.icn_unit.specs.PlainUnits.{PlainDecl, Global, Procedure, Link, Record, UnitRead}
+use Rattle.icn_unit.specs.PlainUnits.{PlainDecl, Global, Procedure, Link, Invocable, Record, UnitRead}
 use Rattle.icn_unit.specs.UnitRules.{is_byte, is_byte_text, keeps_decl, keeps_decls, keeps_procs, keeps_rules, same_names, names_differ}
 use Rattle.icn_unit.specs.PlainUnits.{owned_names}
 use Rattle.icn_unit.specs.UnitTexts.{decls_text, procs_text}
@@ -154,6 +154,7 @@ module _ (all : List (List ℕ)) (within : (text : List ℕ) → IsShort text �
   short_links (Global name ∷ decls) h = short_links decls (and_second (keeps_decl (Global name)) (list_all keeps_decl decls) h)
   short_links (Procedure name ∷ decls) h = short_links decls (and_second (keeps_decl (Procedure name)) (list_all keeps_decl decls) h)
   short_links (Record name fields ∷ decls) h = short_links decls (and_second (keeps_decl (Record name fields)) (list_all keeps_decl decls) h)
+  short_links (Invocable text ∷ decls) h = short_links decls (and_second (keeps_decl (Invocable text)) (list_all keeps_decl decls) h)
   short_links (Link text ∷ decls) h = and_intro (is_listed all (base_of text)) (list_all (is_listed all) (flat_map link_in decls))
       (within (base_of text) (short_base text (short_text text (both_first (keeps_decl (Link text)) (list_all keeps_decl decls) h))))
       (short_links decls (and_second (keeps_decl (Link text)) (list_all keeps_decl decls) h))

@@ -8,7 +8,7 @@ use Rattle.icn_tree.specs.declared.tree.Place.{Place}
 use Rattle.icn_tree.specs.Trees.{Declaration}
 use Rattle.icn_parse.specs.declared.fault.ParseFault.{ParseFault}
 use Rattle.icn_parse.specs.declared.fault.ParseFault.TheVariants as Parse
-use Rattle.icn_parse.specs.Outcomes.{Parsed, NoProgram, TooHigh, Faulty, UnknownKeyword, NotInProfile, IsTree, IsOutcome}
+use Rattle.icn_parse.specs.Outcomes.{Parsed, NoProgram, TooHigh, Faulty, UnknownKeyword, IsTree, IsOutcome}
 use Rattle.icn_parse.specs.Views.{Breaks, broken_by}
 use Rattle.icn_decls.specs.declared.fault.ContextFault.{ContextFault}
 use Rattle.icn_decls.specs.declared.fault.ContextFault.TheVariants as Context
@@ -41,7 +41,6 @@ parse_rules : (outcome : Parsed) (rule : Rule) (place : Place) → broken_by out
 parse_rules (NoProgram p) rule place e = rule_is _ rule _ place e tt
 parse_rules (TooHigh p) rule place e = rule_is _ rule _ place e tt
 parse_rules (Faulty (UnknownKeyword p)) rule place e = rule_is _ rule _ place e tt
-parse_rules (Faulty (NotInProfile p)) rule place e = rule_is _ rule _ place e tt
 parse_rules (IsTree file) rule place e = absurd (none-some (rule, place) e)
 
 found_rules : {tokens : List Token} (found : Result (List Declaration) (Rule × Place)) → TokensGive tokens found → (rule : Rule) (place : Place)

@@ -2,11 +2,11 @@
 use Rattle.std.proofs.Common.{◌≡◌, List, [], ◌∷◌, Option, Some, Result, Ok, Err, refl, sym, ap, ◌∙◌}
 use Rattle.std.proofs.lemmas.Option.{none-some, same_Some}
 use Rattle.icn_tree.specs.declared.rule.Rule.{Rule}
-use Rattle.icn_tree.specs.declared.rule.Rule.TheVariants.{S1, S2, S3, S4}
+use Rattle.icn_tree.specs.declared.rule.Rule.TheVariants.{S1, S2, S3}
 use Rattle.icn_tree.specs.declared.token.Token.{Token}
 use Rattle.icn_tree.specs.declared.tree.Place.{Place}
 use Rattle.icn_tree.specs.Trees.{Declaration}
-use Rattle.icn_parse.specs.Outcomes.{Parsed, NoProgram, TooHigh, Faulty, IsTree, UnknownKeyword, NotInProfile, IsOutcome}
+use Rattle.icn_parse.specs.Outcomes.{Parsed, NoProgram, TooHigh, Faulty, IsTree, UnknownKeyword, IsOutcome}
 use Rattle.icn_parse.specs.Views.{broken_by as unparsed_by}
 use Rattle.icn_parse.proofs.ReadOutcomes.{one_outcome, some_outcome}
 use Rattle.icn_decls.specs.Contexts.{BrokenRule}
@@ -30,7 +30,6 @@ abbrev verdict : Parsed → Verdict
 verdict (NoProgram place) = Err (S1, place)
 verdict (TooHigh place) = Err (S2, place)
 verdict (Faulty (UnknownKeyword place)) = Err (S3, place)
-verdict (Faulty (NotInProfile place)) = Err (S4, place)
 verdict (IsTree file) = by_context (context_faults file) file
 
 -- each stage
@@ -42,7 +41,6 @@ when_broken : (outcome : Parsed) (rule : Rule) (place : Place) → unparsed_by o
 when_broken (NoProgram p) rule place e = told _ _ e
 when_broken (TooHigh p) rule place e = told _ _ e
 when_broken (Faulty (UnknownKeyword p)) rule place e = told _ _ e
-when_broken (Faulty (NotInProfile p)) rule place e = told _ _ e
 when_broken (IsTree file) rule place e = absurd (none-some (rule, place) e)
 
 when_out_of_context : (faults : List BrokenRule) (file : List Declaration) (fault : BrokenRule) → first_of faults ≡ Some fault
@@ -85,7 +83,6 @@ by_outcome : (tokens : List Token) (outcome : Parsed) → IsOutcome tokens outco
 by_outcome tokens (NoProgram place) is = (_, not_parsed (NoProgram place) S1 place is refl)
 by_outcome tokens (TooHigh place) is = (_, not_parsed (TooHigh place) S2 place is refl)
 by_outcome tokens (Faulty (UnknownKeyword place)) is = (_, not_parsed (Faulty (UnknownKeyword place)) S3 place is refl)
-by_outcome tokens (Faulty (NotInProfile place)) is = (_, not_parsed (Faulty (NotInProfile place)) S4 place is refl)
 by_outcome tokens (IsTree file) is = by_faults tokens file is (context_faults file) refl
 
 pub some_become : (tokens : List Token) → (v : Verdict) × TokensGive tokens v

@@ -2,7 +2,7 @@
 use Rattle.std.specs.Prelude.{◌≡◌, ◌≢◌, ◌⊎◌, ℕ, List, [], slice_index_or, Result, Ok, Err}
 use Rattle.icn_host.specs.FileMaps.{FileMap}
 use Rattle.icn_tree.specs.declared.rule.Rule.{Rule}
-use Rattle.icn_tree.specs.declared.rule.Rule.TheVariants.{S1, S2, S3, S4, C1, C2, C3, C4, C5, C6, C7, C8, K2}
+use Rattle.icn_tree.specs.declared.rule.Rule.TheVariants.{S1, S2, S3, C1, C2, C3, C4, C5, C6, C7, C8, K2}
 use Rattle.icn_tree.specs.declared.token.Token.{Token}
 use Rattle.icn_tree.specs.declared.tree.Place.{Place}
 use Rattle.icn_tree.specs.Tokens.{Tokenized, Scanned, Fault, tokens_of}
@@ -70,7 +70,6 @@ abbrev pub IsTreeRule : Rule → Type 0
 IsTreeRule S1 = Unit {0}
 IsTreeRule S2 = Unit {0}
 IsTreeRule S3 = Unit {0}
-IsTreeRule S4 = Unit {0}
 IsTreeRule C1 = Unit {0}
 IsTreeRule C2 = Unit {0}
 IsTreeRule C3 = Unit {0}

@@ -9,12 +9,12 @@ use Rattle.icn_tree.specs.declared.rule.Rule.TheVariants.{U8}
 use Rattle.icn_tree.specs.declared.rule.Rule.TheVariants as Rules
 use Rattle.icn_tree.specs.declared.tree.Place.{Place}
 use Rattle.icn_tree.specs.Trees.{Declaration}
-use Rattle.icn_unit.specs.PlainUnits.{PlainDecl, Global, Procedure, Link, Record, UnitRead}
+use Rattle.icn_unit.specs.PlainUnits.{PlainDecl, Global, Procedure, Link, Invocable, Record, UnitRead}
 use Rattle.icn_unit.specs.UnitTexts.{decls_text, procs_text}
 use Rattle.icn_ucode.specs.UnitReading.{UnitOutcome, Whole, Faulty, unit_read}
 use Rattle.icn_translate.specs.FileUnits.{translated_unit}
 use Rattle.icn_link.specs.declared.fault.LinkFault.{LinkFault}
-use Rattle.icn_link.specs.declared.fault.LinkFault.TheVariants.{K1, K2, K3, NoMemory}
+use Rattle.icn_link.specs.declared.fault.LinkFault.TheVariants.{K1, K2, K3, K4, NoMemory}
 use Rattle.icn_link.specs.LinkFaults.{base_of as linked_base, unit_names}
 use Rattle.icn_answer.specs.declared.answer.Answer.{Answer}
 use Rattle.icn_answer.specs.declared.answer.Answer.TheVariants.{Refused, Missing, BadUcode}
@@ -113,6 +113,7 @@ pub data FilesCome (files : FileMap) : List CommandFile → Result (List Member)
 -- the base that a declaration links, if it links one
 abbrev pub link_in : PlainDecl → List (List ℕ)
 link_in (Link text) = linked_base text ∷ []
+link_in (Invocable text) = []
 link_in (Global name) = []
 link_in (Procedure name) = []
 link_in (Record name fields) = []
@@ -181,6 +182,7 @@ abbrev pub link_answer : List UnitRead → LinkFault → Option Answer
 link_answer units (K1 unit name first second) = Some (Refused (unit_named units unit) 0 Rules.K1)
 link_answer units (K2 unit name) = Some (Refused (unit_named units unit) 0 Rules.K2)
 link_answer units (K3 count) = Some (Refused (unit_named units 0) 0 Rules.K3)
+link_answer units (K4 unit name) = Some (Refused (unit_named units unit) 0 Rules.K4)
 link_answer units NoMemory = None
 
 -- Files that are written

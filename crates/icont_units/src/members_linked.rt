@@ -114,7 +114,8 @@ fn push_link(alloc: Global, bases: &mut Vec<Vec<u8>>, decl: &UnitDecl) -> Result
 {
     match decl {
         UnitDecl::Link(text) => push_base(alloc, bases, base_of(text.as_slice())),
-        UnitDecl::Global(_) | UnitDecl::Proc(_) | UnitDecl::Record(_, _) => Ok(()),
+        UnitDecl::Global(_) | UnitDecl::Proc(_) | UnitDecl::Invocable(_) | UnitDecl::Record(_, _) =>
+            Ok(()),
     }
 }
 

@@ -9,7 +9,7 @@ use icn_tree::{Place, Rule};
 /// Why tokens are no program.
 #[derive(Clone, Copy, Debug, PartialEq, Eq)]
 pub enum ProgramFault {
-    /// The first rule that they break, one of S1 to S4 and C1 to C8, and where.
+    /// The first rule that they break, one of S1 to S3 and C1 to C8, and where.
     Broken { rule: Rule, place: Place },
     /// Memory ran out.
     NoMemory,

@@ -67,7 +67,7 @@ module _ (laws : Laws) where
     judged_run bounds name bytes arguments asks there (runs_as tables is kept sound) =
         let launch : Launch = record { words = arguments; bounds = bounds; outside = outside_of left files } in
         let named : IsRun words files left tables launch = record { name = name; bytes = bytes; asks = asks; there = there; judged = is; outside = refl } in
-        observed_job tables launch named ((laws.ends tables kept sound).flat launch)
+        observed_job tables launch named ((laws.ends tables kept sound).flat [] launch)
 
     written_job : (new : List ℕ) (tables : Tables) → IsMigration words files new tables
         → (1073741824 < length (image_of tables)) ⊎ (length (image_of tables) ≤ 1073741824) → (job : Job) × IsJob words files left job

@@ -1,5 +1,5 @@
 -- A run under a smaller bound of turns is a first part of one under a greater.
-use Rattle.std.proofs.Common.{◌≡◌, inl, inr, ℕ, zero, suc, ◌≤◌, Some, refl, sym, ap, ◌∙◌, subst}
+use Rattle.std.proofs.Common.{◌≡◌, inl, inr, ℕ, zero, suc, ◌≤◌, List, Some, refl, sym, ap, ◌∙◌, subst}
 use Rattle.icn_value.specs.Store.{Outside}
 use Rattle.icn_code.specs.Codes.{Tables}
 use Rattle.icn_defs.specs.Running.{AtBound, Ending, Launch, Observation, after_steps, bound_report, with_errors}
@@ -10,7 +10,7 @@ use Rattle.icn_run.specs.Step.{State, running, failing, hopping, over, stuck, ob
 use Rattle.icn_run.proofs.OneObservation.{observation_lasts, over_seen}
 use Rattle.law_outside.specs.Outsides.{ExtendsOutside, HasOutside}
 use Rattle.law_outside.proofs.GrowingOutside.{steps_extend}
-use Rattle.law_simulation.specs.FirstLaw.{RunsFlat, with_turns}
+use Rattle.law_simulation.specs.FirstLaw.{RunsFlatHiding, with_turns}
 use Rattle.law_bounds.specs.PartRuns.{IsPartOf, ended_at_bound, is_cut, is_whole}
 use Rattle.law_bounds.proofs.EachStep.{Alike, fails, hop, runs, start_of, state_under, store_under}
 
@@ -83,12 +83,14 @@ module _ (tables : Tables) where
       (done_before s k st.outside whole (steps_extend tables s k) w) p (later k s whole w)
   part_of fewer more le (suc n) stuck part whole k p w = part_of fewer more le n stuck part whole k p w
 
-  start_under : (launch : Launch) (n : ℕ) → Flat.start tables (with_turns n launch) ≡ state_under n (Flat.start tables launch)
-  start_under launch n = start_of flat tables n launch.words empty (S.first_store tables launch) (S.main_of tables)
+  module _ (hidden : List ℕ) where
+    start_under : (launch : Launch) (n : ℕ) → Flat.start_hiding tables hidden (with_turns n launch) ≡ state_under n (Flat.start_hiding tables hidden launch)
+    start_under launch n = start_of flat tables n launch.words empty (S.first_store_hiding tables hidden launch) (S.main_of tables)
 
-  pub runs_part : (launch : Launch) (fewer more : ℕ) (part whole : Observation) → fewer ≤ more → RunsFlat tables (with_turns fewer launch) part
-      → RunsFlat tables (with_turns more launch) whole → IsPartOf part whole
-  runs_part launch fewer more part whole le x y =
-      part_of fewer more le x.count (Flat.start tables launch) part whole y.count
-      (ap (λ (s : Flats). observation (After x.count s)) (sym (start_under launch fewer)) ∙ x.is)
-      (ap (λ (s : Flats). observation (After y.count s)) (sym (start_under launch more)) ∙ y.is)
+    -- whatever procedures no text names
+    pub runs_part : (launch : Launch) (fewer more : ℕ) (part whole : Observation) → fewer ≤ more
+        → RunsFlatHiding hidden tables (with_turns fewer launch) part → RunsFlatHiding hidden tables (with_turns more launch) whole → IsPartOf part whole
+    runs_part launch fewer more part whole le x y =
+        part_of fewer more le x.count (Flat.start_hiding tables hidden launch) part whole y.count
+        (ap (λ (s : Flats). observation (After x.count s)) (sym (start_under launch fewer)) ∙ x.is)
+        (ap (λ (s : Flats). observation (After y.count s)) (sym (start_under launch more)) ∙ y.is)

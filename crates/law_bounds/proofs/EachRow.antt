@@ -318,6 +318,8 @@ module _ (b : ℕ) where
   each_function names Funcs.ErrorClear vs = search rows depth 18
   each_function names Funcs.Open vs = search rows depth 18
   each_function names Funcs.Close vs = search rows depth 18
+  each_function names Funcs.Proc vs = search rows depth 18
+  each_function names Funcs.Args vs = search rows depth 18
 
   pub resumed_overlooks : (r : Residual) → Overlooks b (again r)
   resumed_overlooks (TextBytes text k) = search rows depth 14

@@ -14,6 +14,7 @@ use Rattle.icn_defs.specs.Arities.{arity}
 use Rattle.icn_defs.specs.Conversions.{integer_of}
 use Rattle.icn_defs.specs.Errors.{ended_or_failed, ends_run}
 use Rattle.icn_defs.specs.Keywords.{keyword_item}
+use Rattle.icn_defs.specs.NamedValues.{named_by}
 use Rattle.icn_defs.specs.Rows.{Row, Outcome, Fails, Gives, Suspends, Error, Ends}
 use Rattle.icn_defs.specs.Running.{AtBound, Done, Errored, Pair, bound_report, files_written, number_of, with_errors, words_row}
 use Rattle.icn_defs.specs.StepRows.{coexpression_row, list_row, record_row, text_row, value_row}
@@ -211,11 +212,6 @@ module _ {H M : Type 0} (C : Calls H M) (P : Program) (b : ℕ) where
   pushed_or_fails (Some x) m st = refl
   pushed_or_fails None m st = refl
 
-  integer_called : (f : Value) (o : Option ℤ) (xs : List Item) (m : M) (st : Store H)
-      → S.integer_called C f o xs m (R st) ≡ U (S.integer_called C f o xs m st)
-  integer_called f (Some n) xs m st = pushed_or_fails (S.choose_item n xs) m st
-  integer_called f None xs m st = errs 106 (Some f) m st
-
   callee_called : (c : Callee) (n : ℕ) (xs : List Item) (m : M) (st : Store H) → S.callee_called C c n xs m (R st) ≡ U (S.callee_called C c n xs m st)
   callee_called (IsProc entry) n xs m st =
       values xs m st (λ arguments. S.call_procedure C n entry arguments m (R st)) (λ arguments. S.call_procedure C n entry arguments m st)
@@ -226,6 +222,16 @@ module _ {H M : Type 0} (C : Calls H M) (P : Program) (b : ℕ) where
       made_by (record_row kind fs) (record_overlooks b kind fs) m st (λ value m st. S.push_item C (Val value) m st) (λ v m s. refl))
   callee_called (IsFunc func) n xs m st = performed (function_row st.names func xs) (function_overlooks b st.names func xs) m st
   callee_called IsNothing n xs m st = errs 106 (Some (ProcedureValue n)) m st
+
+  named_called : (f : Value) (o : Option ℕ) (xs : List Item) (m : M) (st : Store H)
+      → S.named_called C P f o xs m (R st) ≡ U (S.named_called C P f o xs m st)
+  named_called f (Some n) xs m st = callee_called (S.callee_of P n) n xs m st
+  named_called f None xs m st = errs 106 (Some f) m st
+
+  integer_called : (f : Value) (o : Option ℤ) (xs : List Item) (m : M) (st : Store H)
+      → S.integer_called C P f o xs m (R st) ≡ U (S.integer_called C P f o xs m st)
+  integer_called f (Some n) xs m st = pushed_or_fails (S.choose_item n xs) m st
+  integer_called f None xs m st = named_called f (named_by st.names f) xs m st
 
   invoked : (f : Value) (xs : List Item) (m : M) (st : Store H) → S.invoke_value C P f xs m (R st) ≡ U (S.invoke_value C P f xs m st)
   invoked (ProcedureValue n) xs m st = callee_called (S.callee_of P n) n xs m st

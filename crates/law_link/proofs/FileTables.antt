@@ -1,35 +1,29 @@
 -- The tables of a file's unit: what its declarations and its instructions mention, as the first law has it.
-use Rattle.std.proofs.Common.{◌≡◌, ℕ, ℤ, ◌+◌, Bool, true, false, not, List, [], ◌∷◌, ◌++◌, length, map, filter, find, cond, Option, None, Some, refl, sym, ap, ◌∙◌, if◌then◌else◌}
-use Rattle.std.specs.Prelude.{is_some}
+use Rattle.std.proofs.Common.{◌≡◌, ℕ, ℤ, ◌+◌, Bool, not, List, [], ◌∷◌, ◌++◌, length, map, filter, refl, sym, ap, ◌∙◌}
 use Rattle.std.specs.List.{flat_map, list_any}
 use Rattle.std.specs.Ordering.{int_eq}
 use Rattle.std.specs.Str.{bytes_eq}
 use Rattle.std.proofs.lemmas.Grind.{flat_map-append}
 use Rattle.std.proofs.lemmas.List.Elements.{filter-append}
-use Rattle.icn_text.specs.Funcs.{func_name}
-use Rattle.icn_text.specs.declared.func.Func.{Func}
 use Rattle.icn_text.specs.declared.func.TheConstants.Func.{ALL as functions}
 use Rattle.icn_tree.specs.declared.tree.DeclItem.{DeclItem}
 use Rattle.icn_tree.specs.declared.tree.Name.{Name}
-use Rattle.icn_tree.specs.declared.tree.LocalKind.{LocalKind}
-use Rattle.icn_tree.specs.declared.tree.LocalKind.TheVariants as Kept
-use Rattle.icn_tree.specs.Trees.{Procedure, Declaration, Global, Link, Invocable, Record, ProcedureOf, LocalDecl}
-use Rattle.icn_unit.specs.declared.unit.NameKind.{NameKind}
-use Rattle.icn_unit.specs.declared.unit.NameKind.TheVariants as Kinds
+use Rattle.icn_tree.specs.Trees.{Procedure, Declaration, Global, Link, Invocable, Record, ProcedureOf}
 use Rattle.icn_unit.specs.declared.unit.UnitInstr.{UnitInstr}
 use Rattle.icn_unit.specs.PlainUnits.{proc_names}
-use Rattle.icn_unit.specs.PlainUnits.{Global as GlobalLine, Link as LinkLine}
+use Rattle.icn_unit.specs.PlainUnits.{Global as GlobalLine, Link as LinkLine, Invocable as InvocableLine}
 use Rattle.icn_link.specs.FirstMentions.{with_texts}
 use Rattle.icn_link.specs.Mentions as Unit
-use Rattle.icn_link.specs.Mentions.{mention_of, mentioned_in, mentioned_by, global_in, fields_in, record_name_in, record_names, function_by, function_in, functions_in, declared_names}
-use Rattle.icn_meaning.specs.Program.{texts, with_more_names, without_names, only, global_names, procedures_of, kinds_of, kind_names, routine_names, routines_of, function_among, function_named, is_there, names_function, used_names, undeclared_names, globals_of, statics_among}
+use Rattle.icn_link.specs.Mentions.{mention_of, mentioned_in, mentioned_by, global_in, fields_in, record_name_in, record_names, functions_in, functions_used, declared_names}
+use Rattle.icn_meaning.specs.Program.{texts, with_more_names, without_names, only, global_names, procedures_of, kinds_of, kind_names, routine_names, routines_of, names_function, used_names, undeclared_names, globals_of, statics_among}
 use Rattle.law_simulation.specs.Mentions.{TableMention, AnInteger, AText, ASet, AField, integers_among, texts_among, sets_among, fields_among, firsts, initial_mentions, all_mentions}
 use Rattle.law_simulation.specs.JoinedFiles.{routines, routine_mentions, code_mentions, record_fields, fields_of, strings_of, integers_of, sets_of}
 use Rattle.icn_translate.specs.FileUnits.{proc_codes, item_text, lines_in, unit_decls}
-use Rattle.icn_translate.specs.ProcCodes.{entry_of, kind_of, local_entries, first_draft, draft_of, undeclared_in, proc_code}
-use Rattle.law_link.proofs.FirstsOnce.{texts_firsts, integers_firsts, texts_all, added_firsts, without_kept, only_kept}
+use Rattle.icn_translate.specs.ProcCodes.{first_draft, draft_of, proc_code}
+use Rattle.law_link.proofs.FirstsOnce.{texts_firsts, integers_firsts, texts_all, added_firsts, without_kept, only_kept, or_last, texts_again, texts_more, texts_once, texts_within}
 use Rattle.law_link.proofs.Mentioning.{taken, taken_in, code_adds}
-use Rattle.law_link.proofs.NameEntries.{IsFit, texts_same, undeclared_same}
+use Rattle.law_link.proofs.NameEntries.{IsFit, texts_same}
+use Rattle.law_link.proofs.UsedFunctions.{functions_first, functions_same}
 
 -- each procedure is so
 abbrev pub Fit : List Procedure → Type 0
@@ -162,6 +156,10 @@ no_global : (items : List DeclItem) → flat_map global_in (map (λ (item : Decl
 no_global [] = refl
 no_global (item ∷ items) = no_global items
 
+no_global_named : (items : List DeclItem) → flat_map global_in (map (λ (item : DeclItem). InvocableLine (item_text item)) items) ≡ []
+no_global_named [] = refl
+no_global_named (item ∷ items) = no_global_named items
+
 pub globals_same : (file : List Declaration) → flat_map global_in (unit_decls file) ≡ global_names file
 globals_same [] = refl
 globals_same (Global place names ∷ others) =
@@ -171,7 +169,9 @@ globals_same (Global place names ∷ others) =
 globals_same (Link place items ∷ others) =
     flat_map-append global_in (lines_in (Link place items)) (unit_decls others)
     ∙ ap (λ l. l ++ flat_map global_in (unit_decls others)) (no_global items) ∙ globals_same others
-globals_same (Invocable place items ∷ others) = globals_same others
+globals_same (Invocable place items ∷ others) =
+    flat_map-append global_in (lines_in (Invocable place items)) (unit_decls others)
+    ∙ ap (λ l. l ++ flat_map global_in (unit_decls others)) (no_global_named items) ∙ globals_same others
 globals_same (Record place name fields ∷ others) = ap (λ l. name.text ∷ l) (globals_same others)
 globals_same (ProcedureOf procedure ∷ others) = ap (λ l. procedure.name.text ∷ l) (globals_same others)
 
@@ -183,6 +183,10 @@ no_linked_field : (items : List DeclItem) → flat_map fields_in (map (λ (item 
 no_linked_field [] = refl
 no_linked_field (item ∷ items) = no_linked_field items
 
+no_named_field : (items : List DeclItem) → flat_map fields_in (map (λ (item : DeclItem). InvocableLine (item_text item)) items) ≡ []
+no_named_field [] = refl
+no_named_field (item ∷ items) = no_named_field items
+
 fields_declared : (file : List Declaration) → flat_map fields_in (unit_decls file) ≡ record_fields (kinds_of file)
 fields_declared [] = refl
 fields_declared (Global place names ∷ others) =
@@ -191,7 +195,9 @@ fields_declared (Global place names ∷ others) =
 fields_declared (Link place items ∷ others) =
     flat_map-append fields_in (lines_in (Link place items)) (unit_decls others)
     ∙ ap (λ l. l ++ flat_map fields_in (unit_decls others)) (no_linked_field items) ∙ fields_declared others
-fields_declared (Invocable place items ∷ others) = fields_declared others
+fields_declared (Invocable place items ∷ others) =
+    flat_map-append fields_in (lines_in (Invocable place items)) (unit_decls others)
+    ∙ ap (λ l. l ++ flat_map fields_in (unit_decls others)) (no_named_field items) ∙ fields_declared others
 fields_declared (Record place name fields ∷ others) =
     ap (λ l. l ++ flat_map fields_in (unit_decls others)) (texts_same fields)
     ∙ ap (λ l. texts fields ++ l) (fields_declared others)
@@ -205,6 +211,10 @@ no_linked_record : (items : List DeclItem) → flat_map record_name_in (map (λ 
 no_linked_record [] = refl
 no_linked_record (item ∷ items) = no_linked_record items
 
+no_named_record : (items : List DeclItem) → flat_map record_name_in (map (λ (item : DeclItem). InvocableLine (item_text item)) items) ≡ []
+no_named_record [] = refl
+no_named_record (item ∷ items) = no_named_record items
+
 pub records_same : (file : List Declaration) → record_names (unit_decls file) ≡ kind_names (kinds_of file)
 records_same [] = refl
 records_same (Global place names ∷ others) =
@@ -213,7 +223,9 @@ records_same (Global place names ∷ others) =
 records_same (Link place items ∷ others) =
     flat_map-append record_name_in (lines_in (Link place items)) (unit_decls others)
     ∙ ap (λ l. l ++ record_names (unit_decls others)) (no_linked_record items) ∙ records_same others
-records_same (Invocable place items ∷ others) = records_same others
+records_same (Invocable place items ∷ others) =
+    flat_map-append record_name_in (lines_in (Invocable place items)) (unit_decls others)
+    ∙ ap (λ l. l ++ record_names (unit_decls others)) (no_named_record items) ∙ records_same others
 records_same (Record place name fields ∷ others) = ap (λ l. name.text ∷ l) (records_same others)
 records_same (ProcedureOf procedure ∷ others) = records_same others
 
@@ -228,73 +240,38 @@ procedures_same file = ap proc_names (codes_same file) ∙ named (globals_of fil
 
 -- Functions that are used and not declared
 
-found_among : (name : List ℕ) (funcs : List Func) → find (λ func. bytes_eq name (func_name func)) funcs ≡ function_among name funcs
-found_among name [] = refl
-found_among name (func ∷ funcs) = by (bytes_eq name (func_name func)) (found_among name funcs)
-  where
-    by : (b : Bool) → find (λ func. bytes_eq name (func_name func)) funcs ≡ function_among name funcs
-        → cond b (Some func) (find (λ func. bytes_eq name (func_name func)) funcs)
-        ≡ (if b then Some func else function_among name funcs)
-    by true h = refl
-    by false h = h
-
-pub function_same : (name : List ℕ) → Unit.function_named name ≡ function_named name
-function_same name = found_among name functions
-
-there : (o : Option Func) → is_some o ≡ is_there o
-there None = refl
-there (Some func) = refl
-
-functions_kept : (names : List (List ℕ)) → flat_map function_in (map (entry_of Kinds.Undeclared) names) ≡ filter names_function names
-functions_kept [] = refl
-functions_kept (name ∷ names) =
-    ap (λ b. (if b then name ∷ [] else []) ++ flat_map function_in (map (entry_of Kinds.Undeclared) names))
-    (ap is_some (function_same name) ∙ there (function_named name))
-    ∙ by (names_function name) (functions_kept names)
-  where
-    by : (b : Bool) → flat_map function_in (map (entry_of Kinds.Undeclared) names) ≡ filter names_function names
-        → (if b then name ∷ [] else []) ++ flat_map function_in (map (entry_of Kinds.Undeclared) names)
-        ≡ cond b (name ∷ filter names_function names) (filter names_function names)
-    by true h = ap (λ l. name ∷ l) h
-    by false h = h
-
-no_function : (kind : NameKind) (names : List Name) → ((text : List ℕ) → function_by kind text ≡ [])
-    → flat_map function_in (map (λ (name : Name). entry_of kind name.text) names) ≡ []
-no_function kind [] h = refl
-no_function kind (name ∷ names) h =
-    ap (λ l. l ++ flat_map function_in (map (λ (name : Name). entry_of kind name.text) names)) (h name.text) ∙ no_function kind names h
-
-declared_function : (kind : LocalKind) (text : List ℕ) → function_by (kind_of kind) text ≡ []
-declared_function Kept.Local text = refl
-declared_function Kept.Static text = refl
-
-no_local_function : (locals : List LocalDecl) → flat_map function_in (flat_map local_entries locals) ≡ []
-no_local_function [] = refl
-no_local_function (l ∷ locals) =
-    flat_map-append function_in (local_entries l) (flat_map local_entries locals)
-    ∙ ap (λ xs. xs ++ flat_map function_in (flat_map local_entries locals))
-    (no_function (kind_of l.kind) l.names (declared_function l.kind))
-    ∙ no_local_function locals
-
-functions_same : (procedure : Procedure) → IsFit procedure
-    → functions_in (proc_code procedure) ≡ filter names_function (undeclared_names procedure)
-functions_same procedure h =
-    let parameters = map (λ (name : Name). entry_of Kinds.Parameter name.text) procedure.parameters in
-    let locals = flat_map local_entries procedure.locals in
-    let others = map (entry_of Kinds.Undeclared) (undeclared_in procedure) in
-    flat_map-append function_in (parameters ++ locals) others
-    ∙ ap (λ l. l ++ flat_map function_in others) (flat_map-append function_in parameters locals
-    ∙ ap (λ l. l ++ flat_map function_in locals) (no_function Kinds.Parameter procedure.parameters (λ text. refl))
-    ∙ no_local_function procedure.locals)
-    ∙ functions_kept (undeclared_in procedure) ∙ ap (filter names_function) (undeclared_same procedure h)
-
-functions_used : (procedures : List Procedure) → Fit procedures
+functions_among : (procedures : List Procedure) → Fit procedures
     → flat_map functions_in (map proc_code procedures) ≡ filter names_function (used_names procedures)
-functions_used [] h = refl
-functions_used (procedure ∷ others) h =
+functions_among [] h = refl
+functions_among (procedure ∷ others) h =
     ap (λ l. l ++ flat_map functions_in (map proc_code others)) (functions_same procedure h.0)
-    ∙ ap (λ l. filter names_function (undeclared_names procedure) ++ l) (functions_used others h.1)
+    ∙ ap (λ l. filter names_function (undeclared_names procedure) ++ l) (functions_among others h.1)
     ∙ sym (filter-append names_function (undeclared_names procedure) (used_names others))
+
+-- a table gains the same from the functions that are used
+used_alike : (procedures : List Procedure) → Fit procedures → (table : List (List ℕ))
+    → with_texts table (flat_map functions_used (map proc_code procedures))
+    ≡ with_texts table (flat_map functions_in (map proc_code procedures))
+used_alike [] h table = refl
+used_alike (procedure ∷ others) h table =
+    let code = proc_code procedure in
+    let used = flat_map functions_used (map proc_code others) in
+    let named = flat_map functions_in (map proc_code others) in
+    sym (texts_more table (functions_used code) used)
+    ∙ ap (λ l. with_texts l used) (sym (texts_once table (functions_used code))
+    ∙ ap (with_texts table) (sym (functions_first procedure h.0)))
+    ∙ used_alike others h.1 (with_texts table (functions_in code))
+    ∙ texts_more table (functions_in code) named
+
+-- and nothing more from those that are named
+named_alike : (procedures : List Procedure) → Fit procedures → (table : List (List ℕ))
+    → with_texts (with_texts table (flat_map functions_used (map proc_code procedures))) (flat_map functions_in (map proc_code procedures))
+    ≡ with_texts table (flat_map functions_in (map proc_code procedures))
+named_alike procedures h table =
+    let named = flat_map functions_in (map proc_code procedures) in
+    ap (λ l. with_texts l named) (used_alike procedures h table)
+    ∙ texts_again (with_texts table named) named
+    (λ y g. texts_within table named y ∙ or_last (list_any (bytes_eq y) table) (list_any (bytes_eq y) named) g)
 
 -- The tables of a file
 
@@ -307,13 +284,17 @@ module _ (file : List Declaration) (fit : Fit (procedures_of file)) where
       let used = used_names (procedures_of file) in
       let D = firsts bytes_eq (global_names file) in
       let functions_of : flat_map functions_in (proc_codes file) ≡ filter names_function used =
-      ap (flat_map functions_in) (codes_same file) ∙ functions_used (procedures_of file) fit in
+      ap (flat_map functions_in) (codes_same file) ∙ functions_among (procedures_of file) fit in
       let new : List ℕ → Bool = λ y. not (list_any (bytes_eq y) D) in
       let others = with_more_names [] (only names_function used) in
       let later : without_names D others ≡ filter new (firsts bytes_eq (filter names_function used)) =
       without_kept D others
       ∙ ap (filter new) (added_firsts (only names_function used) ∙ ap (firsts bytes_eq) (only_kept names_function used)) in
-      ap (λ l. with_texts l (flat_map functions_in (proc_codes file))) declared_same
+      ap (λ codes. with_texts (with_texts (declared_names (unit_decls file)) (flat_map functions_used codes)) (flat_map functions_in codes))
+      (codes_same file)
+      ∙ named_alike (procedures_of file) fit (declared_names (unit_decls file))
+      ∙ ap (λ codes. with_texts (declared_names (unit_decls file)) (flat_map functions_in codes)) (sym (codes_same file))
+      ∙ ap (λ l. with_texts l (flat_map functions_in (proc_codes file))) declared_same
       ∙ ap (with_texts D) functions_of
       ∙ texts_all D (filter names_function used)
       ∙ ap (λ l. D ++ l) (sym later)

@@ -1,5 +1,5 @@
 -- Tables that are gathered one thing after the other have the first mention of each.
-use Rattle.std.proofs.Common.{◌≡◌, ℕ, ℤ, Bool, true, false, not, ◌&&◌, ◌||◌, List, [], ◌∷◌, ◌++◌, filter, cond, refl, sym, ap, ◌∙◌, append_assoc, append-nil, if◌then◌else◌}
+use Rattle.std.proofs.Common.{◌≡◌, ℕ, ℤ, suc, arith, Bool, true, false, not, ◌&&◌, ◌||◌, List, [], ◌∷◌, ◌++◌, filter, cond, refl, sym, ap, ◌∙◌, append_assoc, append-nil, if◌then◌else◌}
 use Rattle.std.specs.Bool.{Decides}
 use Rattle.std.specs.List.{list_any}
 use Rattle.std.specs.Ordering.{int_eq}
@@ -11,7 +11,8 @@ use Rattle.std.proofs.lemmas.Slice.Eq.{bytes_eq-Decides}
 use Rattle.icn_link.specs.FirstMentions.{with_texts, with_integers}
 use Rattle.icn_meaning.specs.Program.{with_more_names, has_name, only, without_names, with_name}
 use Rattle.law_simulation.specs.Mentions.{firsts}
-use Rattle.icn_translate.specs.Drafts.{with_names}
+use Rattle.icn_translate.specs.Drafts.{with_names, name_index}
+use Rattle.icn_translate.specs.Drafts.{with_name as with_name_behind}
 
 -- Filters
 
@@ -30,7 +31,7 @@ kept_by p x xs true = refl
 kept_by p x xs false = refl
 
 -- one behind the other is both
-filter_twice : {A : Type 0} (p q : A → Bool) (xs : List A) → filter p (filter q xs) ≡ filter (λ x. q x && p x) xs
+pub filter_twice : {A : Type 0} (p q : A → Bool) (xs : List A) → filter p (filter q xs) ≡ filter (λ x. q x && p x) xs
 filter_twice p q [] = refl
 filter_twice p q (x ∷ xs) = kept_by p x (filter q xs) (q x)
     ∙ ap (λ ys. cond (q x && p x) (x ∷ ys) ys) (filter_twice p q xs)
@@ -204,6 +205,83 @@ names_all table xs = names_gathered table xs ∙ gathered_all bytes_eq bytes_eq-
 pub names_more : (table xs ys : List (List ℕ)) → with_names (with_names table xs) ys ≡ with_names table (xs ++ ys)
 names_more table [] ys = refl
 names_more table (x ∷ xs) ys = names_more (if list_any (bytes_eq x) table then table else table ++ x ∷ []) xs ys
+
+pub texts_more : (table xs ys : List (List ℕ)) → with_texts (with_texts table xs) ys ≡ with_texts table (xs ++ ys)
+texts_more table [] ys = refl
+texts_more table (x ∷ xs) ys = texts_more (if list_any (bytes_eq x) table then table else table ++ x ∷ []) xs ys
+
+-- what a table has with others
+pub texts_within : (table xs : List (List ℕ)) (y : List ℕ)
+    → list_any (bytes_eq y) (with_texts table xs) ≡ (list_any (bytes_eq y) table || list_any (bytes_eq y) xs)
+texts_within table xs y = ap (list_any (bytes_eq y)) (texts_gathered table xs) ∙ gathered_any bytes_eq bytes_eq-Decides table xs y
+
+pub names_within : (table xs : List (List ℕ)) (y : List ℕ)
+    → list_any (bytes_eq y) (with_names table xs) ≡ (list_any (bytes_eq y) table || list_any (bytes_eq y) xs)
+names_within table xs y = ap (list_any (bytes_eq y)) (names_gathered table xs) ∙ gathered_any bytes_eq bytes_eq-Decides table xs y
+
+-- first mentions of first mentions
+firsts_twice : (xs : List (List ℕ)) → firsts bytes_eq (firsts bytes_eq xs) ≡ firsts bytes_eq xs
+firsts_twice [] = refl
+firsts_twice (x ∷ xs) =
+    let new : List ℕ → Bool = λ y. not (bytes_eq x y) in
+    ap (λ ys. x ∷ ys)
+    (ap (filter new) (firsts_kept bytes_eq bytes_eq-Decides new (firsts bytes_eq xs))
+    ∙ filter_within new new (λ y h. h) (firsts bytes_eq (firsts bytes_eq xs)) ∙ ap (filter new) (firsts_twice xs))
+
+-- a table gains the same from the first mentions alone
+pub texts_once : (table xs : List (List ℕ)) → with_texts table (firsts bytes_eq xs) ≡ with_texts table xs
+texts_once table xs = texts_all table (firsts bytes_eq xs)
+    ∙ ap (λ ys. table ++ filter (λ y. not (list_any (bytes_eq y) table)) ys) (firsts_twice xs) ∙ sym (texts_all table xs)
+
+pub itself : (x : List ℕ) → bytes_eq x x ≡ true
+itself x = (bytes_eq-Decides x x).1 refl
+
+pub or_last : (a b : Bool) → b ≡ true → (a || b) ≡ true
+or_last true b h = refl
+or_last false b h = h
+
+-- and nothing from what it has
+pub texts_again : (table xs : List (List ℕ))
+    → ((y : List ℕ) → list_any (bytes_eq y) xs ≡ true → list_any (bytes_eq y) table ≡ true) → with_texts table xs ≡ table
+texts_again table [] h = refl
+texts_again table (x ∷ xs) h =
+    ap (λ b. with_texts (if b then table else table ++ x ∷ []) xs)
+    (h x (ap (λ b. b || list_any (bytes_eq x) xs) (itself x)))
+    ∙ texts_again table xs (λ y g. h y (or_last (bytes_eq y x) (list_any (bytes_eq y) xs) g))
+
+-- The place of a name
+
+place_before : (names : List (List ℕ)) (name : List ℕ) (rest : List (List ℕ))
+    → name_index names name ≡ name_index (with_name_behind names name ++ rest) name
+place_before [] name rest = let same = itself name in rw same refl
+place_before (x ∷ names) name rest = by (bytes_eq name x) refl (place_before names name rest)
+  where
+    moved : (b : Bool) → x ∷ (if b then names else names ++ name ∷ []) ++ rest
+        ≡ (if b then x ∷ names else x ∷ names ++ name ∷ []) ++ rest
+    moved true = refl
+    moved false = refl
+
+    by : (b : Bool) → bytes_eq name x ≡ b → name_index names name ≡ name_index (with_name_behind names name ++ rest) name
+        → name_index (x ∷ names) name ≡ name_index (with_name_behind (x ∷ names) name ++ rest) name
+    by true e next =
+        let first : (others : List (List ℕ)) → name_index (x ∷ others) name ≡ 0 = λ others. rw e refl in
+        first names
+        ∙ sym (ap (λ b. name_index ((if b || list_any (bytes_eq name) names then x ∷ names else x ∷ names ++ name ∷ []) ++ rest) name) e
+        ∙ first (names ++ rest))
+    by false e next =
+        let later : (others : List (List ℕ)) → name_index (x ∷ others) name ≡ suc (name_index others name) =
+        λ others. rw e (omega arith) in
+        later names ∙ ap suc next ∙ sym (later (with_name_behind names name ++ rest))
+        ∙ ap (λ all. name_index all name) (moved (list_any (bytes_eq name) names))
+        ∙ ap (λ b. name_index ((if b || list_any (bytes_eq name) names then x ∷ names else x ∷ names ++ name ∷ []) ++ rest) name) (sym e)
+
+-- a name stays where it is as others come behind
+pub place_stays : (names : List (List ℕ)) (name : List ℕ) (more : List (List ℕ))
+    → name_index names name ≡ name_index (with_names (with_name_behind names name) more) name
+place_stays names name more =
+    let known = with_name_behind names name in
+    place_before names name (filter (λ y. not (list_any (bytes_eq y) known)) (firsts bytes_eq more))
+    ∙ ap (λ all. name_index all name) (sym (names_all known more))
 
 -- Names of the meaning
 

@@ -9,7 +9,7 @@ use Rattle.icn_decls.specs.Faults.{names_after, declarations_faults, procedure_f
 use Rattle.icn_tree.specs.NameSets.{NameTest, none_met}
 use Rattle.icn_unit.specs.declared.unit.UnitInstr.{UnitInstr}
 use Rattle.icn_unit.specs.declared.unit.UnitInstr.TheVariants as I
-use Rattle.icn_unit.specs.PlainUnits.{Global as GlobalLine, Link as LinkLine}
+use Rattle.icn_unit.specs.PlainUnits.{Global as GlobalLine, Link as LinkLine, Invocable as InvocableLine}
 use Rattle.icn_unit.specs.UnitRules.{is_byte_text}
 use Rattle.icn_link.specs.JoinableUnits.{is_joinable, is_joinable_decl, is_joinable_instr, is_joinable_proc}
 use Rattle.icn_translate.specs.FileUnits.{item_text, lines_in, proc_codes, translated_unit, unit_decls}
@@ -70,7 +70,7 @@ procs_joinable met (Link place items ∷ others) f w room =
     (and_second (declaration_fits is_byte_text (Link place items)) (file_fits is_byte_text others) w) room.1
 procs_joinable met (Invocable place items ∷ others) f w room =
     procs_joinable met others (others_faultless met (Invocable place items) others f)
-    (and_second true (file_fits is_byte_text others) w) room.1
+    (and_second (declaration_fits is_byte_text (Invocable place items)) (file_fits is_byte_text others) w) room.1
 procs_joinable met (Record place name fields ∷ others) f w room =
     procs_joinable (names_after met (Record place name fields)) others (others_faultless met (Record place name fields) others f)
     (and_second (declaration_fits is_byte_text (Record place name fields)) (file_fits is_byte_text others) w) room.1
@@ -94,11 +94,15 @@ links_joinable : (items : List DeclItem) → list_all is_joinable_decl (map (λ 
 links_joinable [] = refl
 links_joinable (item ∷ items) = links_joinable items
 
+invocables_joinable : (items : List DeclItem) → list_all is_joinable_decl (map (λ (item : DeclItem). InvocableLine (item_text item)) items) ≡ true
+invocables_joinable [] = refl
+invocables_joinable (item ∷ items) = invocables_joinable items
+
 lines_joinable : (declaration : Declaration) → declaration_fits is_byte_text declaration ≡ true
     → list_all is_joinable_decl (lines_in declaration) ≡ true
 lines_joinable (Global place names) h = globals_joinable names h
 lines_joinable (Link place items) h = links_joinable items
-lines_joinable (Invocable place items) h = refl
+lines_joinable (Invocable place items) h = invocables_joinable items
 lines_joinable (Record place name fields) h =
     and_intro (and_intro (and_first (name_fits name) (names_fit fields) h) (texts_fit fields (and_second (name_fits name) (names_fit fields) h))) refl
 lines_joinable (ProcedureOf p) h = and_intro (named p (and_first (procedure_fits is_byte_text p) (collects_fits p) h)) refl

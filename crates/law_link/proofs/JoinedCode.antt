@@ -16,7 +16,7 @@ use Rattle.icn_code.specs.Codes.{Tables}
 use Rattle.icn_unit.specs.declared.unit.UnitInstr.{UnitInstr}
 use Rattle.icn_unit.specs.declared.unit.UnitInstr.TheVariants as I
 use Rattle.icn_unit.specs.PlainUnits.{proc_names}
-use Rattle.icn_unit.specs.PlainUnits.{Global as GlobalLine, Link as LinkLine}
+use Rattle.icn_unit.specs.PlainUnits.{Global as GlobalLine, Link as LinkLine, Invocable as InvocableLine}
 use Rattle.icn_unit.specs.UnitOperands.{ascends}
 use Rattle.icn_unit.specs.UnitRules.{is_byte}
 use Rattle.icn_decls.specs.Faults.{names_after, declarations_faults}
@@ -45,14 +45,15 @@ use Rattle.icn_units.proofs.WrittenTrees.{and_first, and_second, and_intro}
 use Rattle.law_link.specs.TranslatedUnits.{translated_units}
 use Rattle.law_link.proofs.CodeLaw.{code_is}
 use Rattle.law_link.proofs.CodeNames.{AgreeOn}
-use Rattle.law_link.proofs.FileTables.{Fit, codes_same, globals_same, records_same, procedures_same, function_same, table_globals, table_fields, table_integers, table_sets, table_strings}
+use Rattle.law_link.proofs.FileTables.{Fit, codes_same, globals_same, records_same, procedures_same, table_globals, table_fields, table_integers, table_sets, table_strings}
 use Rattle.law_link.proofs.FirstsOnce.{has_any, texts_any, texts_firsts}
 use Rattle.law_link.proofs.NameEntries.{IsFit, texts_same, locals_counted, statics_counted, locals_same, statics_same, parameters_counted, variable_same}
 use Rattle.law_link.proofs.SetBits.{set_members}
+use Rattle.law_link.proofs.UsedFunctions.{function_same}
 
 -- Where names stand
 
-place_same : (name : List ℕ) (names : List (List ℕ)) → Linked.index_of names name ≡ index_of name names
+pub place_same : (name : List ℕ) (names : List (List ℕ)) → Linked.index_of names name ≡ index_of name names
 place_same name [] = refl
 place_same name (other ∷ names) = ap (λ o. if bytes_eq name other then Some zero else o)
     (moved (Linked.index_of names name) ∙ ap later (place_same name names))
@@ -74,12 +75,12 @@ map_same f g h [] = refl
 map_same f g h (x ∷ xs) = ap (λ y. y ∷ map f xs) (h x) ∙ ap (λ ys. g x ∷ ys) (map_same f g h xs)
 
 module _ (file : List Declaration) (fit : Fit (procedures_of file)) where
-  abbrev M : AllMentions
+  abbrev pub M : AllMentions
   M = all_mentions (unit_decls file) (proc_codes file)
 
   -- Procedures
 
-  agrees : (procedure : Procedure) → IsFit procedure → (first : ℕ)
+  pub agrees : (procedure : Procedure) → IsFit procedure → (first : ℕ)
       → AgreeOn (scope_of M (proc_code procedure)) (names_in file (routine_of (globals_of file) first procedure)) (draft_of procedure).names
   agrees procedure h first = record {
     integer = λ n. ap (λ t. integer_index t n) (table_integers file fit);
@@ -92,7 +93,7 @@ module _ (file : List Declaration) (fit : Fit (procedures_of file)) where
         ∙ variable_same (globals_of file) procedure h name among;
   }
 
-  entry_same : (procedure : Procedure) → IsFit procedure → (first : ℕ)
+  pub entry_same : (procedure : Procedure) → IsFit procedure → (first : ℕ)
       → proc_entry M (proc_code procedure) ≡ procedure_entry file (routine_of (globals_of file) first procedure)
   entry_same procedure h first =
       let names = (proc_code procedure).names in
@@ -135,6 +136,10 @@ module _ (file : List Declaration) (fit : Fit (procedures_of file)) where
   no_linked_record [] = refl
   no_linked_record (item ∷ items) = no_linked_record items
 
+  no_named_record : (items : List DeclItem) → flat_map (records_in M) (map (λ (item : DeclItem). InvocableLine (item_text item)) items) ≡ []
+  no_named_record [] = refl
+  no_named_record (item ∷ items) = no_named_record items
+
   record_same : (name : Name) (fields : List Name)
       → Linked.record_entry M name.text (texts_of fields) ≡ record_entry file (record { name = name.text; fields = texts fields })
   record_same name fields = λ i. record {
@@ -150,7 +155,9 @@ module _ (file : List Declaration) (fit : Fit (procedures_of file)) where
   records_of (Link place items ∷ others) =
       flat_map-append (records_in M) (lines_in (Link place items)) (unit_decls others)
       ∙ ap (λ l. l ++ flat_map (records_in M) (unit_decls others)) (no_linked_record items) ∙ records_of others
-  records_of (Invocable place items ∷ others) = records_of others
+  records_of (Invocable place items ∷ others) =
+      flat_map-append (records_in M) (lines_in (Invocable place items)) (unit_decls others)
+      ∙ ap (λ l. l ++ flat_map (records_in M) (unit_decls others)) (no_named_record items) ∙ records_of others
   records_of (Record place name fields ∷ others) =
       ap (λ entry. entry ∷ flat_map (records_in M) (unit_decls others)) (record_same name fields)
       ∙ ap (λ entries. record_entry file (record { name = name.text; fields = texts fields }) ∷ entries) (records_of others)
@@ -240,7 +247,7 @@ file_sets met (Global place names ∷ others) f w = file_sets met others (others
 file_sets met (Link place items ∷ others) f w = file_sets met others (others_faultless met (Link place items) others f)
     (and_second (declaration_fits is_short (Link place items)) (file_fits is_short others) w)
 file_sets met (Invocable place items ∷ others) f w = file_sets met others (others_faultless met (Invocable place items) others f)
-    (and_second true (file_fits is_short others) w)
+    (and_second (declaration_fits is_short (Invocable place items)) (file_fits is_short others) w)
 file_sets met (Record place name fields ∷ others) f w =
     file_sets (names_after met (Record place name fields)) others (others_faultless met (Record place name fields) others f)
     (and_second (declaration_fits is_short (Record place name fields)) (file_fits is_short others) w)
@@ -288,7 +295,7 @@ fit_both (Invocable place items ∷ rest) others h g = fit_both rest others h g
 fit_both (Record place name fields ∷ rest) others h g = fit_both rest others h g
 fit_both (ProcedureOf p ∷ rest) others h g = (h.0, fit_both rest others h.1 g)
 
-files_fit : (files : List (List Declaration)) → All IsFaultless files → Fit (procedures_of (joined_declarations files))
+pub files_fit : (files : List (List Declaration)) → All IsFaultless files → Fit (procedures_of (joined_declarations files))
 files_fit [] h = tt
 files_fit (file ∷ files) h =
     fit_both file (joined_declarations files) (faultless_fit file (h 0 file (omega arith))) (files_fit files (λ k d l. h (suc k) d (omega arith)))
@@ -317,7 +324,7 @@ files_join files h =
 
 -- Their units
 
-decls_joined : (names : List (List ℕ)) (files : List (List Declaration)) → length names ≡ length files
+pub decls_joined : (names : List (List ℕ)) (files : List (List Declaration)) → length names ≡ length files
     → all_decls (translated_units names files) ≡ unit_decls (joined_declarations files)
 decls_joined [] [] e = refl
 decls_joined [] (file ∷ files) e = absurd (omega (arith, e))
@@ -325,7 +332,7 @@ decls_joined (name ∷ names) [] e = absurd (omega (arith, e))
 decls_joined (name ∷ names) (file ∷ files) e =
     ap (λ l. unit_decls file ++ l) (decls_joined names files (omega (arith, e))) ∙ sym (flat_map-append lines_in file (joined_declarations files))
 
-procs_joined : (names : List (List ℕ)) (files : List (List Declaration)) → length names ≡ length files
+pub procs_joined : (names : List (List ℕ)) (files : List (List Declaration)) → length names ≡ length files
     → all_procs (translated_units names files) ≡ proc_codes (joined_declarations files)
 procs_joined [] [] e = refl
 procs_joined [] (file ∷ files) e = absurd (omega (arith, e))

@@ -1,6 +1,7 @@
 pub mod FirstsOnce
 pub mod Mentioning
 pub mod NameEntries
+pub mod UsedFunctions
 pub mod FileTables
 pub mod SetBits
 pub mod CodeSteps
@@ -14,5 +15,7 @@ pub mod CodeForms
 pub mod CodeLabels
 pub mod CodeLaw
 pub mod JoinedCode
+pub mod KeptFiles
+pub mod PrunedFiles
 pub mod ElementCounts
 pub mod JoinableFiles

@@ -1,8 +1,10 @@
 -- What each form of a tree adds to a draft: what its instructions take from tables, and the names that it uses, in order.
-use Rattle.std.proofs.Common.{◌≡◌, ℕ, suc, Bool, true, false, List, [], ◌∷◌, ◌++◌, length, Option, None, Some, refl, sym, ap, ◌∙◌, append_assoc, append-nil}
+use Rattle.std.proofs.Common.{◌≡◌, ℕ, suc, Bool, true, false, List, [], ◌∷◌, ◌++◌, length, Option, None, Some, refl, sym, ap, ◌∙◌, append_assoc, append-nil, map}
 use Rattle.std.specs.List.{flat_map}
+use Rattle.std.specs.Option.{option_map_or}
 use Rattle.std.proofs.lemmas.Bool.{false≢true}
 use Rattle.std.proofs.lemmas.Grind.{flat_map-append}
+use Rattle.std.proofs.lemmas.List.{map-append}
 use Rattle.icn_text.specs.declared.keyword.Keyword.{Keyword as KeywordNamed}
 use Rattle.icn_text.specs.declared.keyword.Keyword.TheVariants as K
 use Rattle.icn_text.specs.declared.op.Op.TheVariants as O
@@ -34,14 +36,14 @@ use Rattle.icn_translate.specs.declared.forms.UpdateForm.{UpdateForm}
 use Rattle.icn_translate.specs.declared.forms.UpdateForm.TheVariants.{Both as UpdatesBoth, Scanning as UpdatesScanning, Activating as UpdatesActivating, Operating as UpdatesOperating}
 use Rattle.icn_translate.specs.declared.forms.PrefixForm.{PrefixForm}
 use Rattle.icn_translate.specs.declared.forms.PrefixForm.TheVariants.{Activation, Repetition, Operation}
-use Rattle.icn_translate.specs.Drafts.{Draft, ◌▹◌, put, next_label, with_label, with_number, with_name, with_names, put_variable, no_ways, in_loop, outside_loop, innermost, aside, put_next, put_last, case_end, in_case, outside_case, put_end}
+use Rattle.icn_translate.specs.Drafts.{Draft, ◌▹◌, put, next_label, with_label, with_number, with_name, with_names, name_index, put_variable, no_ways, in_loop, outside_loop, innermost, aside, put_next, put_last, case_end, in_case, outside_case, put_end}
 use Rattle.icn_translate.specs.Instructions.{literal_instr, keyword_instr, section_op, infix_form, update_form, prefix_form}
 use Rattle.icn_translate.specs.OpenMarks.{OpenMarks, Outermost, Marked, Looped, Controlled, Each, is_loopless, is_nextless, unmarks_for_break, unmarks_for_next, around}
 use Rattle.icn_translate.specs.Translation.{is_empty, is_nothing, is_no_element, elements, bounded_code, create_code, if_mark, unless_empty, either_step, control_part, in_control, in_body, back, loop_end, keyword_code, prefix_by, plain_form, update, augmented_form, case_of, looped_body, translate, operands, arguments, conjunction, conjuncts, compound, creations, other_creations, subscripts, to_step, otherwise, looped_part, suspended_part, guarded_part, default_part, initially, body}
 use Rattle.icn_units.proofs.KeptByForms.{none_before, none_behind, break_inside}
 use Rattle.law_link.proofs.CodeLaw.{trees_faultless}
 use Rattle.law_link.proofs.CodeOpen.{loops_in, loop_is_open, loops_around}
-use Rattle.law_link.proofs.FirstsOnce.{names_more}
+use Rattle.law_link.proofs.FirstsOnce.{names_more, place_stays}
 
 -- what an instruction of a unit takes from a table, as the first law has it
 abbrev pub taken : Unit.Mention → List TableMention
@@ -58,10 +60,29 @@ taken_by i = taken (Unit.mention_of i)
 abbrev pub taken_in : List UnitInstr → List TableMention
 taken_in instrs = flat_map taken_by instrs
 
--- From one draft to the other this was taken from tables, and these names were used.
+-- the place of the name that it uses, if it uses one
+abbrev pub places_by : UnitInstr → List ℕ
+places_by i = option_map_or (λ place. place ∷ []) (Unit.name_used i) []
+
+abbrev pub places_in : List UnitInstr → List ℕ
+places_in instrs = flat_map places_by instrs
+
+abbrev taken_and_used : UnitInstr → List TableMention × List ℕ
+taken_and_used i = (taken_by i, places_by i)
+
+abbrev nothing : List TableMention × List ℕ
+nothing = ([], [])
+
+-- it takes nothing from tables, and uses no name
+abbrev IsPlain : UnitInstr → Type 0
+IsPlain i = taken_and_used i ≡ nothing
+
+-- From one draft to the other this was taken from tables, and these names were used, one by each instruction that uses one, whatever
+-- names come behind.
 pub record Adds (d e : Draft) (ms : List TableMention) (ns : List (List ℕ)) : Type 0 where
   pub mentions : taken_in e.instrs ≡ taken_in d.instrs ++ ms
   pub names : e.names ≡ with_names d.names ns
+  pub used : (more : List (List ℕ)) → places_in e.instrs ≡ places_in d.instrs ++ map (name_index (with_names e.names more)) ns
 
 -- a step that adds this wherever it begins
 pub record AddsAlways (ms : List TableMention) (ns : List (List ℕ)) (step : Draft → Draft) : Type 0 where
@@ -72,14 +93,25 @@ abbrev ◌▸◌ : {A B : Type 0} → A → (A → B) → B
 a ▸ f = f a
 
 from : (d : Draft) → Adds d d [] []
-from d = record { mentions = sym (append-nil (taken_in d.instrs)); names = refl }
+from d = record {
+  mentions = sym (append-nil (taken_in d.instrs));
+  names = refl;
+  used = λ more. sym (append-nil (places_in d.instrs));
+}
 
 taken_more : (is : List UnitInstr) (i : UnitInstr) → taken_in (is ++ i ∷ []) ≡ taken_in is ++ taken_by i
 taken_more is i = flat_map-append taken_by is (i ∷ []) ∙ ap (λ ms. taken_in is ++ ms) (append-nil (taken_by i))
 
+places_more : (is : List UnitInstr) (i : UnitInstr) → places_in (is ++ i ∷ []) ≡ places_in is ++ places_by i
+places_more is i = flat_map-append places_by is (i ∷ []) ∙ ap (λ ps. places_in is ++ ps) (append-nil (places_by i))
+
 put_taken : (i : UnitInstr) (d : Draft) → taken_in (put i d).instrs ≡ taken_in d.instrs ++ taken_by i
 unfolding put
 put_taken i d = taken_more d.instrs i
+
+put_places : (i : UnitInstr) (d : Draft) → places_in (put i d).instrs ≡ places_in d.instrs ++ places_by i
+unfolding put
+put_places i d = places_more d.instrs i
 
 put_names : (i : UnitInstr) (d : Draft) → (put i d).names ≡ d.names
 unfolding put
@@ -88,36 +120,60 @@ put_names i d = refl
 same_names : (d e : Draft) (ns : List (List ℕ)) → e.names ≡ with_names d.names ns → e.names ≡ with_names d.names (ns ++ [])
 same_names d e ns h = h ∙ ap (with_names d.names) (sym (append-nil ns))
 
+-- the places of the names that were used behind a draft, where these are all names
+abbrev places_among : Draft → List (List ℕ) → List (List ℕ) → List ℕ
+places_among d ns names = places_in d.instrs ++ map (name_index names) ns
+
 module _ {d e : Draft} {ms : List TableMention} {ns : List (List ℕ)} where
+  unused : (i : UnitInstr) → places_by i ≡ [] → Adds d e ms ns → (more : List (List ℕ))
+      → places_in (put i e).instrs ≡ places_among d ns (with_names (put i e).names more)
+  unused i h c more = put_places i e ∙ ap (λ l. places_in e.instrs ++ l) h ∙ append-nil (places_in e.instrs) ∙ c.used more
+      ∙ ap (λ names. places_among d ns (with_names names more)) (sym (put_names i e))
+
   -- an instruction
-  puts : (i : UnitInstr) → Adds d e ms ns → Adds d (put i e) (ms ++ taken_by i) ns
-  puts i c = record {
+  puts : (i : UnitInstr) → places_by i ≡ [] → Adds d e ms ns → Adds d (put i e) (ms ++ taken_by i) ns
+  puts i h c = record {
     mentions = put_taken i e ∙ ap (λ l. l ++ taken_by i) c.mentions ∙ append_assoc (taken_in d.instrs) ms (taken_by i);
     names = put_names i e ∙ c.names;
+    used = unused i h c;
   }
 
-  -- one that takes nothing from tables
-  plainly : (i : UnitInstr) → taken_by i ≡ [] → Adds d e ms ns → Adds d (put i e) ms ns
+  -- one that takes nothing from tables and uses no name
+  plainly : (i : UnitInstr) → IsPlain i → Adds d e ms ns → Adds d (put i e) ms ns
   plainly i h c = record {
-    mentions = put_taken i e ∙ ap (λ l. taken_in e.instrs ++ l) h ∙ append-nil (taken_in e.instrs) ∙ c.mentions;
+    mentions = put_taken i e ∙ ap (λ (b : List TableMention × List ℕ). taken_in e.instrs ++ b.0) h ∙ append-nil (taken_in e.instrs) ∙ c.mentions;
     names = put_names i e ∙ c.names;
+    used = unused i (ap (λ (b : List TableMention × List ℕ). b.1) h) c;
   }
 
   -- what leaves instructions and names
   same : {f : Draft} → f.instrs ≡ e.instrs → f.names ≡ e.names → Adds d e ms ns → Adds d f ms ns
-  same h g c = record { mentions = ap taken_in h ∙ c.mentions; names = g ∙ c.names }
+  same h g c = record {
+    mentions = ap taken_in h ∙ c.mentions;
+    names = g ∙ c.names;
+    used = λ more. ap places_in h ∙ c.used more ∙ ap (λ names. places_among d ns (with_names names more)) (sym g);
+  }
 
   on : {ks : List TableMention} {bs : List (List ℕ)} {step : Draft → Draft} → AddsAlways ks bs step → Adds d e ms ns
       → Adds d (step e) (ms ++ ks) (ns ++ bs)
-  on {ks = ks} {bs = bs} r c = let a = r.adds e in record {
+  on {ks = ks} {bs = bs} {step = step} r c = let a = r.adds e in record {
     mentions = a.mentions ∙ ap (λ l. l ++ ks) c.mentions ∙ append_assoc (taken_in d.instrs) ms ks;
     names = a.names ∙ ap (λ l. with_names l bs) c.names ∙ names_more d.names ns bs;
+    used = λ more.
+        let all = with_names (step e).names more in
+        let known : with_names e.names (bs ++ more) ≡ all =
+        sym (names_more e.names bs more) ∙ ap (λ names. with_names names more) (sym a.names) in
+        a.used more
+        ∙ ap (λ l. l ++ map (name_index all) bs) (c.used (bs ++ more) ∙ ap (places_among d ns) known)
+        ∙ append_assoc (places_in d.instrs) (map (name_index all) ns) (map (name_index all) bs)
+        ∙ ap (λ l. places_in d.instrs ++ l) (sym (map-append (name_index all) ns bs));
   }
 
   so : {ms' : List TableMention} {ns' : List (List ℕ)} → ms ≡ ms' → ns ≡ ns' → Adds d e ms ns → Adds d e ms' ns'
   so h g c = record {
     mentions = c.mentions ∙ ap (λ l. taken_in d.instrs ++ l) h;
     names = c.names ∙ ap (with_names d.names) g;
+    used = λ more. c.used more ∙ ap (λ l. places_in d.instrs ++ map (name_index (with_names e.names more)) l) g;
   }
 
 -- Steps that leave instructions and names
@@ -184,22 +240,22 @@ module _ {d e : Draft} {ms : List TableMention} {ns : List (List ℕ)} where
 
 -- a new label, and an instruction that goes to it
 labelled : {d e : Draft} {ms : List TableMention} {ns : List (List ℕ)} (word : ℕ → UnitInstr)
-    → ((l : ℕ) → taken_by (word l) ≡ []) → Adds d e ms ns → Adds d (put (word (next_label e)) (with_label e)) ms ns
+    → ((l : ℕ) → IsPlain (word l)) → Adds d e ms ns → Adds d (put (word (next_label e)) (with_label e)) ms ns
 labelled {e = e} word h c = label c ▸ plainly (word (next_label e)) (h (next_label e))
 
 -- the labels of the innermost loop and case
 next_label_put : {d e : Draft} {ms : List TableMention} {ns : List (List ℕ)} (word : ℕ → UnitInstr)
-    → ((l : ℕ) → taken_by (word l) ≡ []) → Adds d e ms ns → Adds d (put_next word e) ms ns
+    → ((l : ℕ) → IsPlain (word l)) → Adds d e ms ns → Adds d (put_next word e) ms ns
 next_label_put {e = e} word h c =
     outer c ▸ numbers (innermost e).next ▸ inner _ ▸ plainly _ (h _)
 
 last_label_put : {d e : Draft} {ms : List TableMention} {ns : List (List ℕ)} (word : ℕ → UnitInstr)
-    → ((l : ℕ) → taken_by (word l) ≡ []) → Adds d e ms ns → Adds d (put_last word e) ms ns
+    → ((l : ℕ) → IsPlain (word l)) → Adds d e ms ns → Adds d (put_last word e) ms ns
 last_label_put {e = e} word h c =
     outer c ▸ numbers (innermost e).last ▸ inner _ ▸ plainly _ (h _)
 
 end_label_put : {d e : Draft} {ms : List TableMention} {ns : List (List ℕ)} (word : ℕ → UnitInstr)
-    → ((l : ℕ) → taken_by (word l) ≡ []) → Adds d e ms ns → Adds d (put_end word e) ms ns
+    → ((l : ℕ) → IsPlain (word l)) → Adds d e ms ns → Adds d (put_end word e) ms ns
 end_label_put {e = e} word h c =
     case_outer c ▸ numbers (case_end e) ▸ case_inner _ ▸ plainly _ (h _)
 
@@ -208,21 +264,21 @@ end_label_put {e = e} word h c =
 nothing_adds : AddsAlways [] [] (λ d. d)
 nothing_adds = record { adds = from }
 
-put_adds : (i : UnitInstr) → AddsAlways (taken_by i) [] (put i)
-put_adds i = record { adds = λ d. from d ▸ puts i }
+put_adds : (i : UnitInstr) → places_by i ≡ [] → AddsAlways (taken_by i) [] (put i)
+put_adds i h = record { adds = λ d. from d ▸ puts i h }
 
-plain_adds : (i : UnitInstr) → taken_by i ≡ [] → AddsAlways [] [] (put i)
+plain_adds : (i : UnitInstr) → IsPlain i → AddsAlways [] [] (put i)
 plain_adds i h = record { adds = λ d. from d ▸ plainly i h }
 
 then_adds : {ks bs : List TableMention} {ms ns : List (List ℕ)} {s t : Draft → Draft} → AddsAlways ks ms s → AddsAlways bs ns t
     → AddsAlways (ks ++ bs) (ms ++ ns) (λ d. t (s d))
 then_adds r q = record { adds = λ d. from d ▸ on r ▸ on q }
 
-then_put : {ks : List TableMention} {ms : List (List ℕ)} {s : Draft → Draft} (i : UnitInstr) → taken_by i ≡ []
+then_put : {ks : List TableMention} {ms : List (List ℕ)} {s : Draft → Draft} (i : UnitInstr) → IsPlain i
     → AddsAlways ks ms s → AddsAlways ks ms (λ d. put i (s d))
 then_put i h r = record { adds = λ d. from d ▸ on r ▸ plainly i h }
 
-put_then : {ks : List TableMention} {ms : List (List ℕ)} {s : Draft → Draft} (i : UnitInstr) → taken_by i ≡ []
+put_then : {ks : List TableMention} {ms : List (List ℕ)} {s : Draft → Draft} (i : UnitInstr) → IsPlain i
     → AddsAlways ks ms s → AddsAlways ks ms (λ d. s (put i d))
 put_then i h r = record { adds = λ d. from d ▸ plainly i h ▸ on r }
 
@@ -238,8 +294,21 @@ variable_names : (name : List ℕ) (d : Draft) → (put_variable name d).names �
 unfolding put_variable
 variable_names name d = refl
 
+variable_places : (name : List ℕ) (d : Draft)
+    → places_in (put_variable name d).instrs ≡ places_in d.instrs ++ name_index d.names name ∷ []
+unfolding put_variable
+variable_places name d = places_more d.instrs (I.Var _)
+
 variable_adds : (name : List ℕ) → AddsAlways [] (name ∷ []) (put_variable name)
-variable_adds name = record { adds = λ d. record { mentions = variable_taken name d; names = variable_names name d } }
+variable_adds name = record {
+  adds = λ d. record {
+    mentions = variable_taken name d;
+    names = variable_names name d;
+    used = λ more. variable_places name d
+        ∙ ap (λ place. places_in d.instrs ++ place ∷ []) (place_stays d.names name more
+        ∙ ap (λ names. name_index (with_names names more) name) (sym (variable_names name d)));
+  };
+}
 
 bounded_adds : {ks : List TableMention} {ms : List (List ℕ)} {s : Draft → Draft} → AddsAlways ks ms s → AddsAlways ks ms (bounded_code s)
 bounded_adds r = record { adds = λ d. from d ▸ labelled I.Mark (λ l. refl) ▸ on r ▸ plainly I.Unmark refl ▸ plainly (I.Lab _) refl }
@@ -293,12 +362,17 @@ unmarks_for_next_add (Each o) = nothing_adds
 
 -- Literals and keywords
 
+literal_unused : (v : Literal) → places_by (literal_instr v) ≡ []
+literal_unused (Literals.Integer n) = refl
+literal_unused (Literals.Text bytes) = refl
+literal_unused (Literals.Cset members) = refl
+
 literal_taken : (v : Literal) → taken_by (literal_instr v) ≡ literal_mention v ∷ []
 literal_taken (Literals.Integer n) = refl
 literal_taken (Literals.Text bytes) = refl
 literal_taken (Literals.Cset members) = refl
 
-keyword_taken : (k : KeywordNamed) → taken_by (keyword_instr k) ≡ []
+keyword_taken : (k : KeywordNamed) → IsPlain (keyword_instr k)
 keyword_taken K.Fail = refl
 keyword_taken k = refl
 
@@ -391,7 +465,7 @@ plain_form_adds (Some Activating) h a m b = then_put I.Coact refl (then_adds a b
 plain_form_adds (Some Spreading) h a m b = then_put I.Appl refl (then_adds a b)
 plain_form_adds (Some (Operating op)) h a m b = then_put (I.Op op) refl (then_adds a b)
 
-update_adds : {ks bs : List TableMention} {ms ns : List (List ℕ)} (i : UnitInstr) → taken_by i ≡ [] → {a b : Draft → Draft} → AddsAlways ks ms a
+update_adds : {ks bs : List TableMention} {ms ns : List (List ℕ)} (i : UnitInstr) → IsPlain i → {a b : Draft → Draft} → AddsAlways ks ms a
     → AddsAlways bs ns b → AddsAlways (ks ++ bs) (ms ++ ns) (update i a b)
 update_adds i h a b = record {
   adds = λ d. from d ▸ on a ▸ plainly I.Dup refl ▸ on b ▸ plainly i h ▸ plainly (I.Op O.Assign) refl;
@@ -421,7 +495,7 @@ binary_adds o place (Augmented operator) a b f x m y = augmented_form_adds (upda
 looped_adds : {ks : List TableMention} {ms : List (List ℕ)} {s : Draft → Draft} → AddsAlways ks ms s → AddsAlways ks ms (looped_body s)
 looped_adds r = record { adds = λ d. from d ▸ next_label_put I.Mark (λ l. refl) ▸ on r ▸ plainly I.Unmark refl }
 
-ended : {d e : Draft} {ms : List TableMention} {ns : List (List ℕ)} (i : UnitInstr) → taken_by i ≡ [] → Adds d e ms ns
+ended : {d e : Draft} {ms : List TableMention} {ns : List (List ℕ)} (i : UnitInstr) → IsPlain i → Adds d e ms ns
     → Adds d (loop_end i e) ms ns
 ended i h c = next_label_put I.Lab (λ l. refl) c ▸ plainly i h ▸ last_label_put I.Lab (λ l. refl) ▸ outer
 
@@ -493,7 +567,7 @@ AddsMaybe e step = AddsAlways (maybe_mentions e) (names_in_maybe e) step
 mutual
   pub tree_adds : (o : OpenMarks) (c : Context) (e : Tree) → Formed e → faults c e ≡ [] → length c.loops ≡ loops_in o → AddsTree e (translate o e)
   tree_adds o c Empty f x w = plain_adds I.Pnull refl
-  tree_adds o c (Constant place value) f x w = always_as (literal_taken value) refl (put_adds (literal_instr value))
+  tree_adds o c (Constant place value) f x w = always_as (literal_taken value) refl (put_adds (literal_instr value) (literal_unused value))
   tree_adds o c (Identifier name) f x w = variable_adds name.text
   tree_adds o c (Keyword place name) f x w = keyword_adds (keyword_of name.text)
   tree_adds o c (Parentheses place es) f x w = conjunction_adds o c es (some_formed es f) x w
@@ -510,7 +584,7 @@ mutual
       (then_adds (then_adds (tree_adds o c e f.0 (none_before _ _ x) w) (tree_adds o c i f.1 (none_before _ _ (none_behind _ _ x)) w))
       (tree_adds o c j f.2 (none_behind _ _ (none_behind _ _ x)) w)))
   tree_adds o c (Field place e name) f x w = always_as refl (append-nil (names_in e))
-      (then_adds (tree_adds o c e f x w) (put_adds (I.Field name.text)))
+      (then_adds (tree_adds o c e f x w) (put_adds (I.Field name.text) refl))
   tree_adds o c (Prefix place operator e) f x w =
       prefix_adds (prefix_form operator) (before_there operator f.0) (tree_adds o c e f.1 x w) (tree_adds (Marked o) c e f.1 x w)
   tree_adds o c (Not place e) f x w = let r = tree_adds (Marked o) c e f x w in record {
@@ -600,7 +674,7 @@ mutual
 
   to_step_adds : (o : OpenMarks) (c : Context) (by : MaybeTree) → FormedMaybe by → maybe_faults c by ≡ [] → length c.loops ≡ loops_in o
       → AddsAlways (step_mentions by) (names_in_maybe by) (to_step o by)
-  to_step_adds o c Absent f x w = put_adds (I.Int _)
+  to_step_adds o c Absent f x w = put_adds (I.Int _) refl
   to_step_adds o c (Present e) f x w = tree_adds o c e f x w
 
   branches_add : (o : OpenMarks) (c : Context) (b : MaybeTree) → FormedMaybe b → maybe_faults c b ≡ [] → length c.loops ≡ loops_in o

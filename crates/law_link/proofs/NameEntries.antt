@@ -358,7 +358,7 @@ kinds_any : (test : List ℕ → Bool) (locals : List LocalDecl)
 kinds_any test [] = refl
 kinds_any test (l ∷ others) = kinds_step test l.place l.kind l.names others (kinds_any test others)
 
-declared_any : (procedure : Procedure) (test : List ℕ → Bool)
+pub declared_any : (procedure : Procedure) (test : List ℕ → Bool)
     → list_any test (declared_texts procedure) ≡ list_any test (own_names procedure ++ statics_among procedure.locals)
 declared_any procedure test =
     list_any-append test (texts_of procedure.parameters) (flat_map local_texts procedure.locals)

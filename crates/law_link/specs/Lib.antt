@@ -1,1 +1,3 @@
 pub mod TranslatedUnits
+pub mod PrunedUnits
+pub mod InvocableFiles

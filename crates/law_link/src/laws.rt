@@ -9,10 +9,18 @@ ghost use Rattle.icn_link.specs.Joined.{joined_code};
 ghost use Rattle.icn_link.specs.JoinableUnits.{is_joinable};
 ghost use Rattle.law_simulation.specs.Faultless.{IsFaultless};
 ghost use Rattle.law_simulation.specs.JoinedFiles.{IsJoined};
-ghost use Rattle.law_simulation.specs.FirstLaw.{FilesMean, RunsLinked, RunsFlat};
+ghost use Rattle.law_simulation.specs.FirstLaw.{FilesMean, IsLinked, RunsFlat, RunsLinked, dropped_procedures};
+ghost use Rattle.icn_code.specs.Codes.{Tables};
+ghost use Rattle.icn_code.specs.Rules.{keeps_rules};
+ghost use Rattle.icn_defs.specs.KeptProcedures.{dropped};
+ghost use Rattle.icn_prune.specs.KeptCode.{kept_of};
+ghost use Rattle.law_link.specs.InvocableFiles.{names_all, named_procs};
+ghost use Rattle.law_link.specs.PrunedUnits.{pruned_code};
 ghost use Rattle.law_link.specs.TranslatedUnits.{translated_units};
 
+use icn_prune::kept_is_least;
 use icn_units::codes_have_room;
+use law_prune::pruned_code_runs_alike;
 use law_simulation::same_ends;
 
 /// The linked code of files that break no rule, from their translated units in the same order, is the code of which the first law
@@ -24,21 +32,32 @@ pub fn translations_join()
         → IsJoined files (joined_code (translated_units names files)) }
 {}
 
-/// So files that break no rule mean, with some words, limits and input, what the linked code of their units comes to: how it ends,
-/// with its report, what is put on both outputs, the input that is left, and the readings that were made. On linked marks, and on
-/// the flat stacks that a machine has.
+/// The procedures that a program keeps are those that its linked code keeps.
+pub fn same_kept()
+    ensures { (files : List (List Declaration)) (tables : Tables) → IsLinked files tables
+        → dropped_procedures files ≡ dropped (kept_of tables (named_procs files) (names_all files)) }
+{}
+
+/// So files that break no rule mean, with some words, limits and input, what the linked code of their units comes to without the
+/// procedures that are not kept: how it ends, with its report, what is put on both outputs, the input that is left, and the readings
+/// that were made. On linked marks, and on the flat stacks that a machine has.
 pub fn translations_run()
     ensures on_marks { (names : List (List ℕ)) (files : List (List Declaration)) (launch : Launch)
         (seen : Observation)
         → length names ≡ length files → All IsFaultless files
-        → FilesMean files launch seen ↔ RunsLinked (joined_code (translated_units names files)) launch seen }
+        → keeps_rules (joined_code (translated_units names files)) ≡ true
+        → FilesMean files launch seen ↔ RunsLinked (pruned_code (translated_units names files)) launch seen }
     ensures on_stacks { (names : List (List ℕ)) (files : List (List Declaration)) (launch : Launch)
         (seen : Observation)
         → length names ≡ length files → All IsFaultless files
-        → FilesMean files launch seen ↔ RunsFlat (joined_code (translated_units names files)) launch seen }
+        → keeps_rules (joined_code (translated_units names files)) ≡ true
+        → FilesMean files launch seen ↔ RunsFlat (pruned_code (translated_units names files)) launch seen }
 {
     translations_join();
     same_ends();
+    same_kept();
+    kept_is_least();
+    pruned_code_runs_alike();
 }
 
 /// The linked code of a file that breaks no rule, from its translated unit, is the code of which the first law speaks.

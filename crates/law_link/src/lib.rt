@@ -4,5 +4,6 @@
 mod laws;
 
 pub use laws::{
-    translated_units_join, translations_are_joinable, translations_join, translations_run,
+    same_kept, translated_units_join, translations_are_joinable, translations_join,
+    translations_run,
 };

@@ -1,3 +1,4 @@
+mod NamedTexts
 mod RowValues
 pub mod RowsNamed
 pub mod RowSizes

@@ -123,7 +123,7 @@ rows_keep_sizes = record {
   values = λ z items next a f. values_come (sizes_law z a.world.heap) items next a (self z a) (any_of_items items) (λ vs g. f vs);
   functions = λ z names func vs a t.
       function_comes (sizes_law z a.world.heap) names func vs a (self z a) (any_each vs)
-      (λ e. may_copy (sizes_law z a.world.heap) a.world.heap (λ id l. l) (value_at vs 0) (t e));
+      (λ e. may_copy (sizes_law z a.world.heap) a.world.heap (λ id l. l) (value_at vs 0) (t e)) (λ e number is. tt);
   resumed = λ z rest a. resumed_comes (sizes_law z a.world.heap) rest a (λ e s h. h) (self z a) (any_of_residual rest);
   lists = λ z vs a. list_comes (sizes_law z a.world.heap) vs a (self z a) (any_each vs);
   records = λ z kind vs a l. record_comes (sizes_law z a.world.heap) kind vs a (self z a) l;

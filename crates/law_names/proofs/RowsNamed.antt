@@ -1,13 +1,14 @@
 -- Rows make no value, and no record, whose name is not there.
 use Rattle.std.proofs.Common.{List}
 use Rattle.std.specs.List.{All}
-use Rattle.icn_value.specs.Values.{Item}
+use Rattle.icn_value.specs.Values.{Null, Item}
 use Rattle.icn_value.specs.Store.{Names, value_at}
 use Rattle.law_rows.proofs.EachOfList.{Each, all_of, each_of, each_map}
-use Rattle.law_rows.proofs.RowLaws.{RowLaw, ItemBy, SettingBy}
+use Rattle.law_rows.proofs.RowLaws.{RowLaw, ItemBy, SettingBy, each_value}
 use Rattle.law_rows.proofs.EveryRow.{operation_comes, values_come, function_comes, resumed_comes, list_comes, record_comes, text_comes, words_come, coexpression_comes}
 use Rattle.law_names.specs.NamedSettings.{ValueNamed, ItemNamed}
 use Rattle.law_names.specs.RowsNamed.{OutcomeNamed, RowsKeepNames}
+use Rattle.law_names.proofs.NamedTexts.{procedure_there}
 use Rattle.law_names.proofs.RowValues.{named_parts, setting_in, setting_out, may_copy}
 
 abbrev names_law : Names → RowLaw
@@ -35,7 +36,8 @@ rows_keep_names = record {
       values_come (names_law ns) items next at (setting_in ns at h) (items_in ns items g) (λ vs q. f vs (all_of (ValueNamed ns) vs q));
   functions = λ ns f vs at h g t.
       function_comes (names_law ns) ns f vs at (setting_in ns at h) (each_of (ValueNamed ns) vs g)
-      (λ e. may_copy (names_law ns) at.world.heap (λ id l. l) (value_at vs 0) (t e));
+      (λ e. may_copy (names_law ns) at.world.heap (λ id l. l) (value_at vs 0) (t e))
+      (λ e number is. procedure_there ns (value_at vs 0) number (each_value (ValueNamed ns) Null vs 0 tt (each_of (ValueNamed ns) vs g)) is);
   resumed = λ ns rest at h g. resumed_comes (names_law ns) rest at (λ e s k. k) (setting_in ns at h) g.named;
   lists = λ ns vs at h g. list_comes (names_law ns) vs at (setting_in ns at h) (each_of (ValueNamed ns) vs g);
   records = λ ns kind vs at h l g.

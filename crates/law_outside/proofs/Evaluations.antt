@@ -15,6 +15,7 @@ use Rattle.icn_tree.specs.Trees as T
 use Rattle.icn_tree.specs.Trees.{Tree, Trees, MaybeTree, Clauses, Empty, Absent, Present, NoTrees, More, Default, Guarded, NoClauses, MoreClauses, elements_of, Initial, NoInitial, Initially}
 use Rattle.icn_value.specs.Values.{Value, Text, Procedure, ARecord, AList, ACoexp, Local, Whole, Part, Item, Val, Var}
 use Rattle.icn_value.specs.Store.{list_at, record_at}
+use Rattle.icn_defs.specs.NamedValues.{named_by}
 use Rattle.icn_defs.specs.Rows.{Outcome, Fails, Gives, Suspends, Error, Ends}
 use Rattle.icn_defs.specs.Applying.{again}
 use Rattle.icn_defs.specs.Arities.{arity}
@@ -264,14 +265,20 @@ module _ (b : Lasting) where
   chosen (Some x) w r st k = k
   chosen None w r st k = k
 
-  choose : (o : Option ℤ) (v : Value) (xs : List Item) (w : Works) (r : Choices) (st : Store) → K st → G (L.choose o v xs w r st)
-  choose (Some i) v xs w r st k = chosen (L.argument_at (position_of i (length xs)) xs) w r st k
-  choose None v xs w r st k = errs 106 (Some v) r st k
-
   module _ (p : Program) where
+    invoke_named : (o : Option ℕ) (v : Value) (xs : List Item) (s : Surroundings) (w : Works) (r : Choices) (st : Store) → K st
+        → G (L.invoke_named p o v xs s w r st)
+    invoke_named (Some n) v xs s w r st k = invoke_callee (callee_of p n) n xs s w r st k
+    invoke_named None v xs s w r st k = errs 106 (Some v) r st k
+
+    choose : (o : Option ℤ) (v : Value) (xs : List Item) (s : Surroundings) (w : Works) (r : Choices) (st : Store) → K st
+        → G (L.choose p o v xs s w r st)
+    choose (Some i) v xs s w r st k = chosen (L.argument_at (position_of i (length xs)) xs) w r st k
+    choose None v xs s w r st k = invoke_named (named_by st.names v) v xs s w r st k
+
     invoke : (v : Value) (xs : List Item) (s : Surroundings) (w : Works) (r : Choices) (st : Store) → K st → G (L.invoke p v xs s w r st)
     invoke (Procedure n) xs s w r st k = invoke_callee (callee_of p n) n xs s w r st k
-    invoke v xs s w r st k = choose (number_of v) v xs w r st k
+    invoke v xs s w r st k = choose (number_of v) v xs s w r st k
 
     spread : (f v : Value) (s : Surroundings) (w : Works) (r : Choices) (st : Store) → K st → G (L.apply_to_list p f v s w r st)
     spread f (AList l) s w r st k = invoke f (L.items (list_at st.world.heap l).items) s w r st k

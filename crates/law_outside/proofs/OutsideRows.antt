@@ -81,7 +81,7 @@ pub function_leaves : (b : Lasting) (names : Names) (f : Func) (xs : List Item) 
 function_leaves b names f xs a k =
     values_come (outside_law b) xs (function_of names f) a (entered b a k) (any_of_items xs)
     (λ vs g. function_comes (outside_law b) names f vs a (entered b a k) g
-    (λ e. any_copy (outside_law b) (λ xs id. tt) a.world.heap (value_at vs 0)))
+    (λ e. any_copy (outside_law b) (λ xs id. tt) a.world.heap (value_at vs 0)) (λ e number is. tt))
 
 pub again_leaves : (b : Lasting) (r : Residual) (a : Setting) → b.is a.outside → LeavesOutside b.is (again r a)
 again_leaves b r a k = resumed_comes (outside_law b) r a (λ e s h. h) (entered b a k) (any_of_residual r)

@@ -30,7 +30,8 @@ operations_unchanged op xs at e = operation_comes (unchanged at) op xs at (λ is
 
 pub functions_unchanged : (names : Names) (f : Func) (xs : List Item) (at : Setting) → UnchangedByError at (function_row names f xs at)
 functions_unchanged names f xs at = values_come (unchanged at) xs (function_of names f) at refl (any_of_items xs)
-    (λ vs g. function_comes (unchanged at) names f vs at refl g (λ e. any_copy (unchanged at) (λ xs id. tt) at.world.heap (value_at vs 0)))
+    (λ vs g. function_comes (unchanged at) names f vs at refl g (λ e. any_copy (unchanged at) (λ xs id. tt) at.world.heap (value_at vs 0))
+    (λ e number is. tt))
 
 pub again_unchanged : (r : Residual) (at : Setting) → undoes_exchange r ≡ false → UnchangedByError at (again r at)
 again_unchanged r at e = resumed_comes (unchanged at) r at (λ is. absurd (true≢false (sym is ∙ e))) refl (any_of_residual r)

@@ -31,6 +31,7 @@ use Rattle.icn_value.specs.Changes.{having_file, new_file, read_on}
 use Rattle.icn_defs.specs.InputOutput.{WriteArgument, Puts, Selects, line_put, pieces, put_on, put_pieces, puts_line, read_row, reads_row, write_row, writes_row, stop_row, newline, last_of}
 use Rattle.icn_defs.specs.OpenFiles.{Readable, FromInput, FromOpened, closed_in, is_open_to_write, left_in, readable, readable_of, written_out}
 use Rattle.icn_defs.specs.Files.{close_row, content_by, new_file_of, open_row}
+use Rattle.icn_defs.specs.NamedValues.{proc_row, procedure_of}
 use Rattle.icn_defs.specs.Lines.{bytes_from, line_from, lines_row, next_line, next_bytes, next_opened_bytes, next_opened_line}
 use Rattle.icn_defs.specs.Interruptions.{asked_of}
 use Rattle.icn_defs.specs.Applying.{operation_on, operation_row, operand, function_of, again}
@@ -38,7 +39,7 @@ use Rattle.icn_defs.specs.StepRows.{list_row, record_row, coexpression_row, text
 use Rattle.icn_defs.specs.Running.{text_values, words_row}
 use Rattle.law_rows.specs.Unchanged.{is_exchange, undoes_exchange}
 use Rattle.law_rows.proofs.EachOfList.{Each, some_injective}
-use Rattle.law_rows.proofs.RowLaws.{RowLaw, PairBy, ItemBy, ResidualBy, MayCopy, IsOne}
+use Rattle.law_rows.proofs.RowLaws.{RowLaw, PairBy, ItemBy, ResidualBy, MayCopy, MayName, IsOne}
 use Rattle.law_rows.proofs.ValuesInRows.{ValueBy, ValueIn, VariableIn, ItemIn, OptionIn, ValuesIn, PairsIn, CountsIn, RecordsIn, OutsideIn, SettingIn, EnteredIn, ResidualIn, OutcomeIn, value_null, value_integer, value_text, value_chars, value_file, value_record, value_list, value_set, value_table, value_if, optional_none, optional_some, variable_element, variable_field, variable_key, part_global, part_static, part_local, part_field, part_word, variable_part, item_val, item_var, values_nil, values_cons, values_append, values_set, values_take, values_drop, values_replicate, values_filter, values_after, values_with, values_or_null, values_member, values_members, values_left, values_right, values_sorted, pairs_sorted, values_pairs, value_at_index, value_got_there, value_key, value_numbered, pairs_stored, items_at, members_at, pairs_at, default_at, fields_at, lists_set, lists_more, sets_set, sets_more, tables_set, tables_more, records_set, records_more, records_copied, strings_more, cells_more, globals_set, statics_set, locals_set, none_kept, of_strings, of_cells, of_bounds, of_counts, of_lists, of_sets, of_tables, of_records, of_globals, of_statics, of_locals, of_kept, of_outside, setting}
 
 module _ (law : RowLaw) where
@@ -837,6 +838,10 @@ module _ (law : RowLaw) where
   w_stop : (vs : List Value) (a : Setting) → EnteredIn law a → SettingIn law a → ValuesIn law vs → OutcomeIn law (stop_row vs a)
   w_stop vs a e h g = w_puts law newline Errout vs (ends 1) a e h g (λ s k. o_ends law 1 s k)
 
+  w_proc : (names : Names) (vs : List Value) (a : Setting) → SettingIn law a → MayName law names (value_at vs 0) → OutcomeIn law (proc_row names vs a)
+  w_proc names vs a h p = w_found law (procedure_of names (arg vs 0)) (λ number. gives_value (Procedure number)) a h
+      (λ number is. o_gives law (Val (Procedure number)) a (item_val law (Procedure number) (record { is = p number is })) h)
+
   w_close : (vs : List Value) (a : Setting) → EnteredIn law a → SettingIn law a → ValuesIn law vs → OutcomeIn law (close_row vs a)
   w_close vs a e h g =
       let v = arg vs 0 in
@@ -944,61 +949,64 @@ module _ (law : RowLaw) where
   w_operation Ops.ToBy x y z a o e h i j k = search rows depth 16
 
   w_function : (names : Names) (f : Func) (vs : List Value) (a : Setting) → EnteredIn law a → SettingIn law a → ValuesIn law vs
-      → (f ≡ Funcs.Copy → MayCopy law a.world.heap (value_at vs 0)) → OutcomeIn law (function_of names f vs a)
-  w_function names Funcs.Abs vs a e h g t = search rows depth 16
-  w_function names Funcs.Any vs a e h g t = search rows depth 16
-  w_function names Funcs.Bal vs a e h g t = search rows depth 16
-  w_function names Funcs.Center vs a e h g t = search rows depth 16
-  w_function names Funcs.Char vs a e h g t = search rows depth 16
-  w_function names Funcs.Copy vs a e h g t = w_copy law (value_at vs 0) a h (value_at_index law vs 0 g) (t refl)
-  w_function names Funcs.Cset vs a e h g t = search rows depth 16
-  w_function names Funcs.Delete vs a e h g t = search rows depth 16
-  w_function names Funcs.Exit vs a e h g t = search rows depth 16
-  w_function names Funcs.Find vs a e h g t = search rows depth 16
-  w_function names Funcs.Get vs a e h g t = search rows depth 16
-  w_function names Funcs.Iand vs a e h g t = search rows depth 16
-  w_function names Funcs.Icom vs a e h g t = search rows depth 16
-  w_function names Funcs.Image vs a e h g t = search rows depth 16
-  w_function names Funcs.Insert vs a e h g t = search rows depth 16
-  w_function names Funcs.Integer vs a e h g t = search rows depth 16
-  w_function names Funcs.Ior vs a e h g t = search rows depth 16
-  w_function names Funcs.Ishift vs a e h g t = search rows depth 16
-  w_function names Funcs.Ixor vs a e h g t = search rows depth 16
-  w_function names Funcs.Key vs a e h g t = search rows depth 16
-  w_function names Funcs.Left vs a e h g t = search rows depth 16
-  w_function names Funcs.List vs a e h g t = search rows depth 16
-  w_function names Funcs.Many vs a e h g t = search rows depth 16
-  w_function names Funcs.Map vs a e h g t = search rows depth 16
-  w_function names Funcs.Match vs a e h g t = search rows depth 16
-  w_function names Funcs.Member vs a e h g t = search rows depth 16
-  w_function names Funcs.Move vs a e h g t = search rows depth 16
-  w_function names Funcs.Numeric vs a e h g t = search rows depth 16
-  w_function names Funcs.Ord vs a e h g t = search rows depth 16
-  w_function names Funcs.Pop vs a e h g t = search rows depth 16
-  w_function names Funcs.Pos vs a e h g t = search rows depth 16
-  w_function names Funcs.Pull vs a e h g t = search rows depth 16
-  w_function names Funcs.Push vs a e h g t = search rows depth 16
-  w_function names Funcs.Put vs a e h g t = search rows depth 16
-  w_function names Funcs.Read vs a e h g t = w_read law vs a e h g
-  w_function names Funcs.Reads vs a e h g t = w_reads_row law vs a e h g
-  w_function names Funcs.Repl vs a e h g t = search rows depth 16
-  w_function names Funcs.Reverse vs a e h g t = search rows depth 16
-  w_function names Funcs.Right vs a e h g t = search rows depth 16
-  w_function names Funcs.Seq vs a e h g t = search rows depth 16
-  w_function names Funcs.Set vs a e h g t = search rows depth 16
-  w_function names Funcs.Sort vs a e h g t = search rows depth 16
-  w_function names Funcs.Stop vs a e h g t = w_stop law vs a e h g
-  w_function names Funcs.String vs a e h g t = search rows depth 16
-  w_function names Funcs.Tab vs a e h g t = search rows depth 16
-  w_function names Funcs.Table vs a e h g t = search rows depth 16
-  w_function names Funcs.Trim vs a e h g t = search rows depth 16
-  w_function names Funcs.TypeOf vs a e h g t = search rows depth 16
-  w_function names Funcs.Upto vs a e h g t = search rows depth 16
-  w_function names Funcs.Write vs a e h g t = w_write law vs a e h g
-  w_function names Funcs.Writes vs a e h g t = w_writes law vs a e h g
-  w_function names Funcs.ErrorClear vs a e h g t = search rows depth 16
-  w_function names Funcs.Open vs a e h g t = w_open law vs a e h g
-  w_function names Funcs.Close vs a e h g t = w_close law vs a e h g
+      → (f ≡ Funcs.Copy → MayCopy law a.world.heap (value_at vs 0)) → (f ≡ Funcs.Proc → MayName law names (value_at vs 0))
+      → OutcomeIn law (function_of names f vs a)
+  w_function names Funcs.Abs vs a e h g t p = search rows depth 16
+  w_function names Funcs.Any vs a e h g t p = search rows depth 16
+  w_function names Funcs.Bal vs a e h g t p = search rows depth 16
+  w_function names Funcs.Center vs a e h g t p = search rows depth 16
+  w_function names Funcs.Char vs a e h g t p = search rows depth 16
+  w_function names Funcs.Copy vs a e h g t p = w_copy law (value_at vs 0) a h (value_at_index law vs 0 g) (t refl)
+  w_function names Funcs.Cset vs a e h g t p = search rows depth 16
+  w_function names Funcs.Delete vs a e h g t p = search rows depth 16
+  w_function names Funcs.Exit vs a e h g t p = search rows depth 16
+  w_function names Funcs.Find vs a e h g t p = search rows depth 16
+  w_function names Funcs.Get vs a e h g t p = search rows depth 16
+  w_function names Funcs.Iand vs a e h g t p = search rows depth 16
+  w_function names Funcs.Icom vs a e h g t p = search rows depth 16
+  w_function names Funcs.Image vs a e h g t p = search rows depth 16
+  w_function names Funcs.Insert vs a e h g t p = search rows depth 16
+  w_function names Funcs.Integer vs a e h g t p = search rows depth 16
+  w_function names Funcs.Ior vs a e h g t p = search rows depth 16
+  w_function names Funcs.Ishift vs a e h g t p = search rows depth 16
+  w_function names Funcs.Ixor vs a e h g t p = search rows depth 16
+  w_function names Funcs.Key vs a e h g t p = search rows depth 16
+  w_function names Funcs.Left vs a e h g t p = search rows depth 16
+  w_function names Funcs.List vs a e h g t p = search rows depth 16
+  w_function names Funcs.Many vs a e h g t p = search rows depth 16
+  w_function names Funcs.Map vs a e h g t p = search rows depth 16
+  w_function names Funcs.Match vs a e h g t p = search rows depth 16
+  w_function names Funcs.Member vs a e h g t p = search rows depth 16
+  w_function names Funcs.Move vs a e h g t p = search rows depth 16
+  w_function names Funcs.Numeric vs a e h g t p = search rows depth 16
+  w_function names Funcs.Ord vs a e h g t p = search rows depth 16
+  w_function names Funcs.Pop vs a e h g t p = search rows depth 16
+  w_function names Funcs.Pos vs a e h g t p = search rows depth 16
+  w_function names Funcs.Pull vs a e h g t p = search rows depth 16
+  w_function names Funcs.Push vs a e h g t p = search rows depth 16
+  w_function names Funcs.Put vs a e h g t p = search rows depth 16
+  w_function names Funcs.Read vs a e h g t p = w_read law vs a e h g
+  w_function names Funcs.Reads vs a e h g t p = w_reads_row law vs a e h g
+  w_function names Funcs.Repl vs a e h g t p = search rows depth 16
+  w_function names Funcs.Reverse vs a e h g t p = search rows depth 16
+  w_function names Funcs.Right vs a e h g t p = search rows depth 16
+  w_function names Funcs.Seq vs a e h g t p = search rows depth 16
+  w_function names Funcs.Set vs a e h g t p = search rows depth 16
+  w_function names Funcs.Sort vs a e h g t p = search rows depth 16
+  w_function names Funcs.Stop vs a e h g t p = w_stop law vs a e h g
+  w_function names Funcs.String vs a e h g t p = search rows depth 16
+  w_function names Funcs.Tab vs a e h g t p = search rows depth 16
+  w_function names Funcs.Table vs a e h g t p = search rows depth 16
+  w_function names Funcs.Trim vs a e h g t p = search rows depth 16
+  w_function names Funcs.TypeOf vs a e h g t p = search rows depth 16
+  w_function names Funcs.Upto vs a e h g t p = search rows depth 16
+  w_function names Funcs.Write vs a e h g t p = w_write law vs a e h g
+  w_function names Funcs.Writes vs a e h g t p = w_writes law vs a e h g
+  w_function names Funcs.ErrorClear vs a e h g t p = search rows depth 16
+  w_function names Funcs.Open vs a e h g t p = w_open law vs a e h g
+  w_function names Funcs.Close vs a e h g t p = w_close law vs a e h g
+  w_function names Funcs.Proc vs a e h g t p = w_proc law names vs a h (p refl)
+  w_function names Funcs.Args vs a e h g t p = search rows depth 16
 
   w_again : (r : Residual) (a : Setting) → (undoes_exchange r ≡ true → IsOne law) → EnteredIn law a → SettingIn law a → ResidualIn law r
       → OutcomeIn law (again r a)
@@ -1073,8 +1081,9 @@ module _ (law : RowLaw) where
       (w_values law items next a (record { is = e }) (record { is = law.entered a e }) g (λ vs q. record { is = f vs q.is })).is
 
   pub function_comes : (names : Names) (f : Func) (vs : List Value) (a : Setting) → law.Entered a → Each (ValueBy law) vs
-      → (f ≡ Funcs.Copy → MayCopy law a.world.heap (value_at vs 0)) → law.Comes (function_of names f vs a)
-  function_comes names f vs a e g t = (w_function names f vs a (record { is = e }) (record { is = law.entered a e }) (record { is = g }) t).is
+      → (f ≡ Funcs.Copy → MayCopy law a.world.heap (value_at vs 0)) → (f ≡ Funcs.Proc → MayName law names (value_at vs 0))
+      → law.Comes (function_of names f vs a)
+  function_comes names f vs a e g t p = (w_function names f vs a (record { is = e }) (record { is = law.entered a e }) (record { is = g }) t p).is
 
   pub resumed_comes : (r : Residual) (a : Setting) → (undoes_exchange r ≡ true → IsOne law) → law.Entered a → ResidualBy (ValueBy law) r → law.Comes (again r a)
   resumed_comes r a o e g = (w_again r a o (record { is = e }) (record { is = law.entered a e }) (record { is = g })).is

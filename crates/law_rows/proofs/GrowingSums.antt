@@ -107,7 +107,8 @@ operation_grows op xs a = operation_comes (growing a) op xs a (λ e s h. h) (sel
 
 pub function_grows : (names : Names) (f : Func) (xs : List Item) (a : Setting) → GrowsIn a (function_row names f xs a)
 function_grows names f xs a = values_come (growing a) xs (function_of names f) a (self a) (any_of_items xs)
-    (λ vs g. function_comes (growing a) names f vs a (self a) g (λ e. any_copy (growing a) (λ xs id. tt) a.world.heap (value_at vs 0)))
+    (λ vs g. function_comes (growing a) names f vs a (self a) g (λ e. any_copy (growing a) (λ xs id. tt) a.world.heap (value_at vs 0))
+    (λ e number is. tt))
 
 pub again_grows : (r : Residual) (a : Setting) → GrowsIn a (again r a)
 again_grows r a = resumed_comes (growing a) r a (λ e s h. h) (self a) (any_of_residual r)

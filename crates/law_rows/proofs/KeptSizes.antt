@@ -60,7 +60,8 @@ operation_keeps op xs a = operation_comes (keeping a) op xs a (λ e s h. h) (sel
 
 pub function_keeps : (names : Names) (f : Func) (xs : List Item) (a : Setting) → KeepsIn a (function_row names f xs a)
 function_keeps names f xs a = values_come (keeping a) xs (function_of names f) a (self a) (any_of_items xs)
-    (λ vs g. function_comes (keeping a) names f vs a (self a) g (λ e. any_copy (keeping a) (λ xs id. tt) a.world.heap (value_at vs 0)))
+    (λ vs g. function_comes (keeping a) names f vs a (self a) g (λ e. any_copy (keeping a) (λ xs id. tt) a.world.heap (value_at vs 0))
+    (λ e number is. tt))
 
 pub again_keeps : (r : Residual) (a : Setting) → KeepsIn a (again r a)
 again_keeps r a = resumed_comes (keeping a) r a (λ e s h. h) (self a) (any_of_residual r)

@@ -1,12 +1,13 @@
 -- What a law over all rows says, and why each change that a row makes keeps it. `EveryRow` goes over the rows once, for any such law.
-use Rattle.std.proofs.Common.{◌≡◌, ℕ, zero, suc, ◌+◌, ◌∙◌, true, List, [], ◌∷◌, ◌++◌, length, Option, None}
+use Rattle.std.proofs.Common.{◌≡◌, ℕ, zero, suc, ◌+◌, ◌∙◌, true, List, [], ◌∷◌, ◌++◌, length, Option, None, Some}
 use Rattle.std.specs.Prelude.{map, ℤ, slice_get, slice_set, unwrap_or}
 use Rattle.std.proofs.lemmas.List.{length-set}
 use Rattle.icn_structs.specs.Numbered.{NumberedList}
 use Rattle.icn_value.specs.Limited.{Bounds}
 use Rattle.icn_value.specs.Values.{Value, Null, Integer, Text, Chars, Std, Procedure, ARecord, AList, ASet, ATable, ACoexp, File, Root, Global, Static, Local, Element, Field, Key, Keyword, Variable, Whole, Part, Item, Val, Var}
-use Rattle.icn_value.specs.Store.{Heap, Table, Record, KeptError, Outside, Request, Setting, new_list, value_at, OutputByte, ErrorByte, with_events, with_file_reading, with_file_writing}
+use Rattle.icn_value.specs.Store.{Heap, Names, Table, Record, KeptError, Outside, Request, Setting, new_list, value_at, OutputByte, ErrorByte, with_events, with_file_reading, with_file_writing}
 use Rattle.icn_defs.specs.Interruptions.{after_reading}
+use Rattle.icn_defs.specs.NamedValues.{procedure_of}
 use Rattle.icn_defs.specs.RowFacts.{is_error_number}
 use Rattle.icn_defs.specs.Rows.{Outcome, Fails, Gives, Suspends, Error, Ends, Residual, TextBytes, VariableBytes, ListItems, SetMembers, TableValues, TableKeys, RecordFields, FileLines, UndoAssign, UndoExchange, UndoPosition, Counting, Sequence, Balanced, Found, Among}
 pub use Rattle.law_rows.specs.HeldValues.{OptionBy, RootBy, VariableBy, ItemBy, PairBy, ListBy, TableBy, ResidualBy}
@@ -139,6 +140,10 @@ MayCopy law heap (AList id) = Unit {0}
 MayCopy law heap (ASet id) = Unit {0}
 MayCopy law heap (ATable id) = Unit {0}
 MayCopy law heap (ACoexp id) = Unit {0}
+
+-- what a value names, or is, is a procedure that the law has
+abbrev pub MayName : RowLaw → Names → Value → Type 0
+MayName law names v = (number : ℕ) → procedure_of names v ≡ Some number → law.parts.values.Is (Procedure number)
 
 -- a law whose exchanges are of it too: it has the same of settings before and behind a charge
 abbrev pub IsOne : RowLaw → Type 0

@@ -115,8 +115,8 @@ module _ (tables : Tables) (have : HaveShapes tables) (ok : TablesOk tables) (ke
       case_of (run_over tables outsides (Flat.start tables launch)) (follows_run tables have ok keep outsides (Flat.start tables launch)
       (inl (record {
         state = Marks.start repeats_anywhere tables launch;
-        safe = start_safe tables (shapes_of tables have) (shapes_are_kept tables have ok keep) keep ok launch;
-        same = starts_same rows_keep repeats_anywhere tables launch (Unit {0});
+        safe = start_safe tables (shapes_of tables have) (shapes_are_kept tables have ok keep) keep ok [] launch;
+        same = starts_same rows_keep repeats_anywhere [] tables launch (Unit {0});
       })))
 
 -- What follows from it

@@ -17,7 +17,8 @@ use Rattle.icn_run.specs.Calls as Cs
 use Rattle.icn_run.specs.Chains as C
 use Rattle.icn_run.specs.Chains.{Chain, LinkedStack, WaitingChain, linked_calls, with_chain}
 use Rattle.icn_run.specs.LinkedStep.{repeats_anywhere}
-use Rattle.icn_run.specs.Step.{Program, Store, State, running, failing, with_found, on_pair, errs, turn_if, turn, here, with_world, with_at, with_given, with_made, with_value, with_values, push_item, outcome, list_made, with_pair, scans_left, with_popped, with_taken, unmark_then, fill_nulls, collect_rest, with_parameters, enter_procedure, called_if, call_procedure, construct_record, argument_at, choose_item, pushed_or_fails, integer_called, Callee, IsProc, IsRecord, IsFunc, IsNothing, func_callee, record_among, callee_among, callee_of, callee_called, invoke_value, invoked_with, plain, elements_called, applied_to_elements, field_index, field_taken, field_of}
+use Rattle.icn_defs.specs.NamedValues.{named_by}
+use Rattle.icn_run.specs.Step.{Program, Store, State, running, failing, with_found, on_pair, errs, turn_if, turn, here, with_world, with_at, with_given, with_made, with_value, with_values, push_item, outcome, list_made, with_pair, scans_left, with_popped, with_taken, unmark_then, fill_nulls, collect_rest, with_parameters, enter_procedure, called_if, call_procedure, construct_record, argument_at, choose_item, pushed_or_fails, integer_called, named_called, Callee, IsProc, IsRecord, IsFunc, IsNothing, func_callee, record_among, callee_among, callee_of, callee_called, invoke_value, invoked_with, plain, elements_called, applied_to_elements, field_index, field_taken, field_of}
 use Rattle.icn_defs.specs.Numbers.{func_of}
 use Rattle.icn_defs.specs.Errors.{with_kept}
 use Rattle.icn_run.proofs.Errors.{kept_in, at_error}
@@ -339,12 +340,18 @@ module _ (P : Program) (sh : ℕ → ℕ → Option PlainShape) (given : KeepsSh
   ok_one (Some item) w p S m st h g e = ok_push item w p S m st h g e
   ok_one None w p S m st h g e = ok_fails w p S m st h
 
+  named_ok : (callee : Value) (o : Option ℕ) (items : List Item) (w : Knowledge) (p : ℕ) (S : PlainShape) (m : LinkedStack) (st : Store WaitingChain)
+      → Ready w p S m st → ValueWithin w.coexps callee
+      → Each (ItemWithin w.coexps) items → sh p m.address ≡ Some (with_more 1 S) → Ok (named_called linked_machine P callee o items m st)
+  named_ok callee (Some n) items w p S m st h z g e = callee_ok (callee_of P n) n (callee_in P.procs P.records n) items w p S m st h g e
+  named_ok callee None items w p S m st h z g e = ok_errs 106 (Some callee) w p S m st h z
+
   integer_ok : (callee : Value) (o : Option ℤ) (items : List Item) (w : Knowledge) (p : ℕ) (S : PlainShape) (m : LinkedStack) (st : Store WaitingChain)
       → Ready w p S m st → ValueWithin w.coexps callee
-      → Each (ItemWithin w.coexps) items → sh p m.address ≡ Some (with_more 1 S) → Ok (integer_called linked_machine callee o items m st)
+      → Each (ItemWithin w.coexps) items → sh p m.address ≡ Some (with_more 1 S) → Ok (integer_called linked_machine P callee o items m st)
   integer_ok callee (Some n) items w p S m st h z g e =
       ok_one (choose_item n items) w p S m st h (argument_within w.coexps (position_of n (length items)) items g) e
-  integer_ok callee None items w p S m st h z g e = ok_errs 106 (Some callee) w p S m st h z
+  integer_ok callee None items w p S m st h z g e = named_ok callee (named_by st.names callee) items w p S m st h z g e
 
   pub ok_invoked : (callee : Value) (items : List Item) (w : Knowledge) (p : ℕ) (S : PlainShape) (m : LinkedStack) (st : Store WaitingChain) → Ready w p S m st
       → ValueWithin w.coexps callee → Each (ItemWithin w.coexps) items → sh p m.address ≡ Some (with_more 1 S)

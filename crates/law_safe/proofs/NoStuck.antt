@@ -8,7 +8,7 @@ use Rattle.icn_verify.specs.Given.{HaveShapes, HasShapes, IsFine}
 use Rattle.icn_run.specs.Rows.{Value, Null, Val, Var, Outcome, Fails, Gives, Suspends, Error, Ends, list_row, words_row}
 use Rattle.icn_run.specs.Chains.{WaitingChain, LinkedStack, empty}
 use Rattle.icn_run.specs.Chains as C
-use Rattle.icn_run.specs.Step.{Program, Launch, Store, Coexp, Active, running, failing, hopping, over, stuck, here, with_at, with_made, collect_rest, fill_nulls, begun_if, instruction, instruction_at, instrs_of, step, steps, start, start_of, first_store, main_of, static_count, is_main}
+use Rattle.icn_run.specs.Step.{Program, Launch, Store, Coexp, Active, running, failing, hopping, over, stuck, here, with_at, with_made, collect_rest, fill_nulls, begun_if, instruction, instruction_at, instrs_of, step, steps, start_hiding, start_of, first_store_hiding, main_of, static_count, is_main}
 use Rattle.icn_run.specs.LinkedStep.{repeats_anywhere}
 use Rattle.law_stacks.specs.SameStates.{IsMade}
 use Rattle.law_stacks.specs.SecondLaw.{LinkedStuck, FlatStuck}
@@ -175,8 +175,8 @@ module _ (P : Program) (sh : ℕ → ℕ → Option PlainShape) (given : KeepsSh
   main_waits zero c e d = absurd (d refl)
   main_waits (suc i) c e d = none_is_not_some c e
 
-  first_ok : (launch : Launch) → Starts empty (first_store P launch)
-  first_ok launch = record {
+  first_ok : (hidden : List ℕ) (launch : Launch) → Starts empty (first_store_hiding P hidden launch)
+  first_ok hidden launch = record {
     memory = record { same_activations = refl; same_flags = refl; locals = λ a p z. none_is_not_some p z; labels = tt };
     store = record {
       world = record {
@@ -191,22 +191,23 @@ module _ (P : Program) (sh : ℕ → ℕ → Option PlainShape) (given : KeepsSh
   }
 
   -- the start of a run is safe
-  pub start_safe : (launch : Launch) → Good (start linked_machine empty P launch)
-  start_safe launch = start_ok launch.words empty (first_store P launch) (main_of P) refl (first_ok launch)
+  pub start_safe : (hidden : List ℕ) (launch : Launch) → Good (start_hiding linked_machine empty P hidden launch)
+  start_safe hidden launch = start_ok launch.words empty (first_store_hiding P hidden launch) (main_of P) refl (first_ok hidden launch)
 
-  pub runs_ok : (launch : Launch) (n : ℕ) → Good (steps linked_machine P n (start linked_machine empty P launch))
-  runs_ok launch n = steps_ok n (start linked_machine empty P launch) (start_safe launch)
+  pub runs_ok : (hidden : List ℕ) (launch : Launch) (n : ℕ) → Good (steps linked_machine P n (start_hiding linked_machine empty P hidden launch))
+  runs_ok hidden launch n = steps_ok n (start_hiding linked_machine empty P hidden launch) (start_safe hidden launch)
 
 pub never_stuck : (tables : Tables) → HaveShapes tables → TablesOk tables → RowsStayWithin → IsNeverStuck tables
 never_stuck tables have ok keep = record {
   linked = linked_never;
   flat = flat_never;
-  covered = λ repeats launch none run. flat_never launch ((agrees_where_covered repeats tables launch none).stuck_flat run);
+  covered = λ repeats hidden launch none run. flat_never hidden launch ((agrees_where_covered repeats hidden tables launch none).stuck_flat run);
 }
   where
-    linked_never : (launch : Launch) → LinkedStuck repeats_anywhere tables launch → ⊥
-    linked_never launch run =
-        subst (λ s. Safe tables (shapes_of tables have) s) run.is (runs_ok tables (shapes_of tables have) (shaped tables have ok) keep ok launch run.count)
+    linked_never : (hidden : List ℕ) (launch : Launch) → LinkedStuck repeats_anywhere hidden tables launch → ⊥
+    linked_never hidden launch run =
+        subst (λ s. Safe tables (shapes_of tables have) s) run.is
+        (runs_ok tables (shapes_of tables have) (shaped tables have ok) keep ok hidden launch run.count)
 
-    flat_never : (launch : Launch) → FlatStuck tables launch → ⊥
-    flat_never launch run = linked_never launch ((agrees_everywhere tables launch).stuck_linked run)
+    flat_never : (hidden : List ℕ) (launch : Launch) → FlatStuck hidden tables launch → ⊥
+    flat_never hidden launch run = linked_never hidden launch ((agrees_everywhere hidden tables launch).stuck_linked run)

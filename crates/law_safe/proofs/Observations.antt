@@ -75,37 +75,41 @@ module _ (tables : Tables) (have : HaveShapes tables) (ok : TablesOk tables) (ke
       ∙ fine.stands) in
       subst (IsForward m.address) (sym same) (goes_forward fine.instr h.2 m.address (λ to. shapes_of tables have h.1 to.0 ≡ Some to.1) fine.onward)
 
-  marks_end : (launch : Launch) → EndsFrom linked_machine tables (Marks.start repeats_anywhere tables launch)
-  marks_end launch =
+  marks_end : (hidden : List ℕ) (launch : Launch) → EndsFrom linked_machine tables (Marks.start_hiding repeats_anywhere tables hidden launch)
+  marks_end hidden launch =
       ends_by linked_machine (most tables.procs) (linked_weighs repeats_anywhere (most tables.procs)) tables launch.bounds.turns (λ s. Safe tables sh s)
       (record {
         on = λ s kept. step_ok tables sh given keep ok s kept;
         within = λ m st kept instr e. proc_within tables.procs (linked_machine.proc m) m.address instr e;
         forward = forward_at;
-      }) empty launch refl (start_safe tables sh given keep ok launch)
+      }) empty hidden launch refl (start_safe tables sh given keep ok hidden launch)
 
-  never : (launch : Launch) (n : ℕ) → Marks.steps repeats_anywhere tables n (Marks.start repeats_anywhere tables launch) ≡ stuck → ⊥
-  never launch n e = subst (λ s. Safe tables sh s) e (runs_ok tables sh given keep ok launch n)
+  never : (hidden : List ℕ) (launch : Launch) (n : ℕ)
+      → Marks.steps repeats_anywhere tables n (Marks.start_hiding repeats_anywhere tables hidden launch) ≡ stuck → ⊥
+  never hidden launch n e = subst (λ s. Safe tables sh s) e (runs_ok tables sh given keep ok hidden launch n)
 
-  marks_seen : (launch : Launch) → (seen : Observation) × Marks.Runs repeats_anywhere tables launch seen
-  marks_seen launch =
-      let e = marks_end launch in
-      let o = seen_of (Marks.steps repeats_anywhere tables e.count (Marks.start repeats_anywhere tables launch)) e.is_end (never launch e.count) in
+  marks_seen : (hidden : List ℕ) (launch : Launch) → (seen : Observation) × Marks.RunsHiding repeats_anywhere hidden tables launch seen
+  marks_seen hidden launch =
+      let e = marks_end hidden launch in
+      let o = seen_of (Marks.steps repeats_anywhere tables e.count (Marks.start_hiding repeats_anywhere tables hidden launch)) e.is_end
+      (never hidden launch e.count) in
       (o.0, record { count = e.count; is = o.1 })
 
-  stacks_seen : (launch : Launch) → (seen : Observation) × Flat.Runs tables launch seen
-  stacks_seen launch = let o = marks_seen launch in (o.0, (agrees_everywhere tables launch).to_flat o.0 o.1)
+  stacks_seen : (hidden : List ℕ) (launch : Launch) → (seen : Observation) × Flat.RunsHiding hidden tables launch seen
+  stacks_seen hidden launch = let o = marks_seen hidden launch in (o.0, (agrees_everywhere hidden tables launch).to_flat o.0 o.1)
 
-  told_ends : (repeats : ℕ → ℕ → Bool) (launch : Launch) (seen : Observation)
-      → Marks.Runs repeats tables launch seen ⊎ (LinkedStuck repeats tables launch × MissingCell repeats tables launch)
-      → EndsFrom (linked_calls repeats) tables (Marks.start repeats tables launch)
-  told_ends repeats launch seen (inl run) = record { count = run.count; is_end = subst IsEnd (sym (over_seen _ seen run.is)) tt }
-  told_ends repeats launch seen (inr lost) = record { count = lost.0.count; is_end = subst IsEnd (sym lost.0.is) tt }
+  told_ends : (repeats : ℕ → ℕ → Bool) (hidden : List ℕ) (launch : Launch) (seen : Observation)
+      → Marks.RunsHiding repeats hidden tables launch seen ⊎ (LinkedStuck repeats hidden tables launch × MissingCell repeats hidden tables launch)
+      → EndsFrom (linked_calls repeats) tables (Marks.start_hiding repeats tables hidden launch)
+  told_ends repeats hidden launch seen (inl run) = record { count = run.count; is_end = subst IsEnd (sym (over_seen _ seen run.is)) tt }
+  told_ends repeats hidden launch seen (inr lost) = record { count = lost.0.count; is_end = subst IsEnd (sym lost.0.is) tt }
 
   pub are_over : AreOver tables
   are_over = record {
     flat = stacks_seen;
     linked = marks_seen;
-    covered = λ repeats launch none. let o = stacks_seen launch in (o.0, (agrees_where_covered repeats tables launch none).to_linked o.0 o.1);
-    told = λ repeats launch. let o = stacks_seen launch in told_ends repeats launch o.0 ((agrees_as_told repeats tables launch).to_linked o.0 o.1);
+    covered = λ repeats hidden launch none. let o = stacks_seen hidden launch in
+        (o.0, (agrees_where_covered repeats hidden tables launch none).to_linked o.0 o.1);
+    told = λ repeats hidden launch. let o = stacks_seen hidden launch in
+        told_ends repeats hidden launch o.0 ((agrees_as_told repeats hidden tables launch).to_linked o.0 o.1);
   }

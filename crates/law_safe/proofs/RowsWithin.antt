@@ -170,7 +170,8 @@ applied_within : (n : ℕ) (names : Names) (what : OperationOrFunction) (items :
 applied_within n names (Operation op) items at h g = operation_comes (within n) op items at (λ e s k. k) (setting_in n at h) g
 applied_within n names (Function f) items at h g =
     values_come (within n) items (function_of names f) at (setting_in n at h) g
-    (λ vs q. function_comes (within n) names f vs at (setting_in n at h) q (λ e. any_copy (within n) (λ xs id. tt) at.world.heap (value_at vs 0)))
+    (λ vs q. function_comes (within n) names f vs at (setting_in n at h) q (λ e. any_copy (within n) (λ xs id. tt) at.world.heap (value_at vs 0))
+    (λ e number is. tt))
 
 -- rows stay within the co-expressions that are there
 pub rows_stay_within : RowsStayWithin

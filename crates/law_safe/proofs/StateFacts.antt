@@ -181,12 +181,12 @@ module _ (tables : Tables) (have : HaveShapes tables) (ok : TablesOk tables) (ke
   stands_at : (launch : Launch) (n : ℕ) (m : Frames) (st : Store Frames) → Flat.steps tables n (Flat.start tables launch) ≡ running m st → IsSafe tables sh m st
   stands_at launch n m st e = record {
     goes_on = goes_on flat tables m st (instruction_at flat tables m) refl (λ z.
-        (never_stuck tables have ok keep).flat launch
+        (never_stuck tables have ok keep).flat [] launch
         (record { count = suc n; is = more_steps flat tables n (Flat.start tables launch) ∙ ap (step flat tables) e ∙ z }));
     shaped = by (running m st) (subst Follows e (follows_all n (Flat.start tables launch) (inl (record {
       state = Marks.start repeats_anywhere tables launch;
-      safe = start_safe tables sh shapes_are_kept keep ok launch;
-      same = starts_same rows_keep repeats_anywhere tables launch (Unit {0});
+      safe = start_safe tables sh shapes_are_kept keep ok [] launch;
+      same = starts_same rows_keep repeats_anywhere [] tables launch (Unit {0});
     })))) refl;
   }
     where
@@ -196,6 +196,6 @@ module _ (tables : Tables) (have : HaveShapes tables) (ok : TablesOk tables) (ke
 
   pub are_shaped : AreShaped tables sh
   are_shaped = record {
-    on_marks = λ launch n m st e. facts_at m st (subst (λ s. Safe tables sh s) e (runs_ok tables sh shapes_are_kept keep ok launch n));
+    on_marks = λ launch n m st e. facts_at m st (subst (λ s. Safe tables sh s) e (runs_ok tables sh shapes_are_kept keep ok [] launch n));
     on_stacks = stands_at;
   }

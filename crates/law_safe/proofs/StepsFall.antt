@@ -297,8 +297,8 @@ module _ (tables : Tables) (have : HaveShapes tables) (ok : TablesOk tables) (ke
     start_sound flat N W tables B (λ s. ⊥) nowhere launch.words empty (first_store tables launch) (main_of tables) (((tt, tt), e), omega arith),
     inl (record {
       state = Marks.start repeats_anywhere tables launch;
-      safe = start_safe tables (shapes_of tables have) (shapes_are_kept tables have ok keep) keep ok launch;
-      same = starts_same rows_keep repeats_anywhere tables launch (Unit {0});
+      safe = start_safe tables (shapes_of tables have) (shapes_are_kept tables have ok keep) keep ok [] launch;
+      same = starts_same rows_keep repeats_anywhere [] tables launch (Unit {0});
     }),
   )
 

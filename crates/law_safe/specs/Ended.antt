@@ -1,5 +1,5 @@
 -- Each run of verified code comes to an end of which something is observed.
-use Rattle.std.specs.Prelude.{ℕ, Bool}
+use Rattle.std.specs.Prelude.{ℕ, Bool, List}
 use Rattle.icn_code.specs.Codes.{Tables}
 use Rattle.icn_run.specs.Chains.{linked_calls as on_marks}
 use Rattle.icn_run.specs.Step.{Observation, Launch}
@@ -10,11 +10,14 @@ use Rattle.law_stacks.specs.Measure.{EndsFrom}
 use Rattle.law_stacks.specs.SecondLaw.{MissingCell}
 
 -- On flat stacks and on linked marks each run is over at some time, by its bound on turns at the latest; on linked marks where only some have cells too, if
--- it comes to none that is missing, and if it does, it is over or lacks something.
+-- it comes to none that is missing, and if it does, it is over or lacks something. So it is whatever procedures no text names.
 pub record AreOver (tables : Tables) : Type 0 where
-  pub flat : (launch : Launch) → (seen : Observation) × Flat.Runs tables launch seen
-  pub linked : (launch : Launch) → (seen : Observation) × Linked.Runs repeats_anywhere tables launch seen
-  pub covered : (repeats : ℕ → ℕ → Bool) (launch : Launch) → (MissingCell repeats tables launch → ⊥)
-      → (seen : Observation) × Linked.Runs repeats tables launch seen
-  pub told : (repeats : ℕ → ℕ → Bool) (launch : Launch)
-      → EndsFrom (on_marks repeats) tables (Linked.start repeats tables launch)
+  pub flat : (hidden : List ℕ) (launch : Launch)
+      → (seen : Observation) × Flat.RunsHiding hidden tables launch seen
+  pub linked : (hidden : List ℕ) (launch : Launch)
+      → (seen : Observation) × Linked.RunsHiding repeats_anywhere hidden tables launch seen
+  pub covered : (repeats : ℕ → ℕ → Bool) (hidden : List ℕ) (launch : Launch)
+      → (MissingCell repeats hidden tables launch → ⊥)
+      → (seen : Observation) × Linked.RunsHiding repeats hidden tables launch seen
+  pub told : (repeats : ℕ → ℕ → Bool) (hidden : List ℕ) (launch : Launch)
+      → EndsFrom (on_marks repeats) tables (Linked.start_hiding repeats tables hidden launch)

@@ -21,12 +21,12 @@ pub record TablesOk (tables : Tables) : Type 0 where
   pub main : (n : ℕ) → main_of tables ≡ Some n → n < length tables.procs
 
 -- No run of the code lacks what an instruction needs, neither on linked marks nor on flat stacks, nor on linked marks where only some have cells, if the
--- run comes to none that is missing.
+-- run comes to none that is missing; whatever procedures no text names.
 pub record IsNeverStuck (tables : Tables) : Type 0 where
-  pub linked : (launch : Launch) → LinkedStuck repeats_anywhere tables launch → ⊥
-  pub flat : (launch : Launch) → FlatStuck tables launch → ⊥
-  pub covered : (repeats : ℕ → ℕ → Bool) (launch : Launch) → (MissingCell repeats tables launch → ⊥)
-      → LinkedStuck repeats tables launch → ⊥
+  pub linked : (hidden : List ℕ) (launch : Launch) → LinkedStuck repeats_anywhere hidden tables launch → ⊥
+  pub flat : (hidden : List ℕ) (launch : Launch) → FlatStuck hidden tables launch → ⊥
+  pub covered : (repeats : ℕ → ℕ → Bool) (hidden : List ℕ) (launch : Launch)
+      → (MissingCell repeats hidden tables launch → ⊥) → LinkedStuck repeats hidden tables launch → ⊥
 
 -- no step from here on lacks anything, whatever the outside is before each
 abbrev pub IsNeverStuckOver : Tables → State Frames Frames → Type 0

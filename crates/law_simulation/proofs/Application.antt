@@ -13,6 +13,7 @@ use Rattle.icn_tree.specs.Trees.{Tree, Trees, NoTrees, Initial}
 use Rattle.icn_value.specs.Values as V
 use Rattle.icn_value.specs.Values.{Value, Null, Item, Val}
 use Rattle.icn_value.specs.Store.{list_at, record_at}
+use Rattle.icn_defs.specs.NamedValues.{named_by}
 use Rattle.icn_defs.specs.Arities.{arity}
 use Rattle.icn_defs.specs.Conversions.{position_of}
 use Rattle.icn_defs.specs.StepRows.{coexpression_row, list_row, record_row, apply, Operation, Function}
@@ -284,18 +285,27 @@ module _ (G : Ground) where
   on_chosen (Some x) p st ls live k r = reached_already G (at_succeed live.0 live.1 k r)
   on_chosen None p st ls live k r = reached_already G (at_fail live.0 live.1 r)
 
-  on_choose : {first : Bool} {k : Works} {r : Choices} {xs : List Item} {s : Suspensions} {z : List ℕ}
-      {o : Outer} (i : Option ℤ) (v : Value) (items : List Item) (p : ℕ) (st : M.Store)
+  on_named : {first : Bool} {n' : Nest} {u : Surroundings} {k : Works} {r : Choices} {xs : List Item}
+      {s : Suspensions} {z : List ℕ} {o : Outer} (named : Option ℕ) (v : Value) (items : List Item) (p : ℕ) (st : M.Store)
       (ls : List (S.Coexp WaitingChain)) → LiveCoexpressions G first st.active st.coexpressions ls
-      → OfWorks G.L first k p xs z o → OfChoices G.L first r s z o →
-      Reaches G (MC.choose i v items k r st)
-      (S.integer_called (machine G) v i items (linked_of (chain xs s z o) p st) (store_of st ls))
-  on_choose {k = k'} {r = r'} {xs = xs} {s = s} {z = z} {o = o} (Some i) v items p st ls live k r =
+      → OfSurroundings G.L first n' u z o → OfWorks G.L first k p xs z o → OfChoices G.L first r s z o →
+      Reaches G (MC.invoke_named G.L.program named v items u k r st)
+      (S.named_called (machine G) (code_of G) v named items (linked_of (chain xs s z o) p st) (store_of st ls))
+  on_named (Some n) v items p st ls live u k r = on_callee n items p st ls live (G.callees n) u k r
+  on_named {xs = xs} None v items p st ls live u k r = errors_agree G p xs 106 (Some v) st ls live r
+
+  on_choose : {first : Bool} {n' : Nest} {u : Surroundings} {k : Works} {r : Choices} {xs : List Item}
+      {s : Suspensions} {z : List ℕ} {o : Outer} (i : Option ℤ) (v : Value) (items : List Item) (p : ℕ) (st : M.Store)
+      (ls : List (S.Coexp WaitingChain)) → LiveCoexpressions G first st.active st.coexpressions ls
+      → OfSurroundings G.L first n' u z o → OfWorks G.L first k p xs z o → OfChoices G.L first r s z o →
+      Reaches G (MC.choose G.L.program i v items u k r st)
+      (S.integer_called (machine G) (code_of G) v i items (linked_of (chain xs s z o) p st) (store_of st ls))
+  on_choose {k = k'} {r = r'} {xs = xs} {s = s} {z = z} {o = o} (Some i) v items p st ls live u k r =
       subst (λ x. Reaches G (MC.choose_item (MC.argument_at (position_of i (length items)) items) k' r' st)
       (S.pushed_or_fails (machine G) x (linked_of (chain xs s z o) p st) (store_of st ls)))
       (same_argument (position_of i (length items)) items)
       (on_chosen (MC.argument_at (position_of i (length items)) items) p st ls live k r)
-  on_choose {xs = xs} None v items p st ls live k r = errors_agree G p xs 106 (Some v) st ls live r
+  on_choose None v items p st ls live u k r = on_named (named_by st.names v) v items p st ls live u k r
 
   on_invoke : {first : Bool} {n' : Nest} {v : Surroundings} {k : Works} {r : Choices} {xs : List Item}
       {s : Suspensions} {z : List ℕ} {o : Outer} (f : Value) (items : List Item) (p : ℕ) (st : M.Store)
@@ -304,7 +314,7 @@ module _ (G : Ground) where
       Reaches G (MC.invoke G.L.program f items v k r st)
       (S.invoke_value (machine G) (code_of G) f items (linked_of (chain xs s z o) p st) (store_of st ls))
   on_invoke (V.Procedure n) items p st ls live v k r = on_callee n items p st ls live (G.callees n) v k r
-  on_invoke f items p st ls live v k r = on_choose (number_of f) f items p st ls live k r
+  on_invoke f items p st ls live v k r = on_choose (number_of f) f items p st ls live v k r
 
   on_spread : {first : Bool} {n' : Nest} {v : Surroundings} {k : Works} {r : Choices} {xs : List Item}
       {s : Suspensions} {z : List ℕ} {o : Outer} (f from : Value) (p : ℕ) (st : M.Store)

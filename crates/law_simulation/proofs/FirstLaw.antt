@@ -48,7 +48,7 @@ module _ (G : Ground) where
   same_store : (launch : Launch) → Begins G.L
       → store_of (MM.first_store G.L.program launch)
       (record { status = S.Active; activator = zero; values = []; proc = zero; address = zero } ∷ []) ≡
-      S.first_store (code_of G) launch
+      S.first_store_hiding (code_of G) G.L.program.hidden launch
   same_store launch b = ap (λ g. made_store g G.L.program.statics (length G.L.program.routines)
       (MP.names_of G.L.program) launch) b.globals
       ∙ ap (λ s. made_store (map (S.global_value G.L.tables) G.L.tables.globals) s
@@ -147,7 +147,7 @@ module _ (G : Ground) where
       (v ∷ []) (MT.after zero seen st) ls live c)))
 
   pub starts : (launch : Launch) → Begins G.L
-      → Reaches G (MM.start G.L.program launch) (S.start (machine G) empty (code_of G) launch)
+      → Reaches G (MM.start G.L.program launch) (S.start_hiding (machine G) empty (code_of G) G.L.program.hidden launch)
   starts launch b = subst (λ st. Reaches G (MM.start G.L.program launch)
       (S.start_of (machine G) (code_of G) launch.words empty st (S.main_of G.L.tables))) (same_store launch b)
       (start_at launch.words (MM.first_store G.L.program launch) _ (
@@ -183,31 +183,31 @@ module _ (G : Ground) where
 
   -- what the meaning comes to, the code comes to
   pub means_runs : (launch : Launch) (seen : Observation) → Begins G.L → Means G.L.program launch seen
-      → Linked.Runs G.L.repeats G.L.tables launch seen
+      → Linked.RunsHiding G.L.repeats G.L.program.hidden G.L.tables launch seen
   means_runs launch seen b m =
       let o = seen_over _ seen m.is in
       let g = starts launch b in
       let f = forward G m.count (MM.start G.L.program launch) g.to seen.ending o.store
-      (good_steps G g.turns _ g.comes (shadowed_start G.L.repeats G.L.tables launch)) g.rel o.is in
+      (good_steps G g.turns _ g.comes (shadowed_start G.L.repeats G.L.tables G.L.program.hidden launch)) g.rel o.is in
       let a = after G g.turns f.0 g.comes f.1 in
       record { count = a.0; is = ap S.observation (a.1 ∙ ap (λ x. S.over seen.ending x) o.outside_is) }
 
   -- what the code comes to, the meaning comes to
   pub runs_means : (launch : Launch) (seen : Observation) → Begins G.L
-      → Linked.Runs G.L.repeats G.L.tables launch seen → Means G.L.program launch seen
+      → Linked.RunsHiding G.L.repeats G.L.program.hidden G.L.tables launch seen → Means G.L.program launch seen
   runs_means launch seen b r =
       let z : LinkedState = S.over seen.ending seen.outside in
       let s = MM.start G.L.program launch in
       let g = starts launch b in
-      let e = shift G z refl r.count g.turns (S.start (machine G) empty (code_of G) launch)
+      let e = shift G z refl r.count g.turns (S.start_hiding (machine G) empty (code_of G) G.L.program.hidden launch)
       (over_seen _ seen r.is) g.comes in
       let back = backward G z refl r.count s g.to
-      (good_steps G g.turns _ g.comes (shadowed_start G.L.repeats G.L.tables launch)) g.rel e in
+      (good_steps G g.turns _ g.comes (shadowed_start G.L.repeats G.L.tables G.L.program.hidden launch)) g.rel e in
       let o = was_over G {ending = seen.ending} {outside = seen.outside} back.1 in
       let a = after_steps back.0 o.count refl o.is in
       record { count = a.0; is = ap observation a.1 ∙ ap (λ x. Some (record_of seen.ending x)) o.outside_is }
 
   -- the run of the code never comes to a mark that has no cell for a label which is to be set
-  pub none_missing : (launch : Launch) → Begins G.L → MissingCell G.L.repeats G.L.tables launch → ⊥
-  none_missing launch b x = reach_misses G x.count (starts launch b) (shadowed_start G.L.repeats G.L.tables launch)
+  pub none_missing : (launch : Launch) → Begins G.L → MissingCell G.L.repeats G.L.program.hidden G.L.tables launch → ⊥
+  none_missing launch b x = reach_misses G x.count (starts launch b) (shadowed_start G.L.repeats G.L.tables G.L.program.hidden launch)
       (subst (Misses G) (sym x.comes) (x.label, x.sets, x.missing))

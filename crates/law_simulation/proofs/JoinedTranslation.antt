@@ -2,7 +2,7 @@
 -- begin as the program does.
 use Rattle.std.proofs.Common.{◌≡◌, ℕ, zero, suc, ◌+◌, ◌-◌, ◌==◌, ◌||◌, Bool, true, false, not, List, [], ◌∷◌, ◌++◌, length, map, take, Option, Some, None, find, cond, refl, sym, ap, ◌∙◌, subst, arith}
 use Rattle.icn_text.specs.Funcs.{func_number}
-use Rattle.std.specs.Prelude.{pred, ℤ, slice_get, slice_index_or, position, codes, if◌then◌else◌}
+use Rattle.std.specs.Prelude.{pred, ℤ, pos, slice_get, slice_index_or, position, codes, if◌then◌else◌}
 use Rattle.std.specs.List.{list_any, flat_map, sum_by}
 use Rattle.std.specs.Option.{option_map, option_and_then, option_map_or}
 use Rattle.std.specs.Ordering.{int_eq}
@@ -16,6 +16,7 @@ use Rattle.std.proofs.lemmas.Slice.Eq.{bytes_eq-Decides}
 use Rattle.icn_text.specs.declared.func.Func.{Func}
 use Rattle.icn_tree.specs.Trees.{Procedure as ProcedureTree, Declaration, Global, Link, Invocable, Record, ProcedureOf}
 use Rattle.icn_value.specs.declared.cset.Cset.{Cset}
+use Rattle.icn_value.specs.Store.{Names}
 use Rattle.icn_value.specs.Values.{Procedure, Var, Whole}
 use Rattle.icn_code.specs.declared.code.Global.{Global as GlobalEntry}
 use Rattle.icn_code.specs.declared.code.Start.TheVariants as Starts
@@ -113,7 +114,7 @@ with_it name known true e = any_left (bytes_eq name) known [] (sym (has_any name
 with_it name known false e = any_right (bytes_eq name) known (name ∷ [])
     (or_left (bytes_eq name name) false (itself bytes_eq bytes_eq-Decides name))
 
-among_added : (known names : List (List ℕ)) → AreAmong names (with_more_names known names)
+pub among_added : (known names : List (List ℕ)) → AreAmong names (with_more_names known names)
 among_added known [] name h = absurd (false≢true h)
 among_added known (other ∷ names) name h = test_by (bytes_eq name other)
     (λ e. subst (λ (name : List ℕ). list_any (bytes_eq name) (with_more_names known (other ∷ names)) ≡ true)
@@ -123,7 +124,7 @@ among_added known (other ∷ names) name h = test_by (bytes_eq name other)
     (or_other (bytes_eq name other) (list_any (bytes_eq name) names) e h))
 
 -- procedures are globals
-procedures_among : (globals : List (List ℕ)) (first : ℕ) (D : List Declaration)
+pub procedures_among : (globals : List (List ℕ)) (first : ℕ) (D : List Declaration)
     → AreAmong (routine_names (routines_of globals first (procedures_of D))) (global_names D)
 procedures_among globals first [] name h = absurd (false≢true h)
 procedures_among globals first (Global place names ∷ D) name h =
@@ -163,7 +164,7 @@ routine_there name (r ∷ rs) n e =
     by false n o e h = at_later n o e h
 
 -- a name that has a place stands there
-placed_among : (name : List ℕ) (names : List (List ℕ)) (n : ℕ) → index_of name names ≡ Some n
+pub placed_among : (name : List ℕ) (names : List (List ℕ)) (n : ℕ) → index_of name names ≡ Some n
     → list_any (bytes_eq name) names ≡ true
 placed_among name [] n e = absurd (cc)
 placed_among name (other ∷ names) n e =
@@ -183,7 +184,7 @@ placed_among name (other ∷ names) n e =
 
 -- `main`
 
-procedure_of_start : (a b : Option ℕ) (c : Bool) (f : Option Func) → S.procedure_at (start_by a b c f) ≡ a
+pub procedure_of_start : (a b : Option ℕ) (c : Bool) (f : Option Func) → S.procedure_at (start_by a b c f) ≡ a
 procedure_of_start (Some n) b c f = refl
 procedure_of_start None (Some n) c f = refl
 procedure_of_start None None true f = refl
@@ -422,6 +423,21 @@ module _ (D : List Declaration) (csets : List Cset) (members : map members_of cs
       ∙ ap (λ names. S.record_name code (record_entry D k) ∷ names)
       (record_names ks (among_tail k.name (kind_names ks) (string_mentions D) h))
 
+  -- how many arguments these take
+  procedure_arguments : (rs : List Routine) → map M.routine_arguments rs ≡ map S.proc_arguments (map (procedure_entry D) rs)
+  procedure_arguments [] = refl
+  procedure_arguments (r ∷ rs) = ap (λ counts. M.routine_arguments r ∷ counts) (procedure_arguments rs)
+
+  record_arguments : (ks : List Constructor) → map M.kind_arguments ks ≡ map S.record_arguments (map (record_entry D) ks)
+  record_arguments [] = refl
+  record_arguments (k ∷ ks) =
+      ap (λ n. pos n ∷ map M.kind_arguments ks) (sym (length-map k.fields (text_index (fields_of D))))
+      ∙ ap (λ counts. S.record_arguments (record_entry D k) ∷ counts) (record_arguments ks)
+
+  abbrev names_with : List (List ℕ) → List (List ℕ) → List ℤ → List ℤ → Names
+  names_with procedures records taken fields =
+      record { procedures = procedures; records = records; arguments = taken ++ fields; hidden = (program_of D).hidden }
+
   -- `main` is the procedure of that name, if there is one
   abbrev main : List ℕ
   main = codes "main"
@@ -469,7 +485,7 @@ module _ (D : List Declaration) (csets : List Cset) (members : map members_of cs
   main_by_place None false t e = refl
   main_by_place (Some n) false t e = absurd (false≢true (sym t ∙ main_global n e))
 
-  main_same : S.main_of code ≡ index_of main (routine_names (routines D))
+  pub main_same : S.main_of code ≡ index_of main (routine_names (routines D))
   main_same = main_found (globals_of D) globals_in_strings
       ∙ main_by_place (index_of main (routine_names (routines D)))
       (list_any (λ name. bytes_eq name main) (globals_of D)) refl refl
@@ -486,10 +502,14 @@ module _ (D : List Declaration) (csets : List Cset) (members : map members_of cs
     globals = starts_same (globals_of D);
     statics = static_sum (procedure_entry D) (λ r. refl) (routines D);
     procs = sym (length-map (routines D) (procedure_entry D));
-    names = ap (λ names. record { procedures = names; records = kind_names (kinds_of D) })
+    names = ap (λ names. names_with names (kind_names (kinds_of D)) (map M.routine_arguments (routines D)) (map M.kind_arguments (kinds_of D)))
         (procedure_names (routines D) routines_in_strings)
-        ∙ ap (λ names. record { procedures = map (S.proc_name code) code.procs; records = names })
-        (record_names (kinds_of D) kinds_in_strings);
+        ∙ ap (λ names. names_with (map (S.proc_name code) code.procs) names (map M.routine_arguments (routines D)) (map M.kind_arguments (kinds_of D)))
+        (record_names (kinds_of D) kinds_in_strings)
+        ∙ ap (λ counts. names_with (map (S.proc_name code) code.procs) (map (S.record_name code) code.records) counts (map M.kind_arguments (kinds_of D)))
+        (procedure_arguments (routines D))
+        ∙ ap (λ counts. names_with (map (S.proc_name code) code.procs) (map (S.record_name code) code.records) (map S.proc_arguments code.procs) counts)
+        (record_arguments (kinds_of D));
     main = subst (λ place. OfMain L (index_of main (routine_names (routines D))) place) (sym main_same)
         (main_at (index_of main (routine_names (routines D))) refl);
   }

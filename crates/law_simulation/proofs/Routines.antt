@@ -134,12 +134,12 @@ ground_of program tables t = record {
 -- linked run of its code agree.
 pub first_law : (program : M.Program) (tables : Tables) (launch : Launch) (seen : Observation)
     → IsTranslated program tables → Begins (linkage program tables)
-    → (Means program launch seen → Linked.Runs (repeats_of tables) tables launch seen)
-    × (Linked.Runs (repeats_of tables) tables launch seen → Means program launch seen)
+    → (Means program launch seen → Linked.RunsHiding (repeats_of tables) program.hidden tables launch seen)
+    × (Linked.RunsHiding (repeats_of tables) program.hidden tables launch seen → Means program launch seen)
 first_law program tables launch seen t b = let G = ground_of program tables t in
     (means_runs G launch seen b, runs_means G launch seen b)
 
 -- and the run of a translated program misses no cell
 pub none_missing : (program : M.Program) (tables : Tables) (launch : Launch) → IsTranslated program tables
-    → Begins (linkage program tables) → MissingCell (repeats_of tables) tables launch → ⊥
+    → Begins (linkage program tables) → MissingCell (repeats_of tables) program.hidden tables launch → ⊥
 none_missing program tables launch t b x = none_missing_of (ground_of program tables t) launch b x

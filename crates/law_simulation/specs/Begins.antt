@@ -19,5 +19,5 @@ pub record Begins (L : Linkage) : Type 0 where
   pub globals : L.program.starts ≡ map (S.global_value L.tables) L.tables.globals
   pub statics : L.program.statics ≡ sum_by S.statics_of L.tables.procs
   pub procs : length L.program.routines ≡ length L.tables.procs
-  pub names : MP.names_of L.program ≡ S.all_names L.tables
+  pub names : MP.names_of L.program ≡ S.names_hiding L.program.hidden L.tables
   pub main : OfMain L (MP.index_of (codes "main") (MP.routine_names L.program.routines)) (S.main_of L.tables)

@@ -30,6 +30,18 @@ RunsLinked tables launch seen = Linked.Runs (repeats_of tables) tables launch se
 abbrev pub RunsFlat : Tables → Launch → Observation → Type 0
 RunsFlat tables launch seen = Flat.Runs tables launch seen
 
+-- the procedures of these files that are not kept, by their numbers
+abbrev pub dropped_procedures : List (List Declaration) → List ℕ
+dropped_procedures files = (program files).hidden
+
+-- the runs of this code in which no text names these procedures, on linked marks and on flat stacks
+abbrev pub RunsLinkedHiding : List ℕ → Tables → Launch → Observation → Type 0
+RunsLinkedHiding hidden tables launch seen = Linked.RunsHiding (repeats_of tables) hidden tables launch seen
+
+-- such a run of the code on flat stacks is observed so
+abbrev pub RunsFlatHiding : List ℕ → Tables → Launch → Observation → Type 0
+RunsFlatHiding hidden tables launch seen = Flat.RunsHiding hidden tables launch seen
+
 -- Broken off at one moment, what comes to some end leaves these streams so.
 pub record BrokenOff (Sees : Launch → Observation → Type 0) (launch : Launch)
     (before after : Streams) : Type 0

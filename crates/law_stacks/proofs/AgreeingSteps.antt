@@ -10,7 +10,8 @@ use Rattle.icn_code.specs.declared.instr.Instr.TheVariants as I
 use Rattle.icn_code.specs.Codes.{Proc as Procedure, RecordType}
 use Rattle.icn_run.specs.Rows.{Value, Null, Integer, Text, Chars, Procedure as ProcedureValue, ARecord, AList, ACoexp, Static, Local, Whole, Part, Item, Val, Var, Setting, World, Outside, Outcome, Fails, Gives, Suspends, Error, Ends, integer_of, number_of, again, apply, keyword_item, value_row, list_row, text_row, record_row, coexpression_row, words_row, record_at, Operation, Function, Ending}
 use Rattle.icn_run.specs.Calls.{Pair, Why, Alt, Op as Operating, Scan, Escan, Proc, MarkDrop, NoMark, Goes, Repeats, Outside as WithoutLabel, Calls}
-use Rattle.icn_run.specs.Step.{Program, Launch, Status, Fresh, Active, Waiting, Exhausted, Coexp, Store, State, running, failing, hopping, over, stuck, with_found, on_pair, turn_if, turn, steps, step, here, with_world, ended_by, errs, with_at, with_given, with_made, with_value, with_values, push_item, outcome, list_made, instrs_of, statics_before, with_pair, pair_now, scans_left, with_exchange, maybe_exchanged, swapped_back, all_left, coexp_at, status_of, activator_of, with_status, with_activator, make_active, fail_by, passed_failure, begun_by, give_by, passed_value, hop, exhaust_active, counted_result, result_given, is_main, is_create_body, with_new, coexp_made, refreshed_from, refresh, entered_by, entered_if, activation, enter_procedure, fill_nulls, collect_rest, with_parameters, called_if, call_procedure, construct_record, choose_item, pushed_or_fails, integer_called, Callee, IsProc, IsRecord, IsFunc, IsNothing, callee_of, callee_called, invoke_value, invoked_with, elements_called, applied_to_elements, field_index, field_taken, field_of, with_result, return_to, proc_fails, without_mark, mark_dropped, resume_by, resumed_or_dropped, fails, members_of, standing_of, with_popped, with_taken, unmark_then, limit_results, limited_result, scan_opened, initial_if, initial_done, activation_of, operate, field_applied, instruction, instruction_at, begun_if, start_of, start, first_store, main_of}
+use Rattle.icn_defs.specs.NamedValues.{named_by}
+use Rattle.icn_run.specs.Step.{Program, Launch, Status, Fresh, Active, Waiting, Exhausted, Coexp, Store, State, running, failing, hopping, over, stuck, with_found, on_pair, turn_if, turn, steps, step, here, with_world, ended_by, errs, with_at, with_given, with_made, with_value, with_values, push_item, outcome, list_made, instrs_of, statics_before, with_pair, pair_now, scans_left, with_exchange, maybe_exchanged, swapped_back, all_left, coexp_at, status_of, activator_of, with_status, with_activator, make_active, fail_by, passed_failure, begun_by, give_by, passed_value, hop, exhaust_active, counted_result, result_given, is_main, is_create_body, with_new, coexp_made, refreshed_from, refresh, entered_by, entered_if, activation, enter_procedure, fill_nulls, collect_rest, with_parameters, called_if, call_procedure, construct_record, choose_item, pushed_or_fails, integer_called, named_called, Callee, IsProc, IsRecord, IsFunc, IsNothing, callee_of, callee_called, invoke_value, invoked_with, elements_called, applied_to_elements, field_index, field_taken, field_of, with_result, return_to, proc_fails, without_mark, mark_dropped, resume_by, resumed_or_dropped, fails, members_of, standing_of, with_popped, with_taken, unmark_then, limit_results, limited_result, scan_opened, initial_if, initial_done, activation_of, operate, field_applied, instruction, instruction_at, begun_if, start_of, start_hiding, first_store_hiding, main_of}
 use Rattle.icn_defs.specs.Errors.{ends_run}
 use Rattle.icn_defs.specs.KeptSizes.{KeepsIn}
 use Rattle.icn_defs.proofs.OnErrors.{on_both, fatal_ends}
@@ -453,11 +454,6 @@ module _ {K M K' M' : Type 0} (C' : Calls K' M') (C : Calls K M) (P : Program) (
   a_or_fails (Some item) m' m st ks' h = p_push item m' m st ks' h
   a_or_fails None m' m st ks' h = same_failing st ks' h
 
-  a_integer : (v : Value) (o : Option ℤ) (items : List Item) (m' : M') (m : M) (st : Store K) (ks' : List (Coexp K')) → Rd st.active m' m ks' st.coexps
-      → SameAs (integer_called C' v o items m' (lift st ks')) (integer_called C v o items m st)
-  a_integer v (Some k) items m' m st ks' h = a_or_fails (choose_item k items) m' m st ks' h
-  a_integer v None items m' m st ks' h = w_errs 106 (Some v) m' m st ks' h
-
   a_callee : (c : Callee) (k : ℕ) (items : List Item) (m' : M') (m : M) (st : Store K) (ks' : List (Coexp K')) → Rd st.active m' m ks' st.coexps
       → SameAs (callee_called C' c k items m' (lift st ks')) (callee_called C c k items m st)
   a_callee (IsProc entry) k items m' m st ks' h = w_values items m' m st ks' h (λ vs. call_procedure C' k entry vs m' (lift st ks'))
@@ -466,6 +462,16 @@ module _ {K M K' M' : Type 0} (C' : Calls K' M') (C : Calls K M) (P : Program) (
       (λ vs. construct_record C kind entry vs m st) (λ vs. a_constructed kind entry vs m' m st ks' h)
   a_callee (IsFunc func) k items m' m st ks' h = w_outcome (apply st.names (Function func) items) (keep.applied st.names (Function func) items) m' m st ks' h
   a_callee IsNothing k items m' m st ks' h = w_errs 106 (Some (ProcedureValue k)) m' m st ks' h
+
+  a_named : (v : Value) (o : Option ℕ) (items : List Item) (m' : M') (m : M) (st : Store K) (ks' : List (Coexp K')) → Rd st.active m' m ks' st.coexps
+      → SameAs (named_called C' P v o items m' (lift st ks')) (named_called C P v o items m st)
+  a_named v (Some k) items m' m st ks' h = a_callee (callee_of P k) k items m' m st ks' h
+  a_named v None items m' m st ks' h = w_errs 106 (Some v) m' m st ks' h
+
+  a_integer : (v : Value) (o : Option ℤ) (items : List Item) (m' : M') (m : M) (st : Store K) (ks' : List (Coexp K')) → Rd st.active m' m ks' st.coexps
+      → SameAs (integer_called C' P v o items m' (lift st ks')) (integer_called C P v o items m st)
+  a_integer v (Some k) items m' m st ks' h = a_or_fails (choose_item k items) m' m st ks' h
+  a_integer v None items m' m st ks' h = a_named v (named_by st.names v) items m' m st ks' h
 
   a_invoked : (v : Value) (items : List Item) (m' : M') (m : M) (st : Store K) (ks' : List (Coexp K')) → Rd st.active m' m ks' st.coexps
       → SameAs (invoke_value C' P v items m' (lift st ks')) (invoke_value C P v items m st)
@@ -1037,8 +1043,9 @@ module _ {K M K' M' : Type 0} (C' : Calls K' M') (C : Calls K M) (P : Program) (
         st.world.heap.bounds.levels) main entry (list ∷ []) m st) (λ list m st. begun_if C (nat_le 1 st.world.heap.bounds.levels) main entry (list ∷ []) m st)
         (λ v a' a seen q. s_begun_if (nat_le 1 seen.world.heap.bounds.levels) main entry (v ∷ []) a' a (with_at seen st) ks' q r))
 
-    pub same_start : (launch : Launch) (m' : M') (m : M) → Blank m' m → SameAs (start C' m' P launch) (start C m P launch)
-    same_start launch m' m h = s_start launch.words m' m (first_store P launch)
+    pub same_start : (hidden : List ℕ) (launch : Launch) (m' : M') (m : M) → Blank m' m
+        → SameAs (start_hiding C' m' P hidden launch) (start_hiding C m P hidden launch)
+    same_start hidden launch m' m h = s_start launch.words m' m (first_store_hiding P hidden launch)
         (record { status = Active; activator = 0; values = []; proc = 0; address = 0 } ∷ []) h (alike Active Active 0 [] 0 0 tt, tt) (main_of P)
 
   -- Runs

@@ -10,7 +10,7 @@ use Rattle.icn_run.specs.Rows.{Value, Outcome, Fails, Gives, Suspends, Error, En
 use Rattle.icn_code.specs.Codes.{Proc as Procedure}
 use Rattle.icn_run.specs.Calls.{Calls}
 use Rattle.law_stacks.specs.SameStates.{IsMade}
-use Rattle.icn_run.specs.Step.{Program, Launch, Store, State, running, failing, hopping, over, stuck, with_found, passed_failure, activator_of, instruction, instruction_at, step, start, start_of, first_store, main_of, with_made, here, with_at, begun_if, collect_rest, fill_nulls}
+use Rattle.icn_run.specs.Step.{Program, Launch, Store, State, running, failing, hopping, over, stuck, with_found, passed_failure, activator_of, instruction, instruction_at, step, start_hiding, start_of, first_store_hiding, main_of, with_made, here, with_at, begun_if, collect_rest, fill_nulls}
 use Rattle.law_stacks.specs.Measure.{worth, Weighs, Fits, FitsStore, IsForward, Forward, Falls, Later, Sound, EndsFrom}
 use Rattle.law_stacks.proofs.RowsKeep.{rows_keep}
 use Rattle.law_stacks.proofs.StepsFall.{IsForwardFrom, worth_next, when_found, Allows, there, turned, TurnOf, instruction_lighter, failing_lighter, activator_lighter}
@@ -146,15 +146,19 @@ module _ {K M : Type 0} (C : Calls K M) (N : ℕ) (W : Weighs C N) (P : Program)
       (λ v a st' h'. s_begun (nat_le 1 st'.world.heap.bounds.levels) main entry (v ∷ []) a st' h'))
 
   -- each run ends
-  pub ends_by : (m : M) (launch : Launch) → launch.bounds.turns ≡ B → Kept (start C m P launch) → EndsFrom C P (start C m P launch)
-  ends_by m launch e kept = run_ends (start C m P launch) (start_sound launch.words m (first_store P launch) (main_of P) (((tt, tt), e), omega arith)) kept
+  pub ends_by : (m : M) (hidden : List ℕ) (launch : Launch) → launch.bounds.turns ≡ B → Kept (start_hiding C m P hidden launch)
+      → EndsFrom C P (start_hiding C m P hidden launch)
+  ends_by m hidden launch e kept =
+      run_ends (start_hiding C m P hidden launch)
+      (start_sound launch.words m (first_store_hiding P hidden launch) (main_of P) (((tt, tt), e), omega arith)) kept
 
 -- where all labels go forward, nothing needs to be kept
-pub ends_by_bound : {K M : Type 0} (C : Calls K M) (N : ℕ) (W : Weighs C N) (P : Program) (B : ℕ) → Forward N P → (m : M) (launch : Launch)
+pub ends_by_bound : {K M : Type 0} (C : Calls K M) (N : ℕ) (W : Weighs C N) (P : Program) (B : ℕ) → Forward N P → (m : M) (hidden : List ℕ)
+    (launch : Launch)
     → launch.bounds.turns ≡ B
-    → EndsFrom C P (start C m P launch)
-ends_by_bound C N W P B code m launch e = ends_by C N W P B (λ s. Unit {0}) (record {
+    → EndsFrom C P (start_hiding C m P hidden launch)
+ends_by_bound C N W P B code m hidden launch e = ends_by C N W P B (λ s. Unit {0}) (record {
   on = λ s kept. tt;
   within = λ m st kept i q. code.within (C.proc m) (C.address m) i q;
   forward = λ m st kept i q. code.forward (C.proc m) (C.address m) i q;
-}) m launch e tt
+}) m hidden launch e tt

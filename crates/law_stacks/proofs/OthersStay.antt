@@ -10,9 +10,10 @@ use Rattle.icn_code.specs.declared.instr.Instr.TheVariants as I
 use Rattle.icn_code.specs.Codes.{Proc as Procedure}
 use Rattle.icn_run.specs.Rows.{Value, Null, Integer, Text, Chars, Procedure as ProcedureValue, ARecord, AList, ACoexp, Local, Field, Whole, Part, Item, Val, Var, Outcome, Fails, Gives, Suspends, Error, Ends, Operation, Function, apply, again, value_row, list_row, record_row, text_row, coexpression_row, integer_of, number_of, keyword_item, list_at, record_at}
 use Rattle.icn_run.specs.Calls.{Pair, Why, Alt, Op as Operating, Scan, Escan, Proc, MarkDrop, NoMark, Goes, Repeats, Outside as WithoutLabel, Calls}
-use Rattle.icn_run.specs.Step.{Program, Fresh, Coexp, Store, State, running, failing, hopping, over, stuck, with_found, on_pair, errs, turn_if, turn, here, with_at, with_given, with_made, with_value, with_values, push_item, outcome, list_made, pair_now, with_pair, scans_left, with_exchange, maybe_exchanged, swapped_back, all_left, is_main, is_create_body, with_new, coexp_made, refreshed_from, refresh, fill_nulls, enter_procedure, collect_rest, with_parameters, called_if, call_procedure, construct_record, pushed_or_fails, integer_called, choose_item, Callee, IsProc, IsRecord, IsFunc, IsNothing, callee_of, callee_called, invoke_value, invoked_with, plain, elements_called, applied_to_elements, field_index, field_taken, field_of, field_applied, with_result, finish_run, return_to, proc_fails, without_mark, mark_dropped, resume_by, resumed_or_dropped, fails, members_of, standing_of, with_popped, with_taken, unmark_then, limit_results, limited_result, scan_opened, initial_if, operate, statics_before, instruction, instruction_at, step}
+use Rattle.icn_defs.specs.NamedValues.{named_by}
+use Rattle.icn_run.specs.Step.{Program, Fresh, Coexp, Store, State, running, failing, with_found, on_pair, errs, turn_if, turn, here, with_at, with_given, with_made, with_value, with_values, push_item, outcome, list_made, pair_now, with_pair, scans_left, with_exchange, maybe_exchanged, swapped_back, all_left, is_main, is_create_body, with_new, coexp_made, refreshed_from, refresh, fill_nulls, enter_procedure, collect_rest, called_if, call_procedure, construct_record, pushed_or_fails, integer_called, named_called, choose_item, Callee, IsProc, IsRecord, IsFunc, IsNothing, callee_of, callee_called, invoke_value, invoked_with, plain, elements_called, applied_to_elements, field_index, field_taken, field_of, field_applied, with_result, return_to, proc_fails, without_mark, mark_dropped, resume_by, resumed_or_dropped, standing_of, unmark_then, limit_results, limited_result, scan_opened, initial_if, operate, instruction}
 use Rattle.icn_run.proofs.Errors.{at_error}
-use Rattle.law_stacks.specs.OthersStay.{is_transfer, IsNew, IsMadeAgain, Adds, AddsNone, Stay, StayIn, is_no_mark, EndsBody, OthersStay}
+use Rattle.law_stacks.specs.OthersStay.{is_transfer, IsNew, IsMadeAgain, Adds, AddsNone, Stay, StayIn, is_no_mark, OthersStay}
 
 module _ {K M : Type 0} (C : Calls K M) (P : Program) (IsAdded : Coexp K → Type 0) (before : Store K) where
   abbrev Q : State K M → Type 0
@@ -107,9 +108,13 @@ module _ {K M : Type 0} (C : Calls K M) (P : Program) (IsAdded : Coexp K → Typ
   q_one (Some item) m st h = stay st h
   q_one None m st h = stay st h
 
-  q_integer : (callee : Value) (o : Option ℤ) (items : List Item) (m : M) (st : Store K) → Same st → Q (integer_called C callee o items m st)
+  q_named : (callee : Value) (o : Option ℕ) (items : List Item) (m : M) (st : Store K) → Same st → Q (named_called C P callee o items m st)
+  q_named callee (Some n) items m st h = q_callee (callee_of P n) n items m st h
+  q_named callee None items m st h = q_errs 106 (Some callee) m st h
+
+  q_integer : (callee : Value) (o : Option ℤ) (items : List Item) (m : M) (st : Store K) → Same st → Q (integer_called C P callee o items m st)
   q_integer callee (Some k) items m st h = q_one (choose_item k items) m st h
-  q_integer callee None items m st h = q_errs 106 (Some callee) m st h
+  q_integer callee None items m st h = q_named callee (named_by st.names callee) items m st h
 
   q_invoked : (callee : Value) (items : List Item) (m : M) (st : Store K) → Same st → Q (invoke_value C P callee items m st)
   q_invoked (ProcedureValue n) items m st h = q_callee (callee_of P n) n items m st h

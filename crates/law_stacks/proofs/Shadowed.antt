@@ -1,5 +1,5 @@
 -- States of the run on linked marks that a run on flat stacks follows: all that a run comes to.
-use Rattle.std.proofs.Common.{ℕ, suc, Bool}
+use Rattle.std.proofs.Common.{ℕ, suc, Bool, List}
 use Rattle.icn_code.specs.Codes.{Tables}
 use Rattle.icn_run.specs.Stacks.{Frames, flat}
 use Rattle.icn_run.specs.Chains.{WaitingChain, LinkedStack, linked_calls}
@@ -25,8 +25,9 @@ module _ (repeats : ℕ → ℕ → Bool) (tables : Tables) where
     pub shadow : State Frames Frames
     pub same : Sames l shadow
 
-  pub shadowed_start : (launch : Launch) → Shadowed (L.start repeats Q launch)
-  shadowed_start launch = record { shadow = F.start Q launch; same = starts_same rows_keep repeats tables launch (Unit {0}) }
+  pub shadowed_start : (hidden : List ℕ) (launch : Launch) → Shadowed (L.start_hiding repeats Q hidden launch)
+  shadowed_start hidden launch =
+      record { shadow = F.start_hiding Q hidden launch; same = starts_same rows_keep repeats hidden tables launch (Unit {0}) }
 
   pub shadowed_step : (l : State WaitingChain LinkedStack) → Shadowed l → Shadowed (step (linked_calls repeats) Q l)
   shadowed_step l g =

@@ -10,7 +10,8 @@ use Rattle.icn_code.specs.Codes.{Proc as Procedure}
 use Rattle.icn_text.specs.declared.op.Op.{Op}
 use Rattle.icn_run.specs.Rows.{Value, Null, Integer, Text, Chars, Procedure as ProcedureValue, ARecord, AList, ACoexp, Local, Whole, Part, Item, Val, Var, Setting, Outside, Outcome, Fails, Gives, Suspends, Error, Ends, Operation, Function, Ending, apply, again, keyword_item, value_row, list_row, text_row, record_row, coexpression_row, integer_of, number_of, record_at}
 use Rattle.icn_run.specs.Calls.{Pair, Why, Alt, Op as Operating, Scan, Escan, Proc, MarkDrop, NoMark, Goes, Repeats, Outside as WithoutLabel, Calls}
-use Rattle.icn_run.specs.Step.{Program, Status, Fresh, Active, Waiting, Exhausted, Coexp, Store, State, running, failing, hopping, over, stuck, with_found, errs, turn_if, turn, here, with_at, with_given, with_made, with_value, with_values, push_item, outcome, list_made, with_pair, pair_now, scans_left, with_exchange, maybe_exchanged, swapped_back, all_left, coexp_at, status_of, activator_of, with_status, with_activator, fail_by, passed_failure, give_by, passed_value, exhaust_active, counted_result, result_given, is_main, is_create_body, with_new, coexp_made, refreshed_from, refresh, entered_by, entered_if, activation, fill_nulls, collect_rest, called_if, choose_item, pushed_or_fails, integer_called, Callee, IsProc, IsRecord, IsFunc, IsNothing, callee_of, callee_called, invoke_value, invoked_with, elements_called, applied_to_elements, field_index, field_taken, field_of, with_result, return_to, without_mark, mark_dropped, resume_by, resumed_or_dropped, fails, members_of, standing_of, with_popped, with_taken, unmark_then, limit_results, limited_result, scan_opened, initial_if, activation_of, operate, field_applied, instruction}
+use Rattle.icn_defs.specs.NamedValues.{named_by}
+use Rattle.icn_run.specs.Step.{Program, Status, Fresh, Active, Waiting, Exhausted, Coexp, Store, State, running, failing, hopping, over, stuck, with_found, errs, turn_if, turn, here, with_at, with_given, with_made, with_value, with_values, push_item, outcome, list_made, with_pair, pair_now, scans_left, with_exchange, maybe_exchanged, swapped_back, all_left, coexp_at, status_of, activator_of, with_status, with_activator, fail_by, passed_failure, give_by, passed_value, exhaust_active, counted_result, result_given, is_main, is_create_body, with_new, coexp_made, refreshed_from, refresh, entered_by, entered_if, activation, fill_nulls, collect_rest, called_if, choose_item, pushed_or_fails, integer_called, named_called, Callee, IsProc, IsRecord, IsFunc, IsNothing, callee_of, callee_called, invoke_value, invoked_with, elements_called, applied_to_elements, field_index, field_taken, field_of, with_result, return_to, without_mark, mark_dropped, resume_by, resumed_or_dropped, fails, members_of, standing_of, with_popped, with_taken, unmark_then, limit_results, limited_result, scan_opened, initial_if, activation_of, operate, field_applied, instruction}
 use Rattle.icn_defs.specs.KeptSizes.{KeepsSizes, KeepsIn}
 use Rattle.icn_run.proofs.Errors.{kept_in, at_error}
 use Rattle.law_stacks.proofs.RowsKeep.{rows_keep}
@@ -254,9 +255,13 @@ module _ {K M : Type 0} (C : Calls K M) (N : ℕ) (W : Weighs C N) (P : Program)
   a_or_fails (Some item) m st h = a_push item m st h
   a_or_fails None m st h = h
 
-  a_integer : (v : Value) (o : Option ℤ) (items : List Item) (m : M) (st : Store K) → Ready m st → A (integer_called C v o items m st)
+  a_named : (v : Value) (o : Option ℕ) (items : List Item) (m : M) (st : Store K) → Ready m st → A (named_called C P v o items m st)
+  a_named v (Some k) items m st h = a_callee (callee_of P k) k items m st h
+  a_named v None items m st h = a_errs 106 (Some v) m st h
+
+  a_integer : (v : Value) (o : Option ℤ) (items : List Item) (m : M) (st : Store K) → Ready m st → A (integer_called C P v o items m st)
   a_integer v (Some k) items m st h = a_or_fails (choose_item k items) m st h
-  a_integer v None items m st h = a_errs 106 (Some v) m st h
+  a_integer v None items m st h = a_named v (named_by st.names v) items m st h
 
   a_invoked : (v : Value) (items : List Item) (m : M) (st : Store K) → Ready m st → A (invoke_value C P v items m st)
   a_invoked (ProcedureValue k) items m st h = a_callee (callee_of P k) k items m st h

@@ -51,6 +51,6 @@ rows_keep_counts = record {
   values = λ items next a f. values_come (counts_law a.world.heap) items next a (self a) (any_of_items items) (λ vs g. f vs);
   functions = λ names func vs a.
       function_comes (counts_law a.world.heap) names func vs a (self a) (any_each vs)
-      (λ e. any_copy (counts_law a.world.heap) (λ xs id. tt) a.world.heap (value_at vs 0));
+      (λ e. any_copy (counts_law a.world.heap) (λ xs id. tt) a.world.heap (value_at vs 0)) (λ e number is. tt);
   resumed = λ rest a. resumed_comes (counts_law a.world.heap) rest a (λ e s h. h) (self a) (any_of_residual rest);
 }

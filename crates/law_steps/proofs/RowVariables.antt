@@ -50,7 +50,7 @@ rows_keep_variables = record {
   functions = λ names func items a.
       values_come (variables_law a.world) items (function_of names func) a (self a) (any_of_items items)
       (λ vs g. function_comes (variables_law a.world) names func vs a (self a) g
-      (λ e. any_copy (variables_law a.world) (λ xs id. tt) a.world.heap (value_at vs 0)));
+      (λ e. any_copy (variables_law a.world) (λ xs id. tt) a.world.heap (value_at vs 0)) (λ e number is. tt));
   resumed = λ rest a. resumed_comes (variables_law a.world) rest a (λ e s h. h) (self a) (any_of_residual rest);
   lists = λ vs a. list_comes (variables_law a.world) vs a (self a) (any_each vs);
   records = λ kind vs a. record_comes (variables_law a.world) kind vs a (self a) tt;

@@ -11,6 +11,7 @@ use Rattle.icn_value.specs.Store.{KeptError, Names, Setting}
 use Rattle.icn_code.specs.declared.instr.Instr.{Instr}
 use Rattle.icn_code.specs.declared.instr.Instr.TheVariants as I
 use Rattle.icn_code.specs.Codes.{Tables, Proc as Procedure, RecordType}
+use Rattle.icn_defs.specs.NamedValues.{named_by}
 use Rattle.icn_defs.specs.Arities.{arity}
 use Rattle.icn_defs.specs.Applying.{again}
 use Rattle.icn_defs.specs.Conversions.{integer_of}
@@ -24,11 +25,12 @@ use Rattle.law_names.specs.RowsNamed.{OutcomeNamed, RowsKeepNames}
 use Rattle.icn_run.specs.Calls.{Why, Alt, Op as Operating, Scan, Escan, Proc, MarkDrop, NoMark, Goes, Repeats, Outside as WithoutLabel}
 use Rattle.icn_run.specs.Stacks as flats
 use Rattle.icn_run.specs.Stacks.{Frames, flat}
+use Rattle.icn_run.proofs.NamedCallees.{name_is, named_is}
 use Rattle.icn_run.specs.Step as S
 use Rattle.icn_run.specs.Step.{Status, Fresh, Active, Waiting, Exhausted, Coexp, Store, State, running, failing, hopping, over, stuck, Callee, IsProc, IsRecord, IsFunc, IsNothing}
 use Rattle.icn_run.proofs.Errors.{at_error}
 use Rattle.law_steps.specs.StateNames.{CoexpNamed, StackNamed, StateNamed, StatusNamed, StoreNamed, WhyNamed}
-use Rattle.law_steps.specs.KeepingNames.{FunctionNamed, MayCall, StepsKeepNames}
+use Rattle.law_steps.specs.KeepingNames.{CalleeNamed, FunctionNamed, MayCall, StepsKeepNames}
 use Rattle.law_steps.proofs.CallsNamed as C
 use Rattle.law_rows.proofs.EachOfList.{Each, each_of, all_of, each_append, each_drop, each_index, each_replicate, each_set, each_take}
 use Rattle.law_steps.proofs.CallsNamed.{IfThere, each_get}
@@ -371,11 +373,6 @@ module _ (rows : RowsKeepNames) (P : Tables) where
   argument (Some zero) xs h = tt
   argument (Some (suc n)) xs h = each_get X xs n h
 
-  integer_called : (f : Value) (o : Option ℤ) (xs : List Item) (m : Frames) (st : Store Frames) → NamedValue f → Each X xs → NamedStack m → K st
-      → G (S.integer_called flat f o xs m st)
-  integer_called f (Some n) xs m st b a h k = pushed_or_fails (S.choose_item n xs) m st (argument _ xs a) h k
-  integer_called f None xs m st b a h k = erred 106 (Some f) m st (b, refl) h k
-
   -- a callee that is a record is one of the tables
   abbrev Within : ℕ → Callee → Type 0
   Within n (IsRecord kind entry) = kind < n
@@ -415,19 +412,34 @@ module _ (rows : RowsKeepNames) (P : Tables) where
   callee_called (IsFunc func) n xs m st w f b a h k = outcome (apply st.names (Function func) xs (S.here flat m st)) m st (f func refl) h k
   callee_called IsNothing n xs m st w f b a h k = erred 106 (Some (ProcedureValue n)) m st (b, refl) h k
 
-  invoked : (f : Value) (xs : List Item) (m : Frames) (st : Store Frames) → FunctionNamed P f xs m st → NamedValue f → Each X xs → NamedStack m → K st
-      → G (S.invoke_value flat P f xs m st)
-  invoked (ProcedureValue n) xs m st f b a h k = callee_called (S.callee_of P n) n xs m st (callees n P.procs P.records) (λ func e. f n func refl e) b a h k
-  invoked Null xs m st f b a h k = integer_called Null (number_of Null) xs m st b a h k
-  invoked (Integer n) xs m st f b a h k = integer_called (Integer n) (number_of (Integer n)) xs m st b a h k
-  invoked (Text t) xs m st f b a h k = integer_called (Text t) (number_of (Text t)) xs m st b a h k
-  invoked (Chars c) xs m st f b a h k = integer_called (Chars c) (number_of (Chars c)) xs m st b a h k
-  invoked (Std c) xs m st f b a h k = integer_called (Std c) (number_of (Std c)) xs m st b a h k
-  invoked (ARecord n) xs m st f b a h k = integer_called (ARecord n) (number_of (ARecord n)) xs m st b a h k
-  invoked (AList n) xs m st f b a h k = integer_called (AList n) (number_of (AList n)) xs m st b a h k
-  invoked (ASet n) xs m st f b a h k = integer_called (ASet n) (number_of (ASet n)) xs m st b a h k
-  invoked (ATable n) xs m st f b a h k = integer_called (ATable n) (number_of (ATable n)) xs m st b a h k
-  invoked (ACoexp n) xs m st f b a h k = integer_called (ACoexp n) (number_of (ACoexp n)) xs m st b a h k
+  named_called : (f : Value) (o : Option ℕ) (xs : List Item) (m : Frames) (st : Store Frames)
+      → ((n : ℕ) (func : Func) → o ≡ Some n → S.callee_of P n ≡ IsFunc func → OutcomeNamed ns (apply st.names (Function func) xs (S.here flat m st)))
+      → ((n : ℕ) → o ≡ Some n → NamedValue (ProcedureValue n)) → NamedValue f → Each X xs → NamedStack m → K st
+      → G (S.named_called flat P f o xs m st)
+  named_called f (Some n) xs m st w v b a h k =
+      callee_called (S.callee_of P n) n xs m st (callees n P.procs P.records) (λ func e. w n func refl e) (v n refl) a h k
+  named_called f None xs m st w v b a h k = erred 106 (Some f) m st (b, refl) h k
+
+  integer_called : (f : Value) (o : Option ℤ) (xs : List Item) (m : Frames) (st : Store Frames) → number_of f ≡ o → FunctionNamed P f xs m st
+      → CalleeNamed P f st → NamedValue f → Each X xs → NamedStack m → K st → G (S.integer_called flat P f o xs m st)
+  integer_called f (Some n) xs m st e w v b a h k = pushed_or_fails (S.choose_item n xs) m st (argument _ xs a) h k
+  integer_called f None xs m st e w v b a h k = named_called f (named_by st.names f) xs m st
+      (λ n func i c. w n func (named_is st.names f n e i) c) (λ n i. v n (name_is st.names f n e i)) b a h k
+
+  invoked : (f : Value) (xs : List Item) (m : Frames) (st : Store Frames) → FunctionNamed P f xs m st → CalleeNamed P f st → NamedValue f → Each X xs
+      → NamedStack m → K st → G (S.invoke_value flat P f xs m st)
+  invoked (ProcedureValue n) xs m st w v b a h k =
+      callee_called (S.callee_of P n) n xs m st (callees n P.procs P.records) (λ func e. w n func refl e) b a h k
+  invoked Null xs m st w v b a h k = integer_called Null (number_of Null) xs m st refl w v b a h k
+  invoked (Integer n) xs m st w v b a h k = integer_called (Integer n) (number_of (Integer n)) xs m st refl w v b a h k
+  invoked (Text t) xs m st w v b a h k = integer_called (Text t) (number_of (Text t)) xs m st refl w v b a h k
+  invoked (Chars c) xs m st w v b a h k = integer_called (Chars c) (number_of (Chars c)) xs m st refl w v b a h k
+  invoked (Std c) xs m st w v b a h k = integer_called (Std c) (number_of (Std c)) xs m st refl w v b a h k
+  invoked (ARecord n) xs m st w v b a h k = integer_called (ARecord n) (number_of (ARecord n)) xs m st refl w v b a h k
+  invoked (AList n) xs m st w v b a h k = integer_called (AList n) (number_of (AList n)) xs m st refl w v b a h k
+  invoked (ASet n) xs m st w v b a h k = integer_called (ASet n) (number_of (ASet n)) xs m st refl w v b a h k
+  invoked (ATable n) xs m st w v b a h k = integer_called (ATable n) (number_of (ATable n)) xs m st refl w v b a h k
+  invoked (ACoexp n) xs m st w v b a h k = integer_called (ACoexp n) (number_of (ACoexp n)) xs m st refl w v b a h k
 
   field_taken : (o : Option ℕ) (n : ℕ) (m : Frames) (st : Store Frames) → NamedStack m → K st → G (S.field_taken flat o n m st)
   field_taken (Some place) n m st h k = ((record { named = tt }, h), k)
@@ -758,6 +770,6 @@ steps_named rows = record {
   values = λ P xs m st go a h k f.
       state_out rows P _ (values rows P xs m st go (each_of (ItemNamed (S.all_names P)) xs a) (C.stack_in (S.all_names P) m h) (store_in rows P st k)
       (λ vs b. state_in rows P (go vs) (f vs (all_of (ValueNamed (S.all_names P)) vs b))));
-  called = λ P f xs m st n b a h k.
-      state_out rows P _ (invoked rows P f xs m st n b (each_of (ItemNamed (S.all_names P)) xs a) (C.stack_in (S.all_names P) m h) (store_in rows P st k));
+  called = λ P f xs m st n v b a h k.
+      state_out rows P _ (invoked rows P f xs m st n v b (each_of (ItemNamed (S.all_names P)) xs a) (C.stack_in (S.all_names P) m h) (store_in rows P st k));
 }

@@ -1,9 +1,10 @@
 -- What a step of the run of a code leaves has each record as long as its kind, where the state before had.
-use Rattle.std.specs.Prelude.{◌≡◌, ℕ, List, length, slice_get}
+use Rattle.std.specs.Prelude.{◌≡◌, ℕ, List, length, slice_get, Some}
 use Rattle.std.specs.Option.{option_map_or}
 use Rattle.icn_text.specs.declared.func.Func.{Func}
-use Rattle.icn_value.specs.Values.{Item, Procedure, Value}
+use Rattle.icn_value.specs.Values.{Item, Value}
 use Rattle.icn_defs.specs.Rows.{Outcome}
+use Rattle.icn_defs.specs.Running.{callee_number}
 use Rattle.icn_defs.specs.StepRows.{Function, apply}
 use Rattle.icn_code.specs.declared.instr.Instr.{Instr}
 use Rattle.icn_code.specs.Codes.{RecordType, Tables}
@@ -33,10 +34,10 @@ StateFits tables stuck = Unit {0}
 abbrev pub OutcomeFits : Tables → Outcome → Type 0
 OutcomeFits tables answer = FitSizes (field_count tables) (heap_after answer)
 
--- where what is called is a function, what it comes to is so
+-- where what is called is a function, or names one, what it comes to is so
 abbrev pub FunctionFits : Tables → Value → List Item → Frames → Store Frames → Type 0
 FunctionFits tables callee items m st =
-    (n : ℕ) (func : Func) → callee ≡ Procedure n → callee_of tables n ≡ IsFunc func
+    (n : ℕ) (func : Func) → callee_number st.names callee ≡ Some n → callee_of tables n ≡ IsFunc func
     → OutcomeFits tables (apply st.names (Function func) items (here flat m st))
 
 -- By parts of the steps. Of functions nothing is said here, as of their names: one that copies a record may be given one that is not there.

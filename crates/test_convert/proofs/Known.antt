@@ -1,7 +1,6 @@
 -- The names of the test's program, and heaps whose records have names.
-use Rattle.std.proofs.Common.{◌≡◌, ◌∙◌, refl, sym, ap, ℕ, suc, ◌+◌, ◌<◌, nat_le, Bool, true, false, List, [], ◌∷◌, ◌++◌, map, length, get_or, Result, Ok, Err, arith}
+use Rattle.std.proofs.Common.{◌≡◌, ◌∙◌, refl, sym, ap, ℕ, suc, ◌+◌, ◌<◌, nat_le, ℤ, pos, Bool, true, false, List, [], ◌∷◌, ◌++◌, map, length, get_or, Ok, Err}
 use Rattle.std.specs.Prelude.{if◌then◌else◌}
-use Rattle.std.specs.List.{All}
 use Rattle.std.proofs.lemmas.List.{get_or-map}
 use Rattle.std.proofs.lemmas.List.Elements.{All-nil, All-push}
 use Rattle.std.proofs.lemmas.Option.{unwrap_or-slice_get}
@@ -14,6 +13,7 @@ use Rattle.icn_value.specs.Limited.{Bounds}
 use Rattle.icn_value.specs.Store.{Heap, Record}
 use Rattle.icn_value.specs.Changes.{ChangedHeap, and_then, charged_cells, having_list, having_record, having_set, having_table, made_list, made_record, made_set, made_table}
 use Rattle.icn_defs.specs.Images.{functions, procedure_name}
+use Rattle.icn_defs.specs.NamedValues.{arguments_of, function_arguments}
 use Rattle.icn_convert.specs.ProgramNames.{AreRecordsNamed}
 use Rattle.icn_heap.specs.Heaps.{empty_heap}
 use Rattle.test_convert.specs.SomeNames.{some_names}
@@ -23,6 +23,13 @@ pub function_by : (number place : ℕ) (other : Func) (name : List ℕ) → numb
     → name ≡ func_name (get_or functions place other) → name ≡ procedure_name some_names number
 function_by number place other name is low named =
     rw is (named ∙ (sym (get_or-map func_name functions place other [] low) ∙ sym (unwrap_or-slice_get (map func_name functions) place [])))
+
+-- how many arguments it takes
+pub arguments_by : (number place : ℕ) (other : Func) (count : ℤ) → number ≡ suc (suc (suc place)) → place < length functions
+    → count ≡ function_arguments (get_or functions place other) → count ≡ arguments_of some_names number
+arguments_by number place other count is low counted =
+    rw is (counted ∙ (sym (get_or-map function_arguments functions place other (pos 0) low)
+    ∙ sym (unwrap_or-slice_get (map function_arguments functions) place (pos 0))))
 
 -- the records of a heap once a structure is made
 records_by : (change : Heap → Heap) (more : List Record → List Record) → ((heap : Heap) → (change heap).records ≡ more heap.records)

@@ -57,7 +57,7 @@ fn is_named(val: Val) -> bool
         Val::Text(_) => true,
         Val::Chars(_) => true,
         Val::Std(_) => true,
-        Val::Proc(number) => number < 54,
+        Val::Proc(number) => number < 59,
         Val::Rec(_) => true,
         Val::List(_) => true,
         Val::Set(_) => true,

@@ -1,13 +1,21 @@
 // A program with a procedure and two records.
 use icn_convert::{Names, ProcKind};
+use icn_defs::function_arguments;
 use icn_text::Func;
 
 pub struct SomeNames;
 
 impl Names for SomeNames {
+    ghost use Rattle.std.specs.Prelude.{refl};
     ghost use Rattle.test_convert.specs.SomeNames.{some_names};
 
     ghost known = { λ names. some_names };
+
+    ghost none_hidden = { λ names. refl };
+
+    fn count(&self) -> u32 {
+        Func::ALL.len() as u32 + 3
+    }
 
     fn proc(&self, number: u32) -> &[u8] {
         match number {
@@ -15,6 +23,15 @@ impl Names for SomeNames {
             1 => b"p",
             2 => b"q",
             _ => Func::ALL[number as usize - 3].name(),
+        }
+    }
+
+    fn arguments(&self, number: u32) -> i64 {
+        match number {
+            0 => 0,
+            1 => 1,
+            2 => 2,
+            _ => function_arguments(Func::ALL[number as usize - 3]),
         }
     }
 

@@ -4,7 +4,7 @@
 ghost use Rattle.std.specs.List.{All};
 ghost use Rattle.icn_heap.specs.Extents.{Extent, IsLive};
 ghost use Rattle.icn_heap.specs.Heaps.{extent_of};
-ghost use Rattle.icn_vars.specs.Outcomes.{IsLiveAnswer};
+ghost use Rattle.icn_vars.specs.Outcomes.{IsLiveAnswer, answer_of};
 ghost use Rattle.icn_vars.specs.Worlds.{reach_of};
 
 #[cfg(test)]
@@ -13,8 +13,8 @@ mod tests {
     use icn_iofn::{HeldStreams, exit};
     use icn_streams::Streams;
     use icn_text::Func;
-    use icn_value::{File, Item, Val};
-    use icn_vars::{Halt, Outcome, World};
+    use icn_value::{File, Val};
+    use icn_vars::{Halt, ValueOutcome, World};
     use std::alloc::{AllocError, Global};
     use std::collections::BTreeMap;
     use std::process::Abort;
@@ -34,7 +34,7 @@ mod tests {
     // What it came to, the text that it gives, what is left of the input, and what was put.
     #[derive(Drop)]
     struct Seen {
-        outcome: Result<Outcome, Halt>,
+        outcome: Result<ValueOutcome, Halt>,
         text: Vec<u8>,
         left: Vec<u8>,
         output: Vec<u8>,
@@ -61,11 +61,11 @@ mod tests {
     }
 
     // The bytes of a text that is given.
-    fn text<'a>(w: &'a World, l: &Slots, outcome: Result<Outcome, Halt>) -> &'a [u8]
-        requires { IsLiveAnswer (reach_of w.now l.now.vals.items) outcome }
+    fn text<'a>(w: &'a World, l: &Slots, outcome: Result<ValueOutcome, Halt>) -> &'a [u8]
+        requires { IsLiveAnswer (reach_of w.now l.now.vals.items) (answer_of outcome) }
     {
         match outcome {
-            Ok(Outcome::Gives(Item::Val(Val::Text(span)))) => w.heap.bytes(span),
+            Ok(ValueOutcome::Gives(Val::Text(span))) => w.heap.bytes(span),
             _ => b"no text".as_slice(),
         }
     }
@@ -77,10 +77,10 @@ mod tests {
         w: &mut World,
         l: &Slots,
         streams: &mut HeldStreams<SureFiles, MemSource, MemSink, MemSink>,
-    ) -> Result<Outcome, Halt>
+    ) -> Result<ValueOutcome, Halt>
         requires locals { All (IsLive (extent_of w.old.heap)) l.now.vals.items }
         requires live { All (IsLive (extent_of w.old.heap)) vals.now }
-        ensures { IsLiveAnswer (reach_of w.new l.now.vals.items) result }
+        ensures { IsLiveAnswer (reach_of w.new l.now.vals.items) (answer_of result) }
     {
         match func {
             Func::Exit => exit(&w.heap, vals),
@@ -89,7 +89,7 @@ mod tests {
             Func::Stop => streams.stop(vals, w, l),
             Func::Write => streams.write(vals, w, l),
             Func::Writes => streams.writes(vals, w, l),
-            _ => Ok(Outcome::Fails),
+            _ => Ok(ValueOutcome::Fails),
         }
     }
 
@@ -222,7 +222,7 @@ mod tests {
         y: Val,
         output: &str,
         errors: &str,
-        outcome: Result<Outcome, Halt>,
+        outcome: Result<ValueOutcome, Halt>,
     ) -> Result<(), Fail>
         requires first { (all : Extent) → IsLive all x }
         requires second { (all : Extent) → IsLive all y }
@@ -238,8 +238,8 @@ mod tests {
     fn a_line_ends_where_another_file_is_selected(rt: HostRuntime) -> Result<(), Fail> {
         let errout = Val::Std(File::Errout);
         let one = Val::Integer(-1);
-        let given = Ok(Outcome::Gives(Item::Val(errout)));
-        let null = Ok(Outcome::Gives(Item::Val(Val::Null)));
+        let given = Ok(ValueOutcome::Gives(errout));
+        let null = Ok(ValueOutcome::Gives(Val::Null));
         let ended = Err(Halt::Ends(1));
         let alloc = rt.alloc();
         puts(&rt, alloc, Func::Write, one, errout, "-1\n", "\n", given)?;
@@ -267,7 +267,7 @@ mod tests {
         let last = call(alloc, Func::Read, Val::Null, Val::Null, plain("cd"))?;
         assert_eq!(rt; last.text.as_slice(), b"cd".as_slice());
         let none = call(alloc, Func::Read, Val::Null, Val::Null, plain(""))?;
-        assert_eq!(rt; none.outcome, Ok(Outcome::Fails));
+        assert_eq!(rt; none.outcome, Ok(ValueOutcome::Fails));
         let one = call(alloc, Func::Reads, Val::Null, Val::Null, plain("ab"))?;
         assert_eq!(rt; one.text.as_slice(), b"a".as_slice());
         let all = call(

@@ -3,7 +3,7 @@ use crate::listing::code_listing;
 use crate::units::units;
 use icn_code::Code;
 use icn_image::write_image;
-use icn_link::{DeclPlace, LinkFault, link};
+use icn_link::{DeclPlace, LinkFault, Linked, link};
 use icn_tree::Bytes;
 use icn_unit::Unit;
 use std::alloc::{AllocError, Global};
@@ -16,6 +16,8 @@ enum CodeView {
     Listing,
     // its image, in base 16
     Image,
+    // which procedures may be called by their names
+    Names,
     // that there is one
     Nothing,
 }
@@ -24,6 +26,7 @@ fn shown_by(word: &str) -> Option<CodeView> {
     match word {
         "code" => Some(CodeView::Listing),
         "image" => Some(CodeView::Image),
+        "names" => Some(CodeView::Names),
         "link" => Some(CodeView::Nothing),
         _ => None,
     }
@@ -44,7 +47,7 @@ pub fn outcome(alloc: Global, line: &str) -> Result<String, AllocError> {
 
 fn link_and_show(alloc: Global, shown: CodeView, units: &[Unit]) -> Result<String, AllocError> {
     match link(alloc, units) {
-        Ok(code) => code_text(alloc, shown, &code),
+        Ok(linked) => linked_text(alloc, shown, &linked),
         Err(
             LinkFault::K1 {
                 unit,
@@ -55,16 +58,28 @@ fn link_and_show(alloc: Global, shown: CodeView, units: &[Unit]) -> Result<Strin
         ) => repeat_text(alloc, unit, &name, first, second),
         Err(LinkFault::K2 { unit, name }) => missing_text(alloc, unit, &name),
         Err(LinkFault::K3 { count }) => format!(in alloc; "K3 {count}"),
+        Err(LinkFault::K4 { unit, name }) => unknown_text(alloc, unit, &name),
         Err(LinkFault::NoMemory) => Err(AllocError),
     }
 }
 
-fn code_text(alloc: Global, shown: CodeView, code: &Code) -> Result<String, AllocError> {
+fn linked_text(alloc: Global, shown: CodeView, linked: &Linked) -> Result<String, AllocError> {
     match shown {
-        CodeView::Listing => code_listing(alloc, code),
-        CodeView::Image => image_text(alloc, code),
+        CodeView::Listing => code_listing(alloc, &linked.code),
+        CodeView::Image => image_text(alloc, &linked.code),
+        CodeView::Names => names_text(alloc, linked),
         CodeView::Nothing => String::from_str(alloc, "linked"),
     }
+}
+
+// The numbers of the procedures that are named, or that all are.
+fn names_text(alloc: Global, linked: &Linked) -> Result<String, AllocError> {
+    let mut text = String::from_str(alloc, if linked.all { "all" } else { "named" })?;
+    for number in &linked.named {
+        let number = *number;
+        write!(text, " {number}")?;
+    }
+    Ok(text)
 }
 
 fn image_text(alloc: Global, code: &Code) -> Result<String, AllocError> {
@@ -99,6 +114,11 @@ fn put_place(text: &mut String, place: DeclPlace) -> Result<(), AllocError> {
 // K2: the unit, and the name that it links.
 fn missing_text(alloc: Global, unit: u64, name: &Bytes) -> Result<String, AllocError> {
     fault_text(alloc, "K2", unit, name)
+}
+
+// K4: the unit, and the name that it says may be called.
+fn unknown_text(alloc: Global, unit: u64, name: &Bytes) -> Result<String, AllocError> {
+    fault_text(alloc, "K4", unit, name)
 }
 
 fn fault_text(alloc: Global, rule: &str, unit: u64, name: &Bytes) -> Result<String, AllocError> {

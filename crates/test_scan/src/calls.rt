@@ -2,7 +2,7 @@
 ghost use Rattle.std.specs.List.{All};
 ghost use Rattle.icn_heap.specs.Extents.{IsLive};
 ghost use Rattle.icn_heap.specs.Heaps.{extent_of};
-ghost use Rattle.icn_vars.specs.Outcomes.{IsLiveAnswer, IsLiveResidual};
+ghost use Rattle.icn_vars.specs.Outcomes.{IsLiveAnswer, IsLiveResidual, answer_of};
 ghost use Rattle.icn_vars.specs.Worlds.{reach_of};
 
 use icn_args::undo_position_again;
@@ -12,7 +12,7 @@ use icn_scanfn::{
 };
 use icn_text::Func;
 use icn_value::{Residual, Val};
-use icn_vars::{Halt, Outcome, World};
+use icn_vars::{Halt, Outcome, ValueOutcome, World};
 use test_values::Slots;
 
 /// What a function of scanning comes to; another one fails. The errors are those of its row.
@@ -23,16 +23,31 @@ pub fn call_function(func: Func, args: &[Val], w: &mut World, l: &Slots) -> Resu
     ensures locals { All (IsLive (extent_of w.new.heap)) l.now.vals.items }
 {
     match func {
-        Func::Any => any_row(w, l, args),
         Func::Bal => bal_row(w, l, args),
         Func::Find => find_row(w, l, args),
-        Func::Many => many_row(w, l, args),
-        Func::Match => match_row(w, l, args),
         Func::Move => move_row(w, l, args),
-        Func::Pos => pos_row(w, l, args),
         Func::Tab => tab_row(w, l, args),
         Func::Upto => upto_row(w, l, args),
-        _ => Ok(Outcome::Fails),
+        _ => {
+            let given = row_answer(func, args, w, l)?;
+            Ok(given.outcome())
+        }
+    }
+}
+
+// What a function of scanning comes to that gives a value at most.
+fn row_answer(func: Func, args: &[Val], w: &mut World, l: &Slots) -> Result<ValueOutcome, Halt>
+    requires locals { All (IsLive (extent_of w.old.heap)) l.now.vals.items }
+    requires args { All (IsLive (extent_of w.old.heap)) args.now }
+    ensures live { IsLiveAnswer (reach_of w.new l.now.vals.items) (answer_of result) }
+    ensures locals { All (IsLive (extent_of w.new.heap)) l.now.vals.items }
+{
+    match func {
+        Func::Any => any_row(w, l, args),
+        Func::Many => many_row(w, l, args),
+        Func::Match => match_row(w, l, args),
+        Func::Pos => pos_row(w, l, args),
+        _ => Ok(ValueOutcome::Fails),
     }
 }
 

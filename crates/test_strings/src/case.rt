@@ -4,12 +4,10 @@ ghost use Rattle.std.specs.List.{All};
 ghost use Rattle.icn_convert.specs.ProgramNames.{AreRecordsNamed, IsNamed};
 ghost use Rattle.icn_heap.specs.Extents.{IsLive};
 ghost use Rattle.icn_heap.specs.Heaps.{extent_of, heap_of};
-ghost use Rattle.icn_vars.specs.Outcomes.{IsLiveAnswer};
+ghost use Rattle.icn_vars.specs.Outcomes.{IsLiveAnswer, answer_of};
 ghost use Rattle.icn_vars.specs.Worlds.{reach_of};
-ghost use Rattle.icn_strfn.specs.Stopping.{IsLiveGiven};
 ghost use Rattle.test_values.specs.OneRecord.{one_record};
 
-use icn_args::ValueOutcome;
 use icn_strfn::{
     Layout, abs_row, char_row, cset_row, field_row, iand_row, icom_row, image_row, integer_row,
     ior_row, ishift_row, ixor_row, map_row, ord_row, repl_row, reverse_row, seq_row,
@@ -17,7 +15,7 @@ use icn_strfn::{
 };
 use icn_text::{Func, func_named};
 use icn_value::{Residual, Val};
-use icn_vars::{Halt, Outcome, Stop, World};
+use icn_vars::{Halt, Outcome, ValueOutcome, World};
 use std::alloc::{AllocError, Global};
 use test_values::{
     OneRecord, Slots, add_argument, new_world, no_locals, number, push_error, push_item, split_word,
@@ -112,12 +110,12 @@ fn call_function(func: Func, args: &[Val], w: &mut World, l: &Slots) -> Result<O
 }
 
 // What the row of a function gives that gives a value at most.
-fn row_answer(func: Func, args: &[Val], w: &mut World, l: &Slots) -> Result<ValueOutcome, Stop>
+fn row_answer(func: Func, args: &[Val], w: &mut World, l: &Slots) -> Result<ValueOutcome, Halt>
     requires locals { All (IsLive (extent_of w.old.heap)) l.now.vals.items }
     requires args { All (IsLive (extent_of w.old.heap)) args.now }
     requires named { All (IsNamed one_record) args.now }
     requires records { AreRecordsNamed one_record (heap_of w.old.heap) }
-    ensures { IsLiveGiven (reach_of w.new l.now.vals.items) result }
+    ensures { IsLiveAnswer (reach_of w.new l.now.vals.items) (answer_of result) }
 {
     match func {
         Func::Abs => abs_row(w, l, args),

@@ -4,7 +4,7 @@ ghost use Rattle.std.specs.List.{All};
 ghost use Rattle.icn_heap.specs.Extents.{IsLive, value_in};
 ghost use Rattle.icn_heap.specs.Heaps.{extent_of};
 ghost use Rattle.law_names.specs.NamedSettings.{ValueNamed};
-ghost use Rattle.icn_vars.specs.Outcomes.{IsLiveAnswer};
+ghost use Rattle.icn_vars.specs.Outcomes.{IsLiveAnswer, answer_of};
 ghost use Rattle.icn_vars.specs.Worlds.{reach_of};
 ghost use Rattle.test_structures.specs.Naming.{AllNamed, ComesNamed};
 ghost use Rattle.test_values.specs.OneRecord.{one_record};
@@ -12,7 +12,7 @@ ghost use Rattle.test_values.specs.OneRecord.{one_record};
 use icn_structfn::key_again;
 use icn_text::{Func, func_named};
 use icn_value::Val;
-use icn_vars::{Halt, Outcome, World};
+use icn_vars::{Halt, Outcome, ValueOutcome, World};
 use std::alloc::AllocError;
 use test_values::{OneRecord, Slots};
 
@@ -64,11 +64,29 @@ fn apply_to_values(w: &mut World, l: &Slots, func: Func, args: &[Val]) -> Result
     ensures named { IfOk result (ComesNamed w.new l.now.vals.items) }
 {
     match func {
+        Func::Key => icn_structfn::key(w, l, args),
+        _ => {
+            let given = row_answer(w, l, func, args)?;
+            Ok(given.outcome())
+        }
+    }
+}
+
+// Applies one that gives a value at most.
+#[tactic(auto, using(crate::proofs::NamesKept::function_comes))]
+fn row_answer(w: &mut World, l: &Slots, func: Func, args: &[Val]) -> Result<ValueOutcome, Halt>
+    requires locals { All (IsLive (extent_of w.old.heap)) l.now.vals.items }
+    requires named { AllNamed w.old l.now.vals.items }
+    requires args { All (IsLive (extent_of w.old.heap)) args.now }
+    requires args_named { All (ValueNamed one_record) (map (value_in (extent_of w.old.heap)) args.now) }
+    ensures live { IsLiveAnswer (reach_of w.new l.now.vals.items) (answer_of result) }
+    ensures named { IfOk (answer_of result) (ComesNamed w.new l.now.vals.items) }
+{
+    match func {
         Func::Copy => icn_structfn::copy(w, l, args),
         Func::Delete => icn_structfn::delete(w, l, args),
         Func::Get => icn_structfn::get(w, l, args),
         Func::Insert => icn_structfn::insert(w, l, args),
-        Func::Key => icn_structfn::key(w, l, args),
         Func::List => icn_structfn::list(w, l, args),
         Func::Member => icn_structfn::member(w, l, args),
         Func::Pop => icn_structfn::get(w, l, args),
@@ -78,7 +96,7 @@ fn apply_to_values(w: &mut World, l: &Slots, func: Func, args: &[Val]) -> Result
         Func::Set => icn_structfn::set(w, l, args),
         Func::Sort => icn_structfn::sort(w, l, &OneRecord, args),
         Func::Table => icn_structfn::table(w, l, args),
-        _ => Ok(Outcome::Fails),
+        _ => Ok(ValueOutcome::Fails),
     }
 }
 

@@ -15,10 +15,10 @@ returns-in_default g c =
     let w = c.args.world.now in
     let all = extent_of w.heap in
     record {
-      step = λ st same. stands_as c.call_integer.result w c.call_integer.new.frames.flat (stack_in all c.call_integer.new.frames.flat) st _ _
+      step = λ st same nothing. stands_as c.call_integer.result w c.call_integer.new.frames.flat (stack_in all c.call_integer.new.frames.flat) st _ _
           (by_number (tables_of c.args.code.now) all c.args.callee (map (item_in all) c.args.items.now) (stack_in all c.args.frames.now.flat) st
           c.in_default.not-Proc)
-          (c.call_integer.ensures.step st same);
+          (c.call_integer.ensures.step (tables_of c.args.code.now) st same nothing);
       live = c.call_integer.ensures.live (tables_of c.args.code.now);
       leaves = record {
         kept = keeps_items_refl (reach_of w []);
@@ -29,7 +29,7 @@ returns-in_default g c =
     }
 
 pub returns-in-Proc-callee_of-clause-step : goal.returns-in-Proc-callee_of-clause-step
-returns-in-Proc-callee_of-clause-step g c st same =
+returns-in-Proc-callee_of-clause-step g c st same nothing =
     let all = extent_of c.args.world.now.heap in
     let entry = c.in-Proc-callee_of.ensures.0 in
     stands_as c.call_with.result c.call_with.new.world c.call_with.new.frames.flat
@@ -39,7 +39,7 @@ returns-in-Proc-callee_of-clause-step g c st same =
     (c.call_with.ensures.step entry c.in-Proc-callee_of.ensures.1.0 st same)
 
 pub returns-in-Rec-clause-step : goal.returns-in-Rec-clause-step
-returns-in-Rec-clause-step g c st same =
+returns-in-Rec-clause-step g c st same nothing =
     let all = extent_of c.args.world.now.heap in
     let entry = c.in-Rec.ensures.0 in
     stands_as c.construct_with.result c.construct_with.new.world c.construct_with.new.frames.flat
@@ -52,7 +52,7 @@ pub unreachable-unreachable : goal.unreachable-unreachable
 unreachable-unreachable g c = never_function (tables_of c.args.code.now) c.args.callee c.in-Proc.number _ c.requires.function c.in-Proc.is c.in-Func.ensures
 
 pub returns-in-Nothing-clause-step : goal.returns-in-Nothing-clause-step
-returns-in-Nothing-clause-step g c st same =
+returns-in-Nothing-clause-step g c st same nothing =
     nothing_called c.args.world.now (tables_of c.args.code.now) c.args.callee c.in-Proc.number
     (map (item_in (extent_of c.args.world.now.heap)) c.args.items.now) (stack_in (extent_of c.args.world.now.heap) c.args.frames.now.flat) st c.in-Proc.is
     c.in-Nothing.ensures same

@@ -11,6 +11,9 @@ use Rattle.icn_defs.specs.Rows.{changes, gives_value}
 use Rattle.icn_heap.specs.Extents.{IsLive, value_in}
 use Rattle.icn_heap.specs.Heaps.{extent_of}
 use Rattle.icn_heap.specs.Keys.{file_of}
+use Rattle.icn_vars.specs.Outcomes.{answer_of}
+use Rattle.icn_vars.specs.Stops.{halt_of}
+use Rattle.icn_args.proofs.RowAnswers.{same_halt}
 use Rattle.icn_vars.specs.Worlds.{setting_of}
 use Rattle.icn_vars.specs.declared.outcome.Outcome.TheVariants.{Gives as HeldGives}
 use Rattle.icn_streams.specs.Answers.{call_state}
@@ -29,13 +32,13 @@ returns-in_err-file g c = λ left counts.
     (call_state c.args.w.now (g.L.Locals.items c.args.l.now) (call_streams (g.F.Files.state c.args.files.now) left counts (g.O.Sink.state c.args.out.now)
     (g.E.Sink.state c.args.err.now)))
     (call_state c.args.w.now (g.L.Locals.items c.args.l.now) (call_streams (g.F.Files.state c.args.files.now) left counts (g.O.Sink.state c.args.out.now)
-    (g.E.Sink.state c.args.err.now))) c.from_residual.result
+    (g.E.Sink.state c.args.err.now))) (answer_of c.from_residual.result)
     (λ was. ap (λ (value : Value). file value (λ closed. changes (closed_in closed) (gives_value (Std closed))) (setting_of was c.args.w.now
     (g.L.Locals.items c.args.l.now))) (sym (c.arg.ensures.value (extent_of c.args.w.now.heap))))
     (stops_there (file (value_in (extent_of c.args.w.now.heap) c.arg.result)) (λ closed. changes (closed_in closed) (gives_value (Std closed)))
     (call_state c.args.w.now (g.L.Locals.items c.args.l.now) (call_streams (g.F.Files.state c.args.files.now) left counts (g.O.Sink.state c.args.out.now)
     (g.E.Sink.state c.args.err.now)))
-    c.in_err-file.field-0.0 c.from_residual.result c.from_residual.ensures.1
+    c.in_err-file.field-0.0 (answer_of c.from_residual.result) (same_halt (halt_of c.in_err-file.field-0.0) c.from_residual.result c.from_residual.ensures.1)
     (λ was. c.in_err-file.ensures.found (extent_of c.args.w.now.heap) (setting_of was c.args.w.now (g.L.Locals.items c.args.l.now)))
     (c.in_err-file.ensures.stops (extent_of c.args.w.now.heap) (c.arg.ensures.live (extent_of c.args.w.now.heap) c.requires.live)) c.requires.locals)
 
@@ -46,7 +49,7 @@ returns-in-Opened g c = λ left counts.
     (g.E.Sink.state c.args.err.now)))
     (call_state c.close_opened.new.w (g.L.Locals.items c.args.l.now)
     (call_streams (g.F.Files.state c.close_opened.new.files) left counts (g.O.Sink.state c.close_opened.new.out) (g.E.Sink.state c.close_opened.new.err)))
-    c.close_opened.result
+    (answer_of c.close_opened.result)
     (λ was. ap (λ (value : Value). file value (λ closed. changes (closed_in closed) (gives_value (Std closed))) (setting_of was c.args.w.now
     (g.L.Locals.items c.args.l.now))) (sym (c.arg.ensures.value (extent_of c.args.w.now.heap)))
     ∙ c.in_ok-file.ensures.found (extent_of c.args.w.now.heap) (setting_of was c.args.w.now (g.L.Locals.items c.args.l.now))

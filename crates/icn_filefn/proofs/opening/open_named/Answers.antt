@@ -5,13 +5,17 @@ use Rattle.icn_filefn.specs.OpenParts.{FindsOfSome}
 use Rattle.icn_filefn.proofs.OpenSteps.{finding_fails, finding_stops, opening_gives, opening_stops}
 use Rattle.icn_filefn.proofs.LookedUp.{type_of}
 use Rattle.icn_filefn.proofs.opening.open_named.Goals as goal
+use Rattle.icn_vars.specs.Outcomes.{answer_of}
+use Rattle.icn_vars.specs.Stops.{halt_of}
+use Rattle.icn_args.proofs.RowAnswers.{same_halt}
 
 pub returns-in_err-content : goal.returns-in_err-content
 returns-in_err-content g c = λ left counts.
     finding_stops c.args.mode (string_bytes c.args.name) c.args.w.now (g.L.Locals.items c.args.l.now) c.requires
     (call_streams (g.F.Files.state c.args.files.now) left counts (g.O.Sink.state c.args.out.now) (g.E.Sink.state c.args.err.now))
     (call_streams (g.F.Files.state c.first_content.new.files) left counts (g.O.Sink.state c.first_content.new.out) (g.E.Sink.state c.first_content.new.err))
-    (type_of c.first_content.result) c.in_err-content.field-0.0 c.from_residual.result c.from_residual.ensures.1 c.in_err-content.ensures.asked
+    (type_of c.first_content.result) c.in_err-content.field-0.0 (answer_of c.from_residual.result)
+    (same_halt c.in_err-content.field-0.0 c.from_residual.result c.from_residual.ensures.1) c.in_err-content.ensures.asked
     (c.in_err-content.ensures.leaves left counts)
 
 pub returns-in_err-make_file-in-Some : goal.returns-in_err-make_file-in-Some
@@ -24,7 +28,9 @@ returns-in_err-make_file-in-Some g c = λ left counts.
     c.in_ok-content.ensures.found)
     (c.in_ok-content.ensures.leaves left counts)
     c.in-Some.content (ap Ok c.in-Some.is) c.make_file.new.w c.make_file.ensures.kept.locals c.make_file.ensures.kept.items
-    c.in_err-make_file-in-Some.field-0.0 c.from_residual-in_err-make_file-in-Some.result c.from_residual-in_err-make_file-in-Some.ensures.1
+    c.in_err-make_file-in-Some.field-0.0 (answer_of c.from_residual-in_err-make_file-in-Some.result)
+    (same_halt (halt_of c.in_err-make_file-in-Some.field-0.0) c.from_residual-in_err-make_file-in-Some.result
+    c.from_residual-in_err-make_file-in-Some.ensures.1)
     c.in_err-make_file-in-Some.ensures.found c.in_err-make_file-in-Some.ensures.stops
 
 pub returns-in_ok-make_file-in-Some : goal.returns-in_ok-make_file-in-Some

@@ -5,6 +5,9 @@ use Rattle.icn_defs.specs.Calls.{Passes}
 use Rattle.icn_defs.specs.Rows.{costs_text}
 use Rattle.icn_heap.specs.Extents.{value_in, text_in}
 use Rattle.icn_heap.specs.Heaps.{extent_of}
+use Rattle.icn_vars.specs.Outcomes.{answer_of}
+use Rattle.icn_vars.specs.Stops.{halt_of}
+use Rattle.icn_args.proofs.RowAnswers.{same_halt}
 use Rattle.icn_vars.specs.Stops.{StopsPassing}
 use Rattle.icn_vars.specs.Worlds.{reach_of, setting_of}
 use Rattle.icn_vars.proofs.KeptItems.{keeps_items_trans}
@@ -21,7 +24,9 @@ returns-in_err-check_text g c = λ left counts.
     (c.arg-said.ensures.value (extent_of c.args.w.now.heap))
     (call_state c.args.w.now (g.L.Locals.items c.args.l.now)
     (call_streams (g.F.Files.state c.args.files.now) left counts (g.O.Sink.state c.args.out.now) (g.E.Sink.state c.args.err.now)))
-    c.in_err-check_text.field-0.0 c.from_residual.result c.from_residual.ensures.1 (c.in_err-check_text.ensures.found (extent_of c.args.w.now.heap))
+    c.in_err-check_text.field-0.0 (answer_of c.from_residual.result)
+    (same_halt (halt_of c.in_err-check_text.field-0.0) c.from_residual.result c.from_residual.ensures.1)
+    (c.in_err-check_text.ensures.found (extent_of c.args.w.now.heap))
     (c.in_err-check_text.ensures.stops (extent_of c.args.w.now.heap) (c.arg-named.ensures.live (extent_of c.args.w.now.heap) c.requires.live))
     c.requires.locals
 
@@ -33,7 +38,8 @@ returns-in_err-mode g c = λ left counts.
     (c.in_ok-check_text.ensures.found (extent_of c.args.w.now.heap))
     (call_state c.args.w.now (g.L.Locals.items c.args.l.now)
     (call_streams (g.F.Files.state c.args.files.now) left counts (g.O.Sink.state c.args.out.now) (g.E.Sink.state c.args.err.now)))
-    c.in_err-mode.field-0.0 c.from_residual-in_err-mode.result c.from_residual-in_err-mode.ensures.1 c.in_err-mode.ensures.found
+    c.in_err-mode.field-0.0 (answer_of c.from_residual-in_err-mode.result)
+    (same_halt (halt_of c.in_err-mode.field-0.0) c.from_residual-in_err-mode.result c.from_residual-in_err-mode.ensures.1) c.in_err-mode.ensures.found
     c.in_err-mode.ensures.stops c.requires.locals
 
 pub returns-in_err-name : goal.returns-in_err-name
@@ -44,7 +50,8 @@ returns-in_err-name g c = λ left counts.
     (c.in_ok-check_text.ensures.found (extent_of c.args.w.now.heap)) c.in_ok-mode.mode c.in_ok-mode.ensures.found c.args.w.now c.text_of.new.w
     (g.L.Locals.items c.args.l.now)
     (call_streams (g.F.Files.state c.args.files.now) left counts (g.O.Sink.state c.args.out.now) (g.E.Sink.state c.args.err.now))
-    c.in_err-name.field-0.0 c.from_residual-in_err-name.result c.from_residual-in_err-name.ensures.1 c.in_err-name.ensures.step
+    c.in_err-name.field-0.0 (answer_of c.from_residual-in_err-name.result)
+    (same_halt (halt_of c.in_err-name.field-0.0) c.from_residual-in_err-name.result c.from_residual-in_err-name.ensures.1) c.in_err-name.ensures.step
     c.in_err-name.ensures.stops c.text_of.ensures.kept.locals c.text_of.ensures.kept.items
 
 pub returns-in_err-charge_mode : goal.returns-in_err-charge_mode
@@ -55,7 +62,8 @@ returns-in_err-charge_mode g c = λ left counts.
     (c.in_ok-check_text.ensures.found (extent_of c.args.w.now.heap)) c.in_ok-mode.mode c.in_ok-mode.ensures.found c.args.w.now c.text_of.new.w
     (g.L.Locals.items c.args.l.now) c.in_ok-name.ensures.step c.charge_mode.new.w
     (call_streams (g.F.Files.state c.args.files.now) left counts (g.O.Sink.state c.args.out.now) (g.E.Sink.state c.args.err.now))
-    c.in_err-charge_mode.field-0.0 c.from_residual-in_err-charge_mode.result c.from_residual-in_err-charge_mode.ensures.1
+    c.in_err-charge_mode.field-0.0 (answer_of c.from_residual-in_err-charge_mode.result)
+    (same_halt (halt_of c.in_err-charge_mode.field-0.0) c.from_residual-in_err-charge_mode.result c.from_residual-in_err-charge_mode.ensures.1)
     (λ was. subst (λ (value : Value). StopsPassing (extent_of c.charge_mode.new.w.heap) (costs_text value)
     (setting_of was c.text_of.new.w (g.L.Locals.items c.args.l.now)) (setting_of was c.charge_mode.new.w (g.L.Locals.items c.args.l.now))
     c.in_err-charge_mode.field-0.0)
@@ -85,4 +93,4 @@ returns g c = λ left counts.
     (call_streams (g.F.Files.state c.args.files.now) left counts (g.O.Sink.state c.args.out.now) (g.E.Sink.state c.args.err.now))
     (call_state c.open_text.new.w (g.L.Locals.items c.args.l.now)
     (call_streams (g.F.Files.state c.open_text.new.files) left counts (g.O.Sink.state c.open_text.new.out) (g.E.Sink.state c.open_text.new.err)))
-    c.open_text.result (c.open_text.ensures left counts)
+    (answer_of c.open_text.result) (c.open_text.ensures left counts)

@@ -3,6 +3,9 @@ use Rattle.std.proofs.Common.{◌≡◌, ◌∙◌, sym, ap, is_some, ℕ, List,
 use Rattle.std.specs.Str.{is_utf8}
 use Rattle.icn_heap.specs.Extents.{text_in}
 use Rattle.icn_heap.specs.Heaps.{extent_of}
+use Rattle.icn_vars.specs.Outcomes.{answer_of}
+use Rattle.icn_vars.specs.Stops.{halt_of}
+use Rattle.icn_args.proofs.RowAnswers.{same_halt}
 use Rattle.icn_vars.specs.Worlds.{setting_of}
 use Rattle.icn_vars.specs.declared.outcome.Outcome.TheVariants.{Fails as HeldFails}
 use Rattle.icn_streams.specs.Answers.{call_state}
@@ -19,7 +22,8 @@ pub returns-in_err-name : goal.returns-in_err-name
 returns-in_err-name g c = λ left counts.
     nothing_begun (opens_text (text_in (extent_of c.args.w.now.heap) c.args.text) c.args.mode) (call_state c.args.w.now (g.L.Locals.items c.args.l.now)
     (call_streams (g.F.Files.state c.args.files.now) left counts (g.O.Sink.state c.args.out.now) (g.E.Sink.state c.args.err.now))) c.requires.locals
-    c.in_err-name.field-0.0 c.in_err-name.ensures.want c.from_residual.result c.from_residual.ensures.1
+    c.in_err-name.field-0.0 c.in_err-name.ensures.want (answer_of c.from_residual.result)
+    (same_halt (halt_of c.in_err-name.field-0.0) c.from_residual.result c.from_residual.ensures.1)
 
 pub returns-in-Some : goal.returns-in-Some
 returns-in-Some g c = λ left counts.
@@ -33,7 +37,7 @@ returns-in-Some g c = λ left counts.
     (g.E.Sink.state c.args.err.now)))
     (call_state c.open_named.new.w (g.L.Locals.items c.args.l.now)
     (call_streams (g.F.Files.state c.open_named.new.files) left counts (g.O.Sink.state c.open_named.new.out) (g.E.Sink.state c.open_named.new.err)))
-    c.open_named.result
+    (answer_of c.open_named.result)
     (λ was. opens_when (text_in (extent_of c.args.w.now.heap) c.args.text) c.args.mode (setting_of was c.args.w.now (g.L.Locals.items c.args.l.now)) text
     ∙ ap (λ (name : List ℕ). opens_named name c.args.mode (setting_of was c.args.w.now (g.L.Locals.items c.args.l.now))) (sym same))
     (c.open_named.ensures left counts)

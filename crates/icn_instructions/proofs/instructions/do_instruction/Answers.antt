@@ -19,30 +19,30 @@ pub frames-requires : goal.frames-requires
 frames-requires g c =
     c.requires.runs
 
-pub do_stack_instruction-requires-clause-group : goal.do_stack_instruction-requires-clause-group
-do_stack_instruction-requires-clause-group g c =
+pub answer_on_stack-requires-clause-group : goal.answer_on_stack-requires-clause-group
+answer_on_stack-requires-clause-group g c =
     sym c.group_of.ensures ∙ c.in-Stack.is
 
-pub do_stack_instruction-requires-clause-firsts : goal.do_stack_instruction-requires-clause-firsts
-do_stack_instruction-requires-clause-firsts g c = c.requires.firsts
+pub answer_on_stack-requires-clause-firsts : goal.answer_on_stack-requires-clause-firsts
+answer_on_stack-requires-clause-firsts g c = c.requires.firsts
 
-pub do_stack_instruction-requires-clause-runs : goal.do_stack_instruction-requires-clause-runs
-do_stack_instruction-requires-clause-runs g c = c.requires.runs
+pub answer_on_stack-requires-clause-runs : goal.answer_on_stack-requires-clause-runs
+answer_on_stack-requires-clause-runs g c = c.requires.runs
 
-pub do_stack_instruction-requires-clause-sound : goal.do_stack_instruction-requires-clause-sound
-do_stack_instruction-requires-clause-sound g c = c.requires.sound
+pub answer_on_stack-requires-clause-sound : goal.answer_on_stack-requires-clause-sound
+answer_on_stack-requires-clause-sound g c = c.requires.sound
 
-pub do_stack_instruction-requires-clause-goes_on : goal.do_stack_instruction-requires-clause-goes_on
-do_stack_instruction-requires-clause-goes_on g c = c.requires.goes_on
+pub answer_on_stack-requires-clause-goes_on : goal.answer_on_stack-requires-clause-goes_on
+answer_on_stack-requires-clause-goes_on g c = c.requires.goes_on
 
-pub do_stack_instruction-requires-clause-in_range : goal.do_stack_instruction-requires-clause-in_range
-do_stack_instruction-requires-clause-in_range g c = c.requires.in_range
+pub answer_on_stack-requires-clause-in_range : goal.answer_on_stack-requires-clause-in_range
+answer_on_stack-requires-clause-in_range g c = c.requires.in_range
 
-pub do_stack_instruction-requires-clause-case_mark : goal.do_stack_instruction-requires-clause-case_mark
-do_stack_instruction-requires-clause-case_mark g c = c.requires.case_mark
+pub answer_on_stack-requires-clause-case_mark : goal.answer_on_stack-requires-clause-case_mark
+answer_on_stack-requires-clause-case_mark g c = c.requires.case_mark
 
-pub do_stack_instruction-requires-clause-variables : goal.do_stack_instruction-requires-clause-variables
-do_stack_instruction-requires-clause-variables g c = c.requires.variables
+pub answer_on_stack-requires-clause-variables : goal.answer_on_stack-requires-clause-variables
+answer_on_stack-requires-clause-variables g c = c.requires.variables
 
 pub do_in_world-requires-clause-group : goal.do_in_world-requires-clause-group
 do_in_world-requires-clause-group g c =
@@ -204,19 +204,19 @@ returns-in-World-clause-stack g c =
     c.do_in_world.new.frames.flat c.do_in_world.result (store_seen (tables_of c.args.code.now) c.requires.goes_on.0 m) refl refl c.do_in_world.ensures.step
 
 pub returns-in-Stack-clause-step : goal.returns-in-Stack-clause-step
-returns-in-Stack-clause-step g c = c.do_stack_instruction.ensures.step
+returns-in-Stack-clause-step g c = c.answer_on_stack.ensures.step
 
 pub returns-in-Stack-clause-sound : goal.returns-in-Stack-clause-sound
-returns-in-Stack-clause-sound g c = c.do_stack_instruction.ensures.sound
+returns-in-Stack-clause-sound g c = c.answer_on_stack.ensures.sound
 
 pub returns-in-Stack-clause-halt : goal.returns-in-Stack-clause-halt
-returns-in-Stack-clause-halt g c = c.do_stack_instruction.ensures.halt
+returns-in-Stack-clause-halt g c = c.answer_on_stack.ensures.halt
 
 pub returns-in-Stack-clause-stack : goal.returns-in-Stack-clause-stack
-returns-in-Stack-clause-stack g c = c.do_stack_instruction.ensures.stack
+returns-in-Stack-clause-stack g c = c.answer_on_stack.ensures.stack
 
 pub returns-in-Stack-clause-limits : goal.returns-in-Stack-clause-limits
-returns-in-Stack-clause-limits g c = c.do_stack_instruction.ensures.limits
+returns-in-Stack-clause-limits g c = c.answer_on_stack.ensures.limits
 
 pub returns-in-Stack-clause-no_memory : goal.returns-in-Stack-clause-no_memory
-returns-in-Stack-clause-no_memory g c = c.do_stack_instruction.ensures.no_memory
+returns-in-Stack-clause-no_memory g c = c.answer_on_stack.ensures.no_memory

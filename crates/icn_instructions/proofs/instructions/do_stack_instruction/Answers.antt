@@ -80,7 +80,7 @@ returns-in-Ok-clause-sound g c =
 
 pub returns-in-Err-clause-no_memory : goal.returns-in-Err-clause-no_memory
 returns-in-Err-clause-no_memory g c =
-    λ e. absurd (error_is_not_ok (Unit {0}) c.in-Err.field-0 (c.in-Err.ensures.no_memory e))
+    λ e. absurd (error_is_not_ok (Unit {0}) c.in-Err.lack (c.in-Err.ensures.no_memory e))
 
 pub returns-in-Ok-clause-stack : goal.returns-in-Ok-clause-stack
 returns-in-Ok-clause-stack g c = refl

@@ -7,12 +7,12 @@ use Rattle.icn_defs.specs.Arguments.{arg_or, integer}
 use Rattle.icn_defs.specs.Rows.{Ends, ends}
 use Rattle.icn_heap.specs.Extents.{value_in}
 use Rattle.icn_heap.specs.Heaps.{extent_of}
-use Rattle.icn_args.proofs.RowAnswers.{row_stops}
+use Rattle.icn_args.proofs.RowAnswers.{value_row_stops}
 use Rattle.icn_iofn.proofs.ending.exit.Goals as goal
 
 pub returns-in_err-n-clause-row : goal.returns-in_err-n-clause-row
 returns-in_err-n-clause-row c = λ setting.
-    row_stops (extent_of c.args.heap.now) (integer (arg_or (Integer (pos 0)) (map (value_in (extent_of c.args.heap.now)) c.args.vals.now) 0))
+    value_row_stops (extent_of c.args.heap.now) (integer (arg_or (Integer (pos 0)) (map (value_in (extent_of c.args.heap.now)) c.args.vals.now) 0))
     (λ n. ends (unsigned_abs (int_rem_euclid n (pos 256))))
     setting setting c.in_err-n.field-0.0 c.from_residual.result c.from_residual.ensures.1 (c.in_err-n.ensures.found setting)
 

@@ -6,6 +6,8 @@ use Rattle.icn_value.specs.Values.{Text}
 use Rattle.icn_defs.specs.Rows.{gives_value}
 use Rattle.icn_value.specs.declared.item.Item.TheVariants.{Val as HeldVal}
 use Rattle.icn_value.specs.declared.val.Val.TheVariants.{Text as HeldText}
+use Rattle.icn_vars.specs.Outcomes.{answer_of}
+use Rattle.icn_args.proofs.RowAnswers.{same_halt}
 use Rattle.icn_vars.specs.declared.outcome.Outcome.TheVariants.{Gives}
 use Rattle.icn_streams.specs.Readings.{asked_in}
 use Rattle.icn_streams.proofs.NextRead.{if_some_elim}
@@ -18,7 +20,8 @@ returns-in_err-text g c = λ files output errors.
     (g.L.Locals.items c.args.l.now) files
     (g.I.Source.left c.args.input.now) (g.I.Source.left c.read_text.new.input) (g.I.Source.counts c.args.input.now)
     (g.I.Source.counts c.read_text.new.input) c.read_text.ensures.called output errors
-    c.in_err-text.field-0.0 c.from_residual.result c.from_residual.ensures.1 (λ was told. c.in_err-text.ensures.reads was files output errors told)
+    c.in_err-text.field-0.0 (answer_of c.from_residual.result) (same_halt c.in_err-text.field-0.0 c.from_residual.result c.from_residual.ensures.1)
+    (λ was told. c.in_err-text.ensures.reads was files output errors told)
     (c.in_err-text.ensures.some files output errors) c.in_err-text.ensures.cause
     c.in_err-text.ensures.halts c.read_text.ensures.kept.locals c.read_text.ensures.kept.items
 

@@ -9,6 +9,9 @@ use Rattle.icn_defs.specs.InputOutput.{read_row}
 use Rattle.icn_defs.specs.Lines.{line_from}
 use Rattle.icn_defs.specs.OpenFiles.{readable}
 use Rattle.icn_defs.specs.Rows.{gives_value}
+use Rattle.icn_vars.specs.Outcomes.{answer_of}
+use Rattle.icn_vars.specs.Stops.{halt_of}
+use Rattle.icn_args.proofs.RowAnswers.{same_halt}
 use Rattle.icn_vars.specs.Worlds.{setting_of}
 use Rattle.icn_streams.specs.Answers.{call_state}
 use Rattle.icn_streams.specs.Handed.{call_streams}
@@ -29,7 +32,7 @@ returns-in_err-file-clause-row g c = λ files.
     (call_state c.args.w.now (g.L.Locals.items c.args.l.now)
     (call_streams files (g.I.Source.left c.args.input.now) (g.I.Source.counts c.args.input.now) (g.O.Sink.state c.args.out.now)
     (g.E.Sink.state c.args.err.now)))
-    c.in_err-file.field-0.0 c.from_residual.result c.from_residual.ensures.1
+    c.in_err-file.field-0.0 (answer_of c.from_residual.result) (same_halt (halt_of c.in_err-file.field-0.0) c.from_residual.result c.from_residual.ensures.1)
     (λ was. c.in_err-file.ensures.found (extent_of c.args.w.now.heap) (setting_of was c.args.w.now (g.L.Locals.items c.args.l.now)))
     (c.in_err-file.ensures.stops (extent_of c.args.w.now.heap) c.requires.live) c.requires.locals
 
@@ -42,7 +45,7 @@ returns-clause-row g c = λ files.
     (g.E.Sink.state c.args.err.now)))
     (call_state c.read_from.new.w (g.L.Locals.items c.args.l.now)
     (call_streams files (g.I.Source.left c.read_from.new.input) (g.I.Source.counts c.read_from.new.input)
-    (g.O.Sink.state c.read_from.new.out) (g.E.Sink.state c.read_from.new.err))) c.read_from.result
+    (g.O.Sink.state c.read_from.new.out) (g.E.Sink.state c.read_from.new.err))) (answer_of c.read_from.result)
     (λ was. c.in_ok-file.ensures.found (extent_of c.args.w.now.heap) (setting_of was c.args.w.now (g.L.Locals.items c.args.l.now))
     (λ named.
     readable named (arg (map (value_in (extent_of c.args.w.now.heap)) c.args.vals.now) 0) (λ from. line_from from (λ line. gives_value (Text line))))

@@ -5,6 +5,7 @@ use Rattle.icn_defs.specs.OpenFiles.{FromInput, FromOpened, readable_of}
 use Rattle.icn_heap.specs.Extents.{value_in}
 use Rattle.icn_heap.specs.Heaps.{extent_of, heap_of}
 use Rattle.icn_heap.specs.Keys.{file_of}
+use Rattle.icn_vars.specs.Outcomes.{answer_of}
 use Rattle.icn_vars.specs.Worlds.{setting_of}
 use Rattle.icn_vars.specs.declared.outcome.Halt.TheVariants.{Error}
 use Rattle.icn_streams.specs.Answers.{call_state}
@@ -30,7 +31,7 @@ returns-in-Some-Input-clause-row g c = λ files.
     (g.E.Sink.state c.args.err.now)))
     (call_state c.read_input.new.w (g.L.Locals.items c.args.l.now)
     (call_streams files (g.I.Source.left c.read_input.new.input) (g.I.Source.counts c.read_input.new.input)
-    (g.O.Sink.state c.read_input.new.out) (g.E.Sink.state c.read_input.new.err))) c.read_input.result
+    (g.O.Sink.state c.read_input.new.out) (g.E.Sink.state c.read_input.new.err))) (answer_of c.read_input.result)
     (λ was. reads_when (asked_in c.args.ask) (file_of c.args.file) (value_in (extent_of c.args.w.now.heap) c.args.named) FromInput
     (setting_of was c.args.w.now (g.L.Locals.items c.args.l.now)) is)
     (c.read_input.ensures.row files)
@@ -53,7 +54,7 @@ returns-in-Some-Opened-clause-row g c = λ files.
     (g.E.Sink.state c.args.err.now)))
     (call_state c.give_opened.new.w (g.L.Locals.items c.args.l.now)
     (call_streams files (g.I.Source.left c.args.input.now) (g.I.Source.counts c.args.input.now) (g.O.Sink.state c.args.out.now)
-    (g.E.Sink.state c.args.err.now))) c.give_opened.result
+    (g.E.Sink.state c.args.err.now))) (answer_of c.give_opened.result)
     (λ was. reads_when (asked_in c.args.ask) (file_of c.args.file) (value_in (extent_of c.args.w.now.heap) c.args.named)
     (FromOpened c.in-Some-Opened.number) (setting_of was c.args.w.now (g.L.Locals.items c.args.l.now)) is)
     (rw c.in-Some-Opened.field-0-is at (c.give_opened.ensures

@@ -3,6 +3,8 @@ use Rattle.std.proofs.Common.{None, refl}
 use Rattle.icn_host.specs.FileMaps.{store_counts, store_state}
 use Rattle.icn_defs.specs.Rows.{gives_value}
 use Rattle.icn_value.specs.Values.{Text}
+use Rattle.icn_vars.specs.Outcomes.{answer_of}
+use Rattle.icn_args.proofs.RowAnswers.{same_halt}
 use Rattle.icn_streams.specs.Answers.{call_state}
 use Rattle.icn_streams.specs.Handed.{call_streams}
 use Rattle.icn_streams.specs.Readings.{asked_in}
@@ -17,7 +19,8 @@ returns-in_err-settle-clause-row g c = λ files.
     (call_streams files (g.I.Source.left c.args.input.now) (g.I.Source.counts c.args.input.now) (g.O.Sink.state c.args.out.now) (g.E.Sink.state c.args.err.now))
     (call_streams files (g.I.Source.left c.args.input.now) (g.I.Source.counts c.args.input.now) (g.O.Sink.state c.settle.new.out)
     (g.E.Sink.state c.settle.new.err))
-    c.in_err-settle.field-0.0 c.from_residual.result c.from_residual.ensures.1 (c.in_err-settle.ensures.settles _ _ _) c.requires
+    c.in_err-settle.field-0.0 (answer_of c.from_residual.result) (same_halt c.in_err-settle.field-0.0 c.from_residual.result c.from_residual.ensures.1)
+    (c.in_err-settle.ensures.settles _ _ _) c.requires
 
 pub returns-clause-row : goal.returns-clause-row
 returns-clause-row g c = λ files.
@@ -27,7 +30,7 @@ returns-clause-row g c = λ files.
     (g.E.Sink.state c.settle.new.err))
     (call_state c.give_text.new.w (g.L.Locals.items c.args.l.now) (call_streams files (g.I.Source.left c.give_text.new.input)
     (g.I.Source.counts c.give_text.new.input) (g.O.Sink.state c.settle.new.out) (g.E.Sink.state c.settle.new.err)))
-    c.give_text.result (c.in_ok-settle.ensures.settles _ _ _) (c.give_text.ensures _ _ _)
+    (answer_of c.give_text.result) (c.in_ok-settle.ensures.settles _ _ _) (c.give_text.ensures _ _ _)
 
 pub returns-in_err-settle-clause-settled : goal.returns-in_err-settle-clause-settled
 returns-in_err-settle-clause-settled g c =

@@ -7,6 +7,9 @@ use Rattle.icn_value.specs.Values.{Output, Val}
 use Rattle.icn_defs.specs.InputOutput.{last_of, line_put, newline, pieces}
 use Rattle.icn_defs.specs.Rows.{Gives, changes, gives_value}
 use Rattle.icn_value.specs.declared.item.Item.TheVariants.{Val as HeldVal}
+use Rattle.icn_vars.specs.Outcomes.{answer_of}
+use Rattle.icn_vars.specs.Stops.{halt_of}
+use Rattle.icn_args.proofs.RowAnswers.{same_halt}
 use Rattle.icn_vars.specs.Worlds.{setting_of}
 use Rattle.icn_vars.specs.declared.outcome.Outcome.TheVariants.{Gives as HeldGives}
 use Rattle.icn_streams.specs.Answers.{call_state}
@@ -30,13 +33,14 @@ returns-in_err-check_pieces g c = λ files left counts.
     (call_streams files left counts (g.O.Sink.state c.args.out.now) (g.E.Sink.state c.args.err.now)))
     (call_state c.args.w.now (g.L.Locals.items c.args.l.now)
     (call_streams files left counts (g.O.Sink.state c.args.out.now) (g.E.Sink.state c.args.err.now)))
-    c.from_residual.result (λ was. refl)
+    (answer_of c.from_residual.result) (λ was. refl)
     (stops_there (pieces (heap_of c.args.w.now.heap) (map (value_in (extent_of c.args.w.now.heap)) c.args.vals.now))
     (λ parts. changes (line_put (if c.args.ends then newline else []) true parts Output)
     (gives_value (last_of (map (value_in (extent_of c.args.w.now.heap)) c.args.vals.now))))
     (call_state c.args.w.now (g.L.Locals.items c.args.l.now)
     (call_streams files left counts (g.O.Sink.state c.args.out.now) (g.E.Sink.state c.args.err.now)))
-    c.in_err-check_pieces.field-0.0 c.from_residual.result c.from_residual.ensures.1
+    c.in_err-check_pieces.field-0.0 (answer_of c.from_residual.result)
+    (same_halt (halt_of c.in_err-check_pieces.field-0.0) c.from_residual.result c.from_residual.ensures.1)
     (λ was. c.in_err-check_pieces.ensures.found (setting_of was c.args.w.now (g.L.Locals.items c.args.l.now)))
     c.in_err-check_pieces.ensures.stops c.requires.locals)
 

@@ -1,61 +1,22 @@
-use Rattle.std.proofs.Common.{map, refl, sym, ◌∙◌}
-use Rattle.icn_defs.specs.StepRows as step_rows
+use Rattle.std.proofs.Common.{map, sym, ◌∙◌}
+use Rattle.icn_heap.specs.Extents.{value_in}
 use Rattle.icn_heap.specs.Heaps.{extent_of}
 use Rattle.icn_vars.specs.Worlds.{item_in}
 use Rattle.icn_code.specs.CodeTables.{tables_of}
 use Rattle.icn_run.specs.Stacks.{flat}
 use Rattle.icn_run.specs.Step.{all_names, invoke_value}
-use Rattle.law_steps.specs.KeepingSizes.{field_count}
-use Rattle.icn_heap.specs.Extents.{value_in}
 use Rattle.icn_control.specs.StackViews.{stack_in}
-use Rattle.icn_machine.proofs.CallFacts.{bare_store, call_named, call_sized, sizes_stay_on}
-use Rattle.icn_machine.proofs.InvokeSteps.{function_event}
-use Rattle.icn_machine.proofs.PerformEvents.{row_going, still_event}
+use Rattle.icn_machine.proofs.PerformEvents.{event_as}
 use Rattle.icn_machine.proofs.invoking.call_value.Goals as goal
 
-pub returns-in-Some-clause-step : goal.returns-in-Some-clause-step
-returns-in-Some-clause-step g c =
-    let w = c.args.world.now in
-    function_event (tables_of c.args.code.now) (g.N.Names.known c.args.names.now) c.in-Some.func c.args.callee w c.perform.new.world c.args.frames.now.flat
-    c.perform.new.frames.flat (map (item_in (extent_of w.heap)) c.args.items.now)
-    _ _ c.perform.result c.requires.known c.in-Some.ensures.invoked c.perform.ensures.row
-
-pub returns-in-Some-clause-live : goal.returns-in-Some-clause-live
-returns-in-Some-clause-live g c = c.perform.ensures.live (tables_of c.args.code.now)
-
-pub returns-in-Some-clause-going : goal.returns-in-Some-clause-going
-returns-in-Some-clause-going g c =
-    let w = c.args.world.now in
-    row_going (step_rows.apply (g.N.Names.known c.args.names.now) (step_rows.Function c.in-Some.func) (map (item_in (extent_of w.heap)) c.args.items.now)) w
-    c.perform.new.world c.args.frames.now.flat c.perform.new.frames.flat
-    _ _ c.perform.result (bare_store (g.N.Names.known c.args.names.now) w) refl c.perform.ensures.row
-
-pub returns-in-Some-clause-sized : goal.returns-in-Some-clause-sized
-returns-in-Some-clause-sized g c =
-    sizes_stay_on c.perform.result c.args.world.now c.perform.new.world (field_count (tables_of c.args.code.now)) c.perform.ensures.sized
-
-pub returns-in-None-clause-step : goal.returns-in-None-clause-step
-returns-in-None-clause-step g c =
+pub returns-clause-step : goal.returns-clause-step
+returns-clause-step g c =
     let w = c.args.world.now in
     let all = extent_of w.heap in
-    still_event (all_names (tables_of c.args.code.now))
-    (λ st.
-    invoke_value flat (tables_of c.args.code.now) (value_in all c.args.callee) (map (item_in all) c.args.items.now) (stack_in all c.args.frames.now.flat) st)
-    w c.invoke.new.world c.invoke.new.frames.flat _ c.invoke.result c.invoke.ensures.step
-
-pub returns-in-None-clause-named : goal.returns-in-None-clause-named
-returns-in-None-clause-named g c =
-    let w = c.args.world.now in
-    call_named c.steps_keep_names.ensures.kept (tables_of c.args.code.now) (g.N.Names.known c.args.names.now) w c.invoke.new.world c.args.frames.now.flat
-    c.invoke.new.frames.flat c.args.callee (map (item_in (extent_of w.heap)) c.args.items.now)
-    c.invoke.result c.requires.known
-    (sym c.function_of.ensures.function ∙ c.in-None.is) c.requires.callee_named c.requires.given.items_named c.requires.here.stack_named
-    c.requires.here.world_named
-    c.invoke.ensures.step c.invoke.ensures.going
-
-pub returns-in-None-clause-sized : goal.returns-in-None-clause-sized
-returns-in-None-clause-sized g c =
-    let w = c.args.world.now in
-    call_sized c.steps_keep_sizes.ensures.kept (tables_of c.args.code.now) w c.invoke.new.world c.args.frames.now.flat c.invoke.new.frames.flat c.args.callee
-    (map (item_in (extent_of w.heap)) c.args.items.now)
-    c.invoke.result (sym c.function_of.ensures.function ∙ c.in-None.is) c.invoke.ensures.step c.invoke.ensures.going
+    let tables = tables_of c.args.code.now in
+    let items = map (item_in all) c.args.items.now in
+    let on = stack_in all c.args.frames.now.flat in
+    event_as (all_names tables) (λ st. invoke_value flat tables (value_in all c.args.callee) items on st)
+    (λ st. invoke_value flat tables (value_in all c.named_callee-callee.result) items on st) w c.call_callee.new.world c.call_callee.new.frames.flat _ _
+    c.call_callee.result (λ st same names_same. c.named_callee-callee.ensures.same tables items on st (names_same ∙ sym c.requires.known))
+    c.call_callee.ensures.step

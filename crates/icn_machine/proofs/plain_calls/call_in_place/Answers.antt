@@ -4,7 +4,7 @@ use Rattle.icn_value.specs.Limited.{Bounds}
 use Rattle.icn_heap.specs.Heaps.{heap_of}
 use Rattle.icn_code.specs.CodeTables.{tables_of}
 use Rattle.icn_frames.specs.Stacks as held
-use Rattle.icn_machine.proofs.PlainCallSteps.{called_in_place, if_called, operands_there}
+use Rattle.icn_machine.proofs.PlainCallSteps.{called_in_place, operands_there}
 use Rattle.icn_machine.proofs.plain_calls.call_in_place.Goals as goal
 
 pub slot_below-requires : goal.slot_below-requires
@@ -16,8 +16,8 @@ enter_with-requires-clause-level g c = omega (arith, c.level.ensures, c.if-level
 pub enter_with-requires-clause-operands : goal.enter_with-requires-clause-operands
 enter_with-requires-clause-operands g c = operands_there c.args.count c.args.frames.now.flat c.requires.operands
 
-pub returns-clause-calls : goal.returns-clause-calls
-returns-clause-calls g c =
+pub returns-in-Ok-clause-calls : goal.returns-in-Ok-clause-calls
+returns-in-Ok-clause-calls g c e =
     let t = tables_of c.args.code.now in
     let w = c.args.world.now in
     let m = c.args.frames.now.flat in
@@ -27,7 +27,11 @@ returns-clause-calls g c =
     let within : number < length t.procs = slice_get_within t.procs number takes.entry takes.there in
     let low : held.level m < limit = omega (arith, c.level.ensures, c.if-level-limits.false) in
     let bound : (heap_of w.heap).bounds.levels ≡ limit = ap (λ (x : Bounds). x.levels) c.requires.bounds in
-    if_called c.enter_with.result _ _
-    (λ e. called_in_place t w c.args.count number c.in-Some-locals_besides.nulls limit m c.enter_with.new.self.flat c.slot_below.result c.in-Some.ensures
-    c.slot_below.ensures takes within low c.args.limits.now.few_levels bound e)
-    c.enter_with.ensures.enters
+    called_in_place t w c.args.count number c.in-Some-locals_besides.nulls limit m c.enter_with.new.self.flat c.slot_below.result c.in-Some.ensures
+    c.slot_below.ensures takes within low c.args.limits.now.few_levels bound (c.in-Ok.ensures.enters e)
+
+pub returns-in-Ok-clause-not : goal.returns-in-Ok-clause-not
+returns-in-Ok-clause-not g c e = c.in-Ok.ensures.not e
+
+pub returns-in-Err-clause-not : goal.returns-in-Err-clause-not
+returns-in-Err-clause-not g c e = c.in-Err.ensures.err

@@ -2,13 +2,13 @@ use Rattle.std.proofs.Common.{◌∙◌, map}
 use Rattle.icn_heap.specs.Extents.{value_in}
 use Rattle.icn_heap.specs.Heaps.{extent_of}
 use Rattle.icn_vars.specs.Worlds.{reach_of, setting_of}
-use Rattle.icn_args.proofs.RowAnswers.{row_stops}
+use Rattle.icn_args.proofs.RowAnswers.{value_row_stops}
 use Rattle.icn_scanfn.specs.Searches.{cset_search, many_in}
 use Rattle.icn_scanfn.proofs.testing.many_row.Goals as goal
 
 pub returns-in_err-wanted-clause-row : goal.returns-in_err-wanted-clause-row
 returns-in_err-wanted-clause-row g c = λ outside.
-    row_stops (extent_of c.cset_search.new.w.heap) (cset_search (map (value_in (extent_of c.args.w.now.heap)) c.args.args.now))
+    value_row_stops (extent_of c.cset_search.new.w.heap) (cset_search (map (value_in (extent_of c.args.w.now.heap)) c.args.args.now))
     (λ two. many_in two.0 two.1) (setting_of outside c.args.w.now (g.L.Locals.items c.args.l.now))
     (setting_of outside c.cset_search.new.w (g.L.Locals.items c.args.l.now)) c.in_err-wanted.field-0.0 c.from_residual.result c.from_residual.ensures.1
     (c.in_err-wanted.ensures.found outside)

@@ -1,9 +1,10 @@
-use Rattle.std.proofs.Common.{length, refl}
+use Rattle.std.proofs.Common.{None, length, refl}
 use Rattle.icn_strings.specs.Pieces.{made_of}
 use Rattle.icn_value.specs.Values.{Text}
 use Rattle.icn_defs.specs.Rows.{builds, costs_bytes, gives_value}
 use Rattle.icn_heap.specs.Extents.{text_in}
 use Rattle.icn_heap.specs.Heaps.{extent_of}
+use Rattle.icn_vars.specs.declared.stop.Stop.TheVariants.{Error}
 use Rattle.icn_vars.specs.Worlds.{setting_of}
 use Rattle.icn_strfn.proofs.RowAnswers.{row_stops_at, gives_text}
 use Rattle.icn_strfn.proofs.RowLimits.{no_given, stopped_as}
@@ -19,7 +20,7 @@ returns-in_err-span-clause-row g c = λ outside.
 
 pub returns-in_err-span-clause-limits : goal.returns-in_err-span-clause-limits
 returns-in_err-span-clause-limits g c = λ over.
-    stopped_as c.from_residual.result c.in_err-span.field-0.0 _ c.from_residual.ensures.1 (c.in_err-span.ensures.limits over)
+    stopped_as c.from_residual.result c.in_err-span.field-0.0 (Error 306 None) c.from_residual.ensures.1 (c.in_err-span.ensures.limits over)
 
 pub returns-clause-row : goal.returns-clause-row
 returns-clause-row g c = λ outside.

@@ -6,7 +6,7 @@ use Rattle.icn_defs.specs.Arguments.{arg, integer, value_or}
 use Rattle.icn_defs.specs.Rows.{gives_list, gives_value, natural, new_list_of}
 use Rattle.icn_defs.specs.Structures.{list_row}
 use Rattle.icn_vars.specs.Worlds.{reach_of, setting_of}
-use Rattle.icn_args.proofs.RowAnswers.{stop_lives}
+use Rattle.icn_args.proofs.RowAnswers.{value_stop_lives}
 use Rattle.icn_structfn.proofs.RowAnswers.{stops_finding}
 use Rattle.std.proofs.Common.{rules, FitsSigned, w64, to_z, of_z}
 use Rattle.std.proofs.lemmas.Int.{to_z-of_z}
@@ -56,7 +56,7 @@ returns-in_err-count-clause-row g c outside =
 
 pub returns-in_err-count-clause-live : goal.returns-in_err-count-clause-live
 returns-in_err-count-clause-live g c =
-    stop_lives
+    value_stop_lives
     (reach_of c.args.w.now (g.L.Locals.items c.args.l.now)) c.in_err-count.field-0.0 c.from_residual-in_err-count.result c.from_residual-in_err-count.ensures.1
     (c.in_err-count.ensures.stops (extent_of c.args.w.now.heap) (c.arg-2.ensures.live (extent_of c.args.w.now.heap) c.requires.live.args))
 

@@ -14,7 +14,7 @@ use Rattle.icont_top.proofs.top.image_answer.Goals as goal
 pub returns-in-Some-clause-done : goal.returns-in-Some-clause-done
 returns-in-Some-clause-done g c words held members ready e =
     ran_done _ _ _ _ _ _ members c.args.plan c.args.program.now (run_seen c.in-Some.asked) c.ran_answer.result _ c.one_spelling.ensures.read_back
-    c.same_ends.ensures.on_stacks c.outsides_grow.ensures.on_stacks ready e
+    c.outsides_grow.ensures.on_stacks ready e
     (writes_image _ _ c.args.plan members (said_name c.args.plan.image c.args.program.now.base _ members c.unwrap_or.ensures ready.is.base)
     (c.deref.ensures.value ∙ ready.is.made.bytes) c.in-Ok.ensures.ok)
     (record {
@@ -26,7 +26,7 @@ returns-in-Some-clause-done g c words held members ready e =
 
 pub returns-in-None-clause-done : goal.returns-in-None-clause-done
 returns-in-None-clause-done g c words held members ready e =
-    wrote_done _ _ members c.args.plan c.args.program.now _ _ _ _ c.one_spelling.ensures.read_back c.same_ends.ensures.on_stacks ready e
+    wrote_done _ _ members c.args.plan c.args.program.now _ _ _ _ c.one_spelling.ensures.read_back ready e
     (writes_image _ _ c.args.plan members (said_name c.args.plan.image c.args.program.now.base _ members c.unwrap_or.ensures ready.is.base)
     (c.deref.ensures.value ∙ ready.is.made.bytes) c.in-Ok.ensures.ok) c.in-None.is
 

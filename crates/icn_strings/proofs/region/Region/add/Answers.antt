@@ -12,6 +12,7 @@ invariant_of-self c =
       sound =
           sound_more old.written.bytes c.up_to-self.result.bytes c.args.bytes.now old.closed.items old.last new old.sum old.limit old.sound
           c.add.ensures.first c.add.ensures.bytes whole c.requires.short;
+      counted = old.counted;
     }
 
 pub returns : goal.returns

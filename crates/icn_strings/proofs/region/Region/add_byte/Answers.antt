@@ -14,6 +14,7 @@ invariant_of-self c =
       sound =
           sound_more old.written.bytes c.up_to-self.result.bytes more old.closed.items old.last new old.sum old.limit old.sound
           c.fill.ensures.first c.fill.ensures.bytes whole (omega (arith, length-replicate c.args.count c.args.byte, c.requires.short));
+      counted = old.counted;
     }
 
 pub returns : goal.returns

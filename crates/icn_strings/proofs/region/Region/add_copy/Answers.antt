@@ -33,6 +33,7 @@ invariant_of-self c =
       sound =
           sound_more old.written.bytes c.up_to-self.result.bytes more old.closed.items old.last new old.sum old.limit old.sound
           c.copy_behind.ensures.first bytes whole (omega (arith, bytes_are old c.args.range c.requires.of, c.requires.can.short));
+      counted = old.counted;
     }
 
 pub returns : goal.returns

@@ -24,6 +24,7 @@ invariant_of-self c =
     c.up_to-self.ensures ∙ changed_behind old mid bytes more c.map_behind.new.self c.add_origin.ensures c.map_behind.ensures.first now in
     record {
       sound = sound_changed old mid bytes more _ c.map_behind.new.self c.add_origin.ensures c.map_behind.ensures.first now whole (omega (arith, long, c.requires.can.short));
+      counted = mid.counted;
     }
 
 pub returns : goal.returns

@@ -1,9 +1,19 @@
-use Rattle.std.proofs.Common.{◌≡◌, ◌∙◌, [], ◌∷◌, ◌++◌, List, refl, sym, ap, subst, arith}
+use Rattle.std.proofs.Common.{◌≡◌, ◌∙◌, [], ◌∷◌, ◌++◌, List, length, refl, sym, ap, subst, arith}
+use Rattle.std.specs.Prelude.{vec_len}
 use Rattle.icn_strings.specs.declared.chunk.Chunk.{Chunk}
-use Rattle.icn_strings.specs.Chunks.{HasRoom}
+use Rattle.icn_strings.specs.Chunks.{sizes, HasRoom}
 use Rattle.icn_strings.proofs.AddedBytes.{sound_closed}
+use Rattle.icn_strings.proofs.ChunkSizes.{held_within, sizes_more}
 use Rattle.icn_strings.proofs.KeptRegions.{keeps_closed, keeps_same}
 use Rattle.icn_strings.proofs.region.Region.open_chunk.Goals as goal
+
+same_long : {one other : Chunk} → one ≡ other → vec_len one.bytes ≡ vec_len other.bytes
+same_long same = ap (λ (chunk : Chunk). vec_len chunk.bytes) same
+
+pub overflow_add-self : goal.overflow_add-self
+overflow_add-self c =
+    let old = c.args.self.now in
+    omega (arith, old.counted, held_within old, old.sound.short, c.len.ensures, same_long c.replace-before.ensures.value, old.last.bytes.ok)
 
 pub invariant_of-self-2 : goal.invariant_of-self-2
 invariant_of-self-2 c =
@@ -18,6 +28,7 @@ invariant_of-self-2 c =
           sound_closed old.written.bytes old.closed.items c.push_reserved.new.self.items old.last new old.sum old.limit old.sound items
           (ap (λ (chunk : Chunk). chunk.first) c.replace-before.ensures.after ∙ c.end-first.ensures.end)
           (ap (λ (chunk : Chunk). chunk.bytes.items) c.replace-before.ensures.after ∙ c.in_ok-bytes.ensures.items);
+      counted = omega (arith, old.counted, ap (λ (cs : List Chunk). sizes cs) items, sizes_more old.closed.items old.last (length old.last.bytes.items) refl, c.len.ensures, same_long c.replace-before.ensures.value, old.last.bytes.ok);
     }
 
 pub returns-clause-room : goal.returns-clause-room

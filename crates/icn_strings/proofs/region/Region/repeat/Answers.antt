@@ -48,6 +48,7 @@ invariant_of-self c =
       sound =
           sound_changed old mid bytes more _ c.repeat_behind.new.self is c.repeat_behind.ensures.first now whole
           (omega (arith, all, c.requires.can.short));
+      counted = mid.counted;
     }
 
 pub returns : goal.returns

@@ -1,0 +1,12 @@
+pub mod LeastSets
+pub mod StandingPlaces
+pub mod KeptEntries
+pub mod AscendingPlaces
+pub mod PlacedEntries
+pub mod TableRules
+pub mod StayingGlobals
+pub mod PrunedRules
+pub mod SurvivingTables
+pub mod KeptMarks
+pub mod KeptOfCode
+pub mod KeptWalk

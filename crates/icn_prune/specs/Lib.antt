@@ -1,0 +1,5 @@
+pub mod KeptCode
+pub mod PrunedCode
+pub mod Marks
+pub mod Renumbering
+pub mod PlaceViews
