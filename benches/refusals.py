@@ -8,9 +8,9 @@ co-expression; and one that makes so many texts that memory is given back.
 
 A command of which a growth is refused answers `no memory`, with status 5. Its output is a first part of what it puts with enough memory;
 each file that it writes is whole or not there, an old one of that name stays as it was until then, nothing is left lying beside, and all
-other files stay. A growth that is only asked for speed may be refused without a trace. A job is done once each of its growths was
-refused. What is printed is how many growths each command makes, and how many of these end it. It needs Python 3 and a C compiler, and
-stands outside the gate.
+other files stay. A growth that is only asked for speed, or asked again where it was refused, may be refused without a trace. A job is
+done once each of its growths was refused. What is printed is how many growths each command makes, and how many of these end it. It
+needs Python 3 and a C compiler, and stands outside the gate.
 """
 import os
 import subprocess

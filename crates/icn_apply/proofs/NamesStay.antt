@@ -1,9 +1,8 @@
 -- What is answered names only what has a name, by the law over rows.
-use Rattle.std.proofs.Common.{◌≡◌, sym, subst, ◌<◌, arith, List, [], ◌∷◌, length, map, Result, Ok, Err}
+use Rattle.std.proofs.Common.{◌≡◌, sym, subst, ◌<◌, List, [], ◌∷◌, length, map, Result, Ok, Err}
 use Rattle.std.specs.Prelude.{IsErrAnd}
 use Rattle.std.specs.List.{All}
 use Rattle.std.specs.Option.{option_map}
-use Rattle.std.proofs.lemmas.List.{length-map}
 use Rattle.std.proofs.lemmas.List.Elements.{All-nil, All-cons, All-head, All-tail, All-weaker}
 use Rattle.icn_text.specs.declared.func.Func.{Func}
 use Rattle.icn_value.specs.declared.val.Val.{Val}
@@ -16,7 +15,7 @@ use Rattle.icn_defs.specs.ReadAndAssign.{the_values}
 use Rattle.icn_defs.specs.Rows.{Row, Fails, Error, Ends, fails}
 use Rattle.icn_heap.specs.Extents.{Extent, IsLive, value_in}
 use Rattle.icn_heap.specs.Heaps.{extent_of, heap_of}
-use Rattle.icn_heap.specs.HeapParts.{record_in}
+use Rattle.icn_heap.proofs.StructureNumbers.{record_below}
 use Rattle.icn_heap.specs.declared.heap.Heap.{Heap as HeldHeap}
 use Rattle.icn_convert.specs.ProgramNames.{AreRecordsNamed, IsNamed}
 use Rattle.law_names.specs.RowsNamed.{IsThere, OutcomeNamed}
@@ -126,11 +125,6 @@ records_named names heap named =
 
 -- Records that are there
 
--- the records of the extent are those of the heap
-record_count : (heap : HeldHeap) → length (heap_of heap).records ≡ (extent_of heap).records
-unfolding heap_of extent_of
-record_count heap = length-map heap.records.items (record_in (extent_of heap))
-
 live_there : (heap : HeldHeap) (val : Val) → IsLive (extent_of heap) val → IsThere (heap_of heap) (value_in (extent_of heap) val)
 live_there heap NullVal is = tt
 live_there heap (IntegerVal n) is = tt
@@ -138,9 +132,7 @@ live_there heap (TextVal span) is = tt
 live_there heap (CharsVal cset) is = tt
 live_there heap (StdVal file) is = tt
 live_there heap (ProcVal number) is = tt
-live_there heap (RecVal id) is =
-    let below : id < (extent_of heap).records = is.live in
-    omega (arith, record_count heap, below)
+live_there heap (RecVal id) is = record_below heap id is
 live_there heap (ListVal id) is = tt
 live_there heap (SetVal id) is = tt
 live_there heap (TableVal id) is = tt

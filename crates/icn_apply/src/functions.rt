@@ -195,6 +195,30 @@ pub fn function_answer<L: Locals, N: Names, S: Streams>(
     value_answer(func, vals, w, l, names, streams)
 }
 
+/// Applies a function to the values of its arguments, whatever it gives; one that is missing is null. The errors are those of `apply`.
+pub fn function_outcome<L: Locals, N: Names, S: Streams>(
+    func: Func,
+    vals: &[Val],
+    w: &mut World,
+    l: &L,
+    names: &N,
+    streams: &mut S,
+) -> Result<Outcome, Halt>
+    requires locals { All (IsLive (extent_of w.old.heap)) (L.items l.now) }
+    requires vals { All (IsLive (extent_of w.old.heap)) vals.now }
+    requires named { SettingNamed (N.known names.now) (setting_of bare_outside w.old (L.items l.now)) }
+    requires vals_named { All (ValueNamed (N.known names.now))
+        (map (value_in (extent_of w.old.heap)) vals.now) }
+    ensures applies { Applies (function_of (N.known names.now) func
+        (map (value_in (extent_of w.old.heap)) vals.now))
+        (call_state w.old (L.items l.now) (S.state streams.old))
+        (call_state w.new (L.items l.now) (S.state streams.new)) result }
+    ensures named { AnswerNamed (N.known names.now) w.new (L.items l.now) result }
+    ensures sized { AnswerKeepsSizes w.old w.new result }
+{
+    apply_to_values(func, vals, w, l, names, streams)
+}
+
 // What a row answers that gives a value at most, as an answer that could suspend.
 fn as_answer(answer: Result<ValueOutcome, Halt>) -> Result<Outcome, Halt>
     ensures { result ≡ answer_of answer }

@@ -10,6 +10,6 @@ mod names;
 mod naming;
 
 pub use applied::Applied;
-pub use applying::{again, apply};
+pub use applying::{again, apply, assign, concatenate};
 pub use code_names::CodeNames;
-pub use functions::function_answer;
+pub use functions::{function_answer, function_outcome};

@@ -1,9 +1,8 @@
 -- Records that are made of arguments, and fields of records.
-use Rattle.std.proofs.Common.{◌≡◌, ℕ, ◌<◌, ◌≤◌, List, [], ◌∷◌, map, length, slice_get, Option, Some, None, Result, Ok, Err, refl, sym, ap, ◌∙◌, subst, arith}
+use Rattle.std.proofs.Common.{◌≡◌, ℕ, ◌<◌, ◌≤◌, List, [], ◌∷◌, map, length, slice_get, Option, Some, None, Result, Ok, Err, refl, sym, ap, ◌∙◌, subst}
 use Rattle.std.specs.Prelude.{get_or, slice_index}
 use Rattle.std.specs.List.{position}
 use Rattle.std.specs.Option.{option_and_then, option_map, option_map_or}
-use Rattle.std.proofs.lemmas.List.{length-map}
 use Rattle.std.proofs.lemmas.Option.{get_or_from_slice_get, slice_get-get_or, slice_get-map, slice_get_past, unwrap_or-slice_get}
 use Rattle.icn_value.specs.declared.val.Val.{Val}
 use Rattle.icn_value.specs.declared.val.Val.TheVariants as Vals
@@ -17,6 +16,7 @@ use Rattle.icn_defs.specs.StepRows.{record_row}
 use Rattle.icn_heap.specs.Extents.{Extent, IsLive, value_in}
 use Rattle.icn_heap.specs.declared.heap.Heap.{Heap as HeldHeap}
 use Rattle.icn_heap.specs.Heaps.{extent_of, heap_of}
+use Rattle.icn_heap.proofs.StructureNumbers.{record_below}
 use Rattle.icn_vars.specs.declared.stop.Stop.{Stop}
 use Rattle.icn_vars.specs.declared.stop.Stop.TheVariants.{Error as StopError, NoMemory as StopNoMemory}
 use Rattle.icn_vars.specs.declared.world.World.{World}
@@ -27,7 +27,6 @@ use Rattle.icn_defs.specs.Structures.{new_record_of}
 use Rattle.icn_value.specs.Store.{Outside, bare_outside}
 use Rattle.icn_vars.specs.Worlds.{IsLiveItem, item_in, field_counts, reach_of, setting_of, world_of}
 use Rattle.law_names.specs.RowSizes.{FitSizes}
-use Rattle.icn_heap.specs.HeapParts.{record_in}
 use Rattle.icn_control.specs.LiveStacks.{with_locals}
 use Rattle.icn_frames.specs.Stacks as held
 use Rattle.icn_frames.specs.Stacks.{FlatStack}
@@ -114,18 +113,12 @@ pub count_found : (tables : Tables) (kind : ℕ) (entry : RecordType) (fields : 
 count_found tables kind entry fields at e =
     ap length e ∙ sym (ap (λ (o : Option RecordType). option_map_or (λ (entry : RecordType). length entry.fields) o 0) at)
 
--- the records of the extent are those of the heap
-record_count : (heap : HeldHeap) → length (heap_of heap).records ≡ (extent_of heap).records
-unfolding heap_of extent_of
-record_count heap = length-map heap.records.items (record_in (extent_of heap))
-
 -- how many fields a record of the heap has
 size_is : (sizes : ℕ → ℕ) (heap : HeldHeap) (id : ℕ) → FitSizes sizes (heap_of heap) → IsLive (extent_of heap) (Vals.Rec id)
     → slice_index (field_counts (heap_of heap)) id ≡ sizes (record_at (heap_of heap) id).kind
 size_is sizes heap id fit live =
     let nothing : Record = record { kind = 0; fields = [] } in
-    let below : id < (extent_of heap).records = live.live in
-    let within : id < length (heap_of heap).records = omega (arith, record_count heap, below) in
+    let within : id < length (heap_of heap).records = record_below heap id live in
     let there : slice_get (heap_of heap).records id ≡ Some (get_or (heap_of heap).records id nothing)
     = slice_get-get_or (heap_of heap).records id nothing within in
     let is : get_or (heap_of heap).records id nothing ≡ record_at (heap_of heap) id = sym (unwrap_or-slice_get (heap_of heap).records id nothing) in

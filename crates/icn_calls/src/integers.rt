@@ -81,7 +81,8 @@ pub fn call_integer<K: Stack<Cell> + Drop>(
         items.now }
     ensures step { (tables : Tables) (st : Store FramesRead) → st.world ≡ world_of world.now
         → NamesNothing st.names (value_in (extent_of world.now.heap) callee)
-        → MatchResult result (StandsWith (integer_called calls tables (value_in (extent_of world.now.heap) callee)
+        → MatchResult result
+        (StandsWith (integer_called calls tables (value_in (extent_of world.now.heap) callee)
         (number_of (value_in (extent_of world.now.heap) callee)) (map (item_in (extent_of world.now.heap))
         items.now) (stack_in (extent_of world.now.heap) frames.old.flat) st) st world.now frames.new.flat)
         (HaltsWith (integer_called calls tables (value_in (extent_of world.now.heap) callee)

@@ -1,5 +1,5 @@
 -- A transfer changes at most the one that is left and the one that is entered; one is active.
-use Rattle.std.proofs.Common.{◌≡◌, ◌≢◌, ◌<◌, ℕ, zero, suc, false, List, [], ◌∷◌, slice_get, Option, Some, None, IsSome, refl, sym, ap, ◌∙◌, subst, arith}
+use Rattle.std.proofs.Common.{◌≡◌, ◌≢◌, ℕ, zero, suc, false, List, [], ◌∷◌, slice_get, Option, Some, None, IsSome, refl, sym, ap, ◌∙◌, subst, arith}
 use Rattle.std.specs.Option.{option_map}
 use Rattle.std.proofs.lemmas.Option.{same_Some, slice_get-map}
 use Rattle.icn_value.specs.declared.val.Val.{Val}
@@ -10,7 +10,7 @@ use Rattle.icn_coexp.specs.declared.entries.Status.{Status}
 use Rattle.icn_coexp.specs.declared.entries.Status.TheVariants.{Fresh, Active, Waiting, Exhausted}
 use Rattle.icn_coexp.specs.declared.entries.RunningStack.{RunningStack}
 use Rattle.icn_coexp.specs.declared.entries.RunningStack.TheVariants.{On, Hopping}
-use Rattle.icn_coexp.specs.Transfers.{Coexp, CoexpTable, status_in, status_of, source, with_status, with_status_in, with_activator, with_activator_in, with_waiting, wait_on, begin_by, give_by, fail_by, enter_other, enter_with, give, exhaust, exhausted_of, active_status, OneIsActive, KeepsOthers}
+use Rattle.icn_coexp.specs.Transfers.{Coexp, CoexpTable, status_in, status_of, source, with_status, with_status_in, with_activator, with_activator_in, with_waiting, wait_on, begin_by, give_by, fail_by, enter_other, give, exhaust, exhausted_of, active_status, OneIsActive, KeepsOthers}
 use Rattle.icn_coexp.specs.KeptEntries.{status_seen, coexp_seen, running_seen, table_seen, StatusFits, RunsAs, IsHere, AreInOrder}
 use Rattle.icn_coexp.proofs.ChangedEntries.{put_other}
 use Rattle.icn_coexp.proofs.TransferredEntries.{here_entry}

@@ -14,11 +14,11 @@ use Rattle.icn_value.specs.declared.residual.Residual.{Residual as HeldResidual}
 use Rattle.icn_value.specs.declared.residual.Residual.TheVariants.{TextBytes, VariableBytes, ListItems, SetMembers, TableValues, TableKeys, RecordFields, FileLines, UndoAssign, UndoExchange, UndoPosition, Counting, Sequence, Balanced, Found, Among}
 use Rattle.icn_value.specs.Values.{Variable}
 use Rattle.icn_defs.specs.RowFacts.{can_hold}
-use Rattle.icn_heap.specs.declared.needed_texts.NeededTexts.{NeededTexts}
+use Rattle.icn_heap.specs.declared.needed_values.NeededValues.{NeededValues}
 use Rattle.icn_heap.specs.Extents.{Extent, IsLive, IsText, KeepsMeaning, text_in, value_in}
 use Rattle.icn_heap.specs.NeededValues.{IsNeeded}
 use Rattle.icn_heap.proofs.NeededSteps.{all_front, all_behind, all_of}
-use Rattle.icn_heap.proofs.SweptTexts.{text_made, value_made}
+use Rattle.icn_heap.proofs.HeldElements.{text_made, value_made}
 use Rattle.icn_vars.specs.NeededItems.{variable_vals, item_vals}
 use Rattle.icn_vars.proofs.CollectedItems.{item_lives, variable_lives}
 use Rattle.icn_vars.specs.Worlds.{Reach, IsLiveVariable, IsLiveItem, variable_in}
@@ -52,7 +52,7 @@ module _ (old new : Extent) (means : KeepsMeaning old new) where
 
 -- What is needed stays
 
-module _ (old : Reach) (new : Extent) (needed : NeededTexts) (means : KeepsMeaning old.extent new)
+module _ (old : Reach) (new : Extent) (needed : NeededValues) (means : KeepsMeaning old.extent new)
     (live : (val : Val) → IsLive old.extent val → IsNeeded needed val → IsLive new val) where
   text_lives : (span : Span) → IsText old.extent span → IsNeeded needed (TextVal span) → IsText new span
   text_lives span is q = (live (TextVal span) (record { live = is }) q).live
@@ -91,12 +91,12 @@ module _ (old : Reach) (new : Extent) (needed : NeededTexts) (means : KeepsMeani
       → IsLiveResidual (with_locals n (over_heap old new)) rest
   residual_lives n (TextBytes text place) l q = record { live = text_lives text l.live (first_needed (TextVal text) [] q) }
   residual_lives n (VariableBytes variable place) l q = record { live = variable_stays n variable l.live q }
-  residual_lives n (ListItems list place) l q = record { live = live (ListVal list) l.live (record { needed = tt }) }
-  residual_lives n (SetMembers set place) l q = record { live = live (SetVal set) l.live (record { needed = tt }) }
-  residual_lives n (TableValues table place) l q = record { live = live (TableVal table) l.live (record { needed = tt }) }
-  residual_lives n (TableKeys table place) l q = record { live = live (TableVal table) l.live (record { needed = tt }) }
-  residual_lives n (RecordFields rec place) l q = record { live = live (RecVal rec) l.live (record { needed = tt }) }
-  residual_lives n (FileLines file) l q = record { live = live (StdVal file) l.live (record { needed = tt }) }
+  residual_lives n (ListItems list place) l q = record { live = live (ListVal list) l.live (first_needed (ListVal list) [] q) }
+  residual_lives n (SetMembers set place) l q = record { live = live (SetVal set) l.live (first_needed (SetVal set) [] q) }
+  residual_lives n (TableValues table place) l q = record { live = live (TableVal table) l.live (first_needed (TableVal table) [] q) }
+  residual_lives n (TableKeys table place) l q = record { live = live (TableVal table) l.live (first_needed (TableVal table) [] q) }
+  residual_lives n (RecordFields rec place) l q = record { live = live (RecVal rec) l.live (first_needed (RecVal rec) [] q) }
+  residual_lives n (FileLines file) l q = record { live = live (StdVal file) l.live (record { needed = tt; among = tt }) }
   residual_lives n (UndoAssign variable val) l q = record { live = old_lives n variable val l.live q }
   residual_lives n (UndoExchange mover left right old_left old_right) l q =
       let front = all_front (IsNeeded needed) (variable_vals left ++ old_left ∷ []) (variable_vals right ++ old_right ∷ []) q in

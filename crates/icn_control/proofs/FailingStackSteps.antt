@@ -84,7 +84,7 @@ came_back m n why by back =
     let F : FlatStack → Option (Why × FlatStack) = λ x. Some (why, x) in
     by.1 ∙ ap F (sym (back why by.0 by.1))
 
-falls_by : (all : Extent) (m n : FlatStack) (why : Why) → held.resume m ≡ Some (why, n) → (tables : Tables) (st : Store Frames)
+pub falls_by : (all : Extent) (m n : FlatStack) (why : Why) → held.resume m ≡ Some (why, n) → (tables : Tables) (st : Store Frames)
     → fails flat tables (stack_in all m) st ≡ resume_by flat tables (why_read (reading_of all) why) (stack_in all n) st
 falls_by all m n why e tables st =
     ap (resumed_or_dropped flat tables (stack_in all m) st) (resume_read (reading_of all) m ∙ ap (option_map (resumed_read (reading_of all))) e)

@@ -4,10 +4,10 @@ use Rattle.std.specs.List.{flat_map}
 use Rattle.std.proofs.lemmas.Option.{slice_get_cases}
 use Rattle.std.proofs.lemmas.List.{drop_all}
 use Rattle.std.proofs.lemmas.List.Concat.{flat_map-cons}
-use Rattle.std.proofs.lemmas.List.Elements.{All-append, All-weaker}
+use Rattle.std.proofs.lemmas.List.Elements.{All-append, All-weaker, Contains-append_left, Contains-append_right}
 use Rattle.std.proofs.lemmas.List.Sums.{sum_by-append}
 use Rattle.icn_value.specs.declared.val.Val.{Val}
-use Rattle.icn_heap.specs.declared.needed_texts.NeededTexts.{NeededTexts}
+use Rattle.icn_heap.specs.declared.needed_values.NeededValues.{NeededValues}
 use Rattle.icn_heap.specs.Extents.{IsLive}
 use Rattle.icn_heap.specs.NeededValues.{length_of_val, IsNeeded, AreNeeded}
 use Rattle.icn_heap.proofs.NeededSteps.{all_front, all_behind, needed_none}
@@ -21,24 +21,28 @@ use Rattle.icn_coexp.specs.KeptEntries.{coexp_seen}
 use Rattle.icn_control.specs.NeededStacks.{cell_vals, content_vals, coexp_vals, entry_vals}
 
 -- some values and then those that stand before them
-needed_before : {one two three : NeededTexts} {vals others : List Val} → AreNeeded one two vals → AreNeeded two three others
+needed_before : {one two three : NeededValues} {vals others : List Val} → AreNeeded one two vals → AreNeeded two three others
     → AreNeeded one three (others ++ vals)
 needed_before {one} {two} {three} {vals} {others} first second = record {
   more = λ val is. second.more val (first.more val is);
   each = All-append (IsNeeded three) others vals second.each (All-weaker (IsNeeded two) (IsNeeded three) second.more vals first.each);
   bytes = omega (arith, first.bytes, second.bytes, sum_by-append length_of_val others vals);
-  texts = λ all live are.
-      second.texts all (all_front (IsLive all) others vals live) (first.texts all (all_behind (IsLive all) others vals live) are);
+  of_heap = λ all live are.
+      second.of_heap all (all_front (IsLive all) others vals live) (first.of_heap all (all_behind (IsLive all) others vals live) are);
+  only = λ val is. elim (second.only val is) [
+    | inl mid ↦ elim (first.only val mid) [ inl was ↦ inl was | inr one ↦ inr (Contains-append_right others vals val one) ]
+    | inr other ↦ inr (Contains-append_left others vals val other)
+  ];
 }
 
 -- no cell yet
-pub cells_none : (needed : NeededTexts) (cells : List Cell) → AreNeeded needed needed (flat_map cell_vals (cut 0 cells))
+pub cells_none : (needed : NeededValues) (cells : List Cell) → AreNeeded needed needed (flat_map cell_vals (cut 0 cells))
 cells_none needed cells =
     let low : length cells ≤ length cells - 0 = omega arith in
     subst (λ (s : List Cell). AreNeeded needed needed (flat_map cell_vals s)) (sym (drop_all (length cells - 0) cells low)) (needed_none needed)
 
 -- one cell more
-pub cells_more : {a b c : NeededTexts} (cells : List Cell) (i : ℕ) (content : CellContent) → i < length cells
+pub cells_more : {a b c : NeededValues} (cells : List Cell) (i : ℕ) (content : CellContent) → i < length cells
     → ((cell : Cell) → cell_at (i + 1) cells ≡ Some cell → content ≡ content_of cell) → AreNeeded a b (flat_map cell_vals (cut i cells))
     → AreNeeded b c (content_vals content)
     → AreNeeded a c (flat_map cell_vals (cut (i + 1) cells))
@@ -56,7 +60,7 @@ cells_more {a} {b} {c} cells i content within is so_far next = elim (slice_get_c
 ]
 
 -- all cells
-pub cells_all : {a b : NeededTexts} (cells : List Cell) (i : ℕ) → i ≡ length cells → AreNeeded a b (flat_map cell_vals (cut i cells))
+pub cells_all : {a b : NeededValues} (cells : List Cell) (i : ℕ) → i ≡ length cells → AreNeeded a b (flat_map cell_vals (cut i cells))
     → AreNeeded a b (flat_map cell_vals cells)
 cells_all {a} {b} cells i all are =
     let none : length cells - i ≡ 0 = omega (arith, all) in

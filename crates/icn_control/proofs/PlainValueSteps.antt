@@ -1,5 +1,5 @@
 -- Values that slots tell, as the instructions find them.
-use Rattle.std.proofs.Common.{◌≡◌, ℕ, ◌<◌, true, List, length, slice_get, Option, Some, None, IfSome, IsSome, Ok, is_some, refl, sym, ap, ◌∙◌, subst}
+use Rattle.std.proofs.Common.{◌≡◌, ℕ, ℤ, suc, ◌+◌, ◌<◌, true, false, List, [], ◌∷◌, length, slice_get, Option, Some, None, IfSome, IsSome, Ok, is_some, refl, sym, ap, ◌∙◌, subst, arith}
 use Rattle.std.proofs.lemmas.Option.{same_Some, slice_get-map, slice_get-get_or}
 use Rattle.std.specs.Option.{option_and_then, option_map}
 use Rattle.std.specs.Prelude.{get_or, unwrap_or}
@@ -16,27 +16,31 @@ use Rattle.icn_heap.specs.Heaps.{extent_of}
 use Rattle.icn_heap.proofs.ListChanges.{get_live}
 use Rattle.icn_vars.specs.declared.world.World.{World}
 use Rattle.icn_vars.specs.Worlds.{IsLiveItem, Reach, item_in}
-use Rattle.icn_frames.specs.CalledWith.{HoldsValue, as_local, as_value, local_variable}
+use Rattle.icn_frames.specs.CalledWith.{DropsWith, HasOperands, HoldsValue, as_local, as_value, local_variable, operands_above}
 use Rattle.icn_frames.specs.Slots.{plain_local, plain_operand, plain_value, value_only}
+use Rattle.icn_frames.specs.declared.layout.Cell.{Cell}
+use Rattle.icn_frames.specs.declared.layout.Cell.TheVariants.{Base, Call, Local, Mark, Limit as LimitMark, Suspension, Operand}
 use Rattle.icn_frames.specs.declared.slots.StackSlot.{StackSlot}
 use Rattle.icn_frames.specs.declared.slots.StackSlot.TheVariants.{VarLocal}
 use Rattle.icn_frames.specs.Stacks as held
 use Rattle.icn_frames.specs.Stacks.{FlatStack}
 use Rattle.law_frames.proofs.CallsRead.{locals_read}
 use Rattle.icn_code.specs.Codes.{Tables}
+use Rattle.icn_code.specs.declared.instr.Instr.TheVariants.{Limit, Psusp}
 use Rattle.icn_run.specs.Rows as rows
 use Rattle.icn_run.specs.Rows.{value_row}
 use Rattle.icn_run.specs.Stacks.{Frames, flat}
 use Rattle.icn_run.specs.Step.{Store, here, with_result}
-use Rattle.icn_control.specs.LiveStacks.{IsLiveStack, with_locals}
-use Rattle.icn_control.specs.PlainValues.{TakesValue, TellsValue}
-use Rattle.icn_control.specs.StackAndWorld.{FindsValue}
+use Rattle.icn_control.specs.LiveStacks.{IsLiveStack, StaysLive, with_locals}
+use Rattle.icn_control.specs.PlainValues.{TakesValue, TellsLimit, TellsValue}
+use Rattle.icn_control.specs.StackAndWorld.{ComesWith, FindsValue, RunsAlone, natural_of}
 use Rattle.icn_control.specs.StackViews.{reading_of, stack_in}
-use Rattle.icn_control.proofs.LiveCalls.{live_pop, own_locals}
+use Rattle.icn_control.specs.declared.machine.RunState.TheVariants as RunStates
+use Rattle.icn_control.proofs.LiveCalls.{live_pop, own_locals, pop_owner}
 use Rattle.icn_control.proofs.OperandValues.{live_locals}
-use Rattle.icn_control.proofs.ReturnSteps.{Finds, local_result}
-use Rattle.icn_control.proofs.StackAndWorldSteps.{value_goes}
-use Rattle.icn_control.proofs.StackSteps.{PlainTop}
+use Rattle.icn_control.proofs.ReturnSteps.{Finds, local_result, psusp_runs, suspended_free, swaps_none}
+use Rattle.icn_control.proofs.StackAndWorldSteps.{limit_more, limit_zero, value_goes}
+use Rattle.icn_control.proofs.StackSteps.{PlainTop, TellsTop, plain_top, pushed_back}
 
 -- What slots tell
 
@@ -151,3 +155,104 @@ plain_below m slot there plain told = by_below (held.below m) refl there
         let y = some_there (plain_operand slot) plain in
         record { item = x; is = e; tells = y.1 ∙ ap (λ (z : Item). Some z) (sym (told x y.0 e y.1)) }
     by_below None e q = cc
+
+-- A limit whose count slots tell
+
+-- the integer that the slot of a value tells is the value of the operand
+pub limit_held : (held : List Val) (slot value : StackSlot) (n : ℤ) (count : Option ℕ) → TellsValue held slot value
+    → plain_operand value ≡ Some (Items.Val (Vals.Integer n)) → count ≡ natural_of n → IfSome count (TellsLimit held slot)
+limit_held held slot value n None t e c = tt
+limit_held held slot value n (Some count) t e c =
+    let same : t.is ≡ Vals.Integer n = same_Some t.is (Vals.Integer n) (ap (option_and_then value_only) (sym t.gives ∙ e)) in
+    record { item = t.item; number = n; tells = t.tells; holds = subst (λ (v : Val). HoldsValue held t.item v) same t.holds; is = sym c }
+
+-- the operand on top is dropped
+no_items : (items : List Item) → length items ≡ 0 → items ≡ []
+no_items [] e = refl
+no_items (x ∷ items) e = let some : suc (length items) ≡ 0 = e in absurd (omega arith)
+
+dropped_pops : (m k : FlatStack) (d : DropsWith 0 m k) → held.pop m ≡ Some (d.callee, k)
+dropped_pops m k d =
+    let above : List Item → FlatStack = λ xs. record k { cells = operands_above xs (Operand d.callee ∷ k.cells) } in
+    ap held.pop (d.was ∙ ap above (no_items d.items d.many))
+
+pub one_above : (m : FlatStack) → IsSome (held.pop m) → HasOperands (0 + 1) m.cells
+one_above m there = by_cells m.cells there
+  where
+    by_cells : (cells : List Cell) → IsSome (held.pop_from m cells) → HasOperands (0 + 1) cells
+    by_cells (Operand x ∷ s) q = tt
+    by_cells [] q = cc
+    by_cells (Base proc locals ∷ s) q = cc
+    by_cells (Call proc locals level r place ∷ s) q = cc
+    by_cells (Local value ∷ s) q = cc
+    by_cells (Mark label changed r ∷ s) q = cc
+    by_cells (LimitMark count r ∷ s) q = cc
+    by_cells (Suspension why r place ∷ s) q = cc
+
+pub record LimitTaken (m k : FlatStack) (count : ℕ) : Type 0 where
+  pub item : Item
+  pub number : ℤ
+  pub pops : held.pop m ≡ Some (item, k)
+  pub holds : HoldsValue (held.locals k) item (Vals.Integer number)
+  pub is : natural_of number ≡ Some count
+
+pub limit_taken : (m k : FlatStack) (slot : StackSlot) (count : ℕ) → DropsWith 0 m k → TellsLimit (held.locals m) slot count → TellsTop m slot
+    → LimitTaken m k count
+limit_taken m k slot count d t told =
+    let pops = dropped_pops m k d in
+    let same : t.item ≡ d.callee = sym (told d.callee k pops t.item t.tells) in
+    let here : HoldsValue (held.locals k) t.item (Vals.Integer t.number)
+    = subst (λ (vs : List Val). HoldsValue vs t.item (Vals.Integer t.number)) d.locals_same t.holds in
+    record {
+      item = d.callee;
+      number = t.number;
+      pops = pops;
+      holds = subst (λ (x : Item). HoldsValue (held.locals k) x (Vals.Integer t.number)) same here;
+      is = t.is;
+    }
+
+pub limit_fails : (w : World) (m k : FlatStack) (count : ℕ) → LimitTaken m k count → count ≡ 0 → ComesWith Limit w m w k (Ok RunStates.Failing)
+limit_fails w m k count t zero_is tables st same =
+    limit_zero w m k k t.item (Vals.Integer t.number) t.pops
+    (λ s e. value_found (extent_of w.heap) k s t.item (Vals.Integer t.number) t.holds) t.number refl count (sym t.is) zero_is refl tables st same
+
+pub limit_opens : (w : World) (m k n : FlatStack) (count : ℕ) → LimitTaken m k count → (count ≡ 0 → ⊥) → n ≡ held.open_either None (Some count) k
+    → ComesWith Limit w m w n (Ok RunStates.Running)
+limit_opens w m k n count t more opens tables st same =
+    limit_more w m k k n t.item (Vals.Integer t.number) t.pops
+    (λ s e. value_found (extent_of w.heap) k s t.item (Vals.Integer t.number) t.holds) t.number refl count (sym t.is) more refl opens tables st same
+
+-- A procedure that is suspended with a value
+
+-- the top operand holds the value that a slot tells
+record ToldTop (m : FlatStack) (v : Val) : Type 0 where
+  item : Item
+  rest : FlatStack
+  pops : held.pop m ≡ Some (item, rest)
+  holds : HoldsValue (held.locals m) item v
+
+told_top : (m : FlatStack) (slot value : StackSlot) (t : TellsValue (held.locals m) slot value) → IsSome (held.pop m) → TellsTop m slot → ToldTop m t.is
+told_top m slot value t there told =
+    let top = plain_top m slot there (ap is_some t.tells) told in
+    record {
+      item = top.item;
+      rest = top.rest;
+      pops = top.pops;
+      holds = subst (λ (x : Item). HoldsValue (held.locals m) x t.is) (same_Some t.item top.item (sym t.tells ∙ top.tells)) t.holds;
+    }
+
+pub told_suspends : (m n : FlatStack) (slot value : StackSlot) (t : TellsValue (held.locals m) slot value) → IsSome (held.pop m) → TellsTop m slot
+    → is_some m.registers.scan ≡ false → held.given_to (Some (Items.Val t.is)) (held.suspend_proc m) ≡ Some n → RunsAlone Psusp m n
+told_suspends m n slot value t there told none e w tables st same =
+    let top = told_top m slot value t there told in
+    psusp_runs w w m top.rest m m m n top.item (Items.Val t.is) top.pops (sym (pushed_back m top.rest top.item top.pops))
+    (result_found w m top.item t.is top.holds) refl (swaps_none w m none) refl e tables st same
+
+pub told_suspends_live : (m n : FlatStack) (slot value : StackSlot) (t : TellsValue (held.locals m) slot value) → IsSome (held.pop m) → TellsTop m slot
+    → held.given_to (Some (Items.Val t.is)) (held.suspend_proc m) ≡ Some n → StaysLive m n
+told_suspends_live m n slot value t there told e tables reach l =
+    let top = told_top m slot value t there told in
+    let back = live_pop tables reach m top.rest top.item top.pops l in
+    let own : IsLiveItem (with_locals (own_locals m) reach) top.item
+    = subst (λ (c : ℕ). IsLiveItem (with_locals c reach) top.item) (sym (pop_owner m top.rest top.item top.pops l.root)) back.item_live in
+    suspended_free tables reach m n (Items.Val t.is) e l (λ c. record { live = value_live tables reach m top.item t.is l own top.holds })

@@ -1,5 +1,5 @@
 -- Returning from a procedure, suspending it, and leaving it as it fails.
-use Rattle.std.proofs.Common.{◌≡◌, ℕ, zero, suc, ◌-◌, true, false, List, [], ◌∷◌, length, drop, slice_get, Option, Some, None, Result, Ok, Err, MatchResult, refl, sym, ap, ◌∙◌, subst}
+use Rattle.std.proofs.Common.{◌≡◌, ℕ, zero, suc, ◌-◌, true, false, List, [], ◌∷◌, length, drop, slice_get, Option, Some, None, is_some, Result, Ok, Err, MatchResult, refl, sym, ap, ◌∙◌, subst}
 use Rattle.std.specs.Option.{option_map}
 use Rattle.std.specs.Prelude.{IsErrAnd}
 use Rattle.std.proofs.lemmas.Option.{same_Some}
@@ -41,7 +41,7 @@ use Rattle.icn_control.specs.Results.{is_local_item}
 use Rattle.icn_control.proofs.StackSteps.{popped_runs, pushed_back}
 use Rattle.icn_control.proofs.LiveCalls.{own_locals, live_push}
 use Rattle.icn_control.proofs.LiveFrames.{live_suspend_proc}
-use Rattle.icn_control.proofs.StackAndWorldSteps.{value_goes, value_halts, left_world, match_halt}
+use Rattle.icn_control.proofs.StackAndWorldSteps.{value_goes, value_halts, left_world, match_halt, same_world}
 
 -- Results
 
@@ -151,6 +151,22 @@ no_scan m pair e = by_scan m.registers.scan e
         ≡ None
     by_scan None q = refl
     by_scan (Some h) q = cc
+
+-- where no scan is open nothing is exchanged
+pub swaps_none : (w : World) (m : FlatStack) → is_some m.registers.scan ≡ false → (st : Store Frames) (next : Frames → Store Frames → State Frames Frames)
+    → st.world ≡ world_of w
+    → maybe_exchanged (flat.swap_oldest (pair_now st) (stack_in (extent_of w.heap) m)) (stack_in (extent_of w.heap) m) st next
+    ≡ next (stack_in (extent_of w.heap) m) (with_world (world_of w) st)
+swaps_none w m none st next same =
+    let all : Extent = extent_of w.heap in
+    ap (λ (p : calls.Pair). maybe_exchanged (flat.swap_oldest p (stack_in all m)) (stack_in all m) st next) (present_pair w st same)
+    ∙ ap (λ (o : Option (calls.Pair × Frames)). maybe_exchanged o (stack_in all m) st next)
+    (swap_oldest_read (reading_of all) w.pair m ∙ ap (option_map (swapped_read (reading_of all))) (no_scan m w.pair (no_some m.registers.scan none)))
+    ∙ ap (next (stack_in all m)) (same_world w st same)
+  where
+    no_some : (o : Option ℕ) → is_some o ≡ false → o ≡ None
+    no_some None e = refl
+    no_some (Some h) e = cc
 
 -- Leaving
 

@@ -9,6 +9,7 @@ use Rattle.icn_value.specs.declared.item.Root.TheVariants.{Global as HeldGlobal,
 use Rattle.icn_value.specs.declared.item.VarRef.TheVariants.{Whole as HeldWhole}
 use Rattle.icn_value.specs.declared.item.Pair.{Pair}
 use Rattle.icn_heap.specs.Extents.{Extent}
+use Rattle.icn_frames.specs.Heights.{cell_at}
 use Rattle.icn_frames.specs.declared.layout.Cell.{Cell}
 use Rattle.icn_frames.specs.declared.layout.Cell.TheVariants.{Base, Call, Local, Mark, Limit, Suspension, Operand}
 use Rattle.icn_frames.specs.declared.slots.StackSlot.{StackSlot}
@@ -154,6 +155,21 @@ counted_by : (m n : FlatStack) (count : ℕ) → held.count_down m ≡ Some (cou
 counted_by m n count e all next =
     let there : IsSome (held.count_down m) = subst IsSome (sym e) refl in
     ap (λ (w : Option (ℕ × Frames)). with_found w (on_pair next)) (count_down_read (reading_of all) m there ∙ ap (option_map (counted_read (reading_of all))) e)
+
+-- a count that is one lower leaves the marks as they are
+pub counted_base : (m n : FlatStack) (count : ℕ) → held.count_down m ≡ Some (count, n) → held.at_base n ≡ held.at_base m
+counted_base m n count e = by_cell (cell_at m.registers.mark m.cells) e
+  where
+    by_cell : (cell : Option Cell) → held.count_down_at m cell ≡ Some (count, n) → held.at_base n ≡ held.at_base m
+    by_cell (Some (Limit (suc left) r)) q = ap (λ (w : ℕ × FlatStack). held.at_base w.1) (sym (same_Some _ _ q))
+    by_cell (Some (Limit zero r)) q = cc
+    by_cell None q = cc
+    by_cell (Some (Base proc locals)) q = cc
+    by_cell (Some (Call proc locals level r place)) q = cc
+    by_cell (Some (Local value)) q = cc
+    by_cell (Some (Mark label changed r)) q = cc
+    by_cell (Some (Suspension why r place)) q = cc
+    by_cell (Some (Operand item)) q = cc
 
 lsusp_by : (m k l n : FlatStack) (item : Item) (count : ℕ) → held.pop m ≡ Some (item, k) → held.count_down k ≡ Some (count, l)
     → (all : Extent) (tables : Tables) (st : Store Frames)

@@ -5,7 +5,7 @@ use Rattle.std.proofs.lemmas.Option.{slice_get-get_or}
 use Rattle.std.proofs.lemmas.List.Concat.{flat_map-cons}
 use Rattle.std.proofs.lemmas.List.Elements.{All-append, All-cons}
 use Rattle.icn_value.specs.declared.val.Val.{Val}
-use Rattle.icn_value.specs.declared.val.Val.TheVariants.{Text as TextVal}
+use Rattle.icn_value.specs.declared.val.Val.TheVariants.{Text as TextVal, Rec as RecVal, List as ListVal, Set as SetVal, Table as TableVal}
 use Rattle.icn_value.specs.declared.val.Span.{Span}
 use Rattle.icn_value.specs.declared.item.Root.{Root as HeldRoot}
 use Rattle.icn_value.specs.declared.item.Root.TheVariants.{Global as HeldGlobal, Static as HeldStatic, Local as HeldLocal, Element as HeldElement, Field as HeldField, Key as HeldKey, Keyword as HeldKeyword}
@@ -50,9 +50,10 @@ module _ (reach : Reach) where
   root_held n (HeldGlobal place) l = no_vals (IsLive reach.extent)
   root_held n (HeldStatic place) l = no_vals (IsLive reach.extent)
   root_held n (HeldLocal place) l = no_vals (IsLive reach.extent)
-  root_held n (HeldElement list number) l = no_vals (IsLive reach.extent)
-  root_held n (HeldField rec place) l = no_vals (IsLive reach.extent)
-  root_held n (HeldKey table key) l = one_val (IsLive reach.extent) key l.live.1
+  root_held n (HeldElement list number) l = one_val (IsLive reach.extent) (ListVal list) l.live
+  root_held n (HeldField rec place) l = one_val (IsLive reach.extent) (RecVal rec) l.live.0
+  root_held n (HeldKey table key) l =
+      All-cons (IsLive reach.extent) (TableVal table) (key ∷ []) l.live.0 (one_val (IsLive reach.extent) key l.live.1)
   root_held n (HeldKeyword word) l = no_vals (IsLive reach.extent)
 
   variable_held : (n : ℕ) (variable : VarRef) → IsLiveVariable (with_locals n reach) variable → All (IsLive reach.extent) (variable_vals variable)
@@ -72,11 +73,11 @@ module _ (reach : Reach) where
   residual_held : (n : ℕ) (rest : HeldResidual) → IsLiveResidual (with_locals n reach) rest → All (IsLive reach.extent) (residual_vals rest)
   residual_held n (TextBytes text place) l = text_live reach.extent text l.live
   residual_held n (VariableBytes variable place) l = variable_held n variable l.live
-  residual_held n (ListItems list place) l = no_vals (IsLive reach.extent)
-  residual_held n (SetMembers set place) l = no_vals (IsLive reach.extent)
-  residual_held n (TableValues table place) l = no_vals (IsLive reach.extent)
-  residual_held n (TableKeys table place) l = no_vals (IsLive reach.extent)
-  residual_held n (RecordFields rec place) l = no_vals (IsLive reach.extent)
+  residual_held n (ListItems list place) l = one_val (IsLive reach.extent) (ListVal list) l.live
+  residual_held n (SetMembers set place) l = one_val (IsLive reach.extent) (SetVal set) l.live
+  residual_held n (TableValues table place) l = one_val (IsLive reach.extent) (TableVal table) l.live
+  residual_held n (TableKeys table place) l = one_val (IsLive reach.extent) (TableVal table) l.live
+  residual_held n (RecordFields rec place) l = one_val (IsLive reach.extent) (RecVal rec) l.live
   residual_held n (FileLines file) l = no_vals (IsLive reach.extent)
   residual_held n (UndoAssign variable old) l = old_held n variable old l.live
   residual_held n (UndoExchange mover left right old_left old_right) l =

@@ -11,10 +11,12 @@ use Rattle.icn_frames.specs.Stacks.{FlatStack}
 use Rattle.icn_code.specs.Codes.{Tables}
 use Rattle.icn_run.specs.Calls.{Op, Proc}
 use Rattle.icn_run.specs.Stacks.{Frames, flat}
-use Rattle.icn_run.specs.Step.{State, Store, running, failing, with_world, turn, resume_by, without_mark, mark_dropped}
+use Rattle.icn_run.specs.Step.{State, Store, running, failing, fails, with_world, turn, resume_by, without_mark, mark_dropped}
 use Rattle.law_steps.specs.StateNames.{StackNamed}
 use Rattle.icn_control.specs.declared.failing.AfterFailure.{AfterFailure}
 use Rattle.icn_control.specs.declared.failing.AfterFailure.TheVariants as AfterFailures
+use Rattle.icn_control.specs.declared.failing.Fallen.{Fallen}
+use Rattle.icn_control.specs.declared.failing.Fallen.TheVariants as Fallens
 use Rattle.icn_control.specs.LiveStacks.{with_locals, locals_at}
 use Rattle.icn_control.specs.StackViews.{stack_in}
 
@@ -38,6 +40,19 @@ DropsTo m n due =
     (all : Extent) (tables : Tables) (st : Store Frames)
     → IsDue all tables (mark_dropped flat tables (stack_in all m) st (flat.drop_mark (stack_in all m)))
     st n due
+
+-- what is due, among all that may be
+abbrev pub due_of : Fallen → AfterFailure
+due_of Fallens.Failing = AfterFailures.Failing
+due_of Fallens.Running = AfterFailures.Running
+due_of Fallens.Beginning = AfterFailures.Beginning
+due_of Fallens.Reentering = AfterFailures.Reentering
+due_of Fallens.Leaving = AfterFailures.Leaving
+
+-- a step of failing on this stack leads to that one, and to what is due, in each world, which stays
+abbrev pub FallsAlone : FlatStack → FlatStack → AfterFailure → Type 0
+FallsAlone m n due = (w : World) (tables : Tables) (st : Store Frames) → st.world ≡ world_of w
+    → FallsTo tables (fails flat tables (stack_in (extent_of w.heap) m) st) st w n due
 
 -- what is resumed is of the world
 abbrev pub IsLiveDue : Reach → FlatStack → AfterFailure → Type 0

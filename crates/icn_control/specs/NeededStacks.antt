@@ -1,8 +1,8 @@
--- The values that stacks have, whose texts are to stay as memory is given back.
+-- The values that stacks have, which are to stay as memory is given back.
 use Rattle.std.specs.Prelude.{List, [], ◌∷◌, ◌++◌, Option, None, Some}
 use Rattle.std.specs.List.{flat_map}
 use Rattle.icn_value.specs.declared.val.Val.{Val}
-use Rattle.icn_value.specs.declared.val.Val.TheVariants.{Text as TextVal}
+use Rattle.icn_value.specs.declared.val.Val.TheVariants.{Text as TextVal, Rec as RecVal, List as ListVal, Set as SetVal, Table as TableVal}
 use Rattle.icn_value.specs.declared.residual.Residual.{Residual}
 use Rattle.icn_value.specs.declared.residual.Residual.TheVariants.{TextBytes, VariableBytes, ListItems, SetMembers, TableValues, TableKeys, RecordFields, FileLines, UndoAssign, UndoExchange, UndoPosition, Counting, Sequence, Balanced, Found, Among}
 use Rattle.icn_vars.specs.NeededItems.{item_vals, variable_vals}
@@ -18,15 +18,15 @@ use Rattle.icn_coexp.specs.declared.entries.CoexpEntry.{CoexpEntry}
 use Rattle.icn_coexp.specs.KeptEntries.{coexp_seen}
 use Rattle.icn_coexp.specs.Transfers.{Coexp, CoexpTable}
 
--- the texts that a residual names, and the values of its variables
+-- the texts and structures that a residual names, and the values of its variables
 abbrev pub residual_vals : Residual → List Val
 residual_vals (TextBytes text place) = TextVal text ∷ []
 residual_vals (VariableBytes variable place) = variable_vals variable
-residual_vals (ListItems list place) = []
-residual_vals (SetMembers set place) = []
-residual_vals (TableValues table place) = []
-residual_vals (TableKeys table place) = []
-residual_vals (RecordFields rec place) = []
+residual_vals (ListItems list place) = ListVal list ∷ []
+residual_vals (SetMembers set place) = SetVal set ∷ []
+residual_vals (TableValues table place) = TableVal table ∷ []
+residual_vals (TableKeys table place) = TableVal table ∷ []
+residual_vals (RecordFields rec place) = RecVal rec ∷ []
 residual_vals (FileLines file) = []
 residual_vals (UndoAssign variable old) = variable_vals variable ++ old ∷ []
 residual_vals (UndoExchange mover left right old_left old_right) =

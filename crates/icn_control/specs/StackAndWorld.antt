@@ -47,6 +47,11 @@ HaltsWith state st w m Halts.WriteFault = ⊥
 HaltsWith state st w m Halts.FileFault = ⊥
 HaltsWith state st w m Halts.NoMemory = ⊤
 
+-- The instruction goes on with another stack in each world, which stays.
+abbrev pub RunsAlone : Instr → FlatStack → FlatStack → Type 0
+RunsAlone instr m n = (w : World) (tables : Tables) (st : Store Frames) → st.world ≡ world_of w
+    → RunsWith (instruction_state (extent_of w.heap) tables instr m st) st w n
+
 -- The instruction, done on a stack in a world, goes on with another stack in another world, or halts there.
 abbrev pub DoesWith : {A : Type 0} → Instr → World → FlatStack → World → FlatStack → Result A Halt → Type 0
 DoesWith instr w m v n result = (tables : Tables) (st : Store Frames) → st.world ≡ world_of w

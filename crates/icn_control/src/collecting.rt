@@ -5,8 +5,9 @@ ghost use Rattle.icn_value.specs.Store.{Outside};
 ghost use Rattle.icn_value.specs.declared.val.Val.TheVariants.{Text as TextVal};
 ghost use Rattle.icn_strings.specs.Regions.{held_by};
 ghost use Rattle.icn_heap.specs.Heaps.{extent_of};
+ghost use Rattle.icn_heap.specs.MarkedStructures.{LeavesReached};
 ghost use Rattle.icn_heap.specs.NeededValues.{length_of_vals, AreNeeded};
-ghost use Rattle.icn_vars.specs.NeededItems.{reached_length, variable_vals};
+ghost use Rattle.icn_vars.specs.NeededItems.{reached_length, variable_vals, world_vals};
 ghost use Rattle.icn_coexp.specs.KeptEntries.{running_seen, status_seen};
 ghost use Rattle.icn_code.specs.Codes.{Tables};
 ghost use Rattle.icn_control.specs.Machines.{IsSoundMachine, stack_seen, store_seen};
@@ -15,42 +16,42 @@ ghost use Rattle.icn_control.specs.NeededStacks.{content_vals, entry_vals, resid
 use crate::machine::Machine;
 use icn_coexp::{CoexpEntry, RunningStack, Stacks, Status};
 use icn_frames::{Cell, CellContent, Frames, Stack, Why};
-use icn_heap::NeededTexts;
+use icn_heap::NeededValues;
 use icn_value::{Residual, Span, Val, VarRef};
-use icn_vars::{add_texts_of_item, add_texts_of_variable};
+use icn_vars::{add_item, add_variable};
 use std::alloc::AllocError;
 
 // Adds a text.
-fn add_text(span: Span, needed: &mut NeededTexts) -> Result<(), AllocError>
+fn add_text(span: Span, needed: &mut NeededValues) -> Result<(), AllocError>
     ensures { OnOk result (AreNeeded needed.old needed.new (TextVal span ∷ [])) }
 {
     needed.add(Val::Text(span))
 }
 
-// Adds the texts of a variable and of what it held before.
-fn add_texts_of_old(variable: VarRef, old: Val, needed: &mut NeededTexts) -> Result<(), AllocError>
+// Adds a variable and what it held before.
+fn add_old(variable: VarRef, old: Val, needed: &mut NeededValues) -> Result<(), AllocError>
     ensures { OnOk result (AreNeeded needed.old needed.new (variable_vals variable ++ old ∷ [])) }
 {
-    add_texts_of_variable(variable, needed)?;
+    add_variable(variable, needed)?;
     needed.add(old)?;
     Ok(())
 }
 
-// Adds the texts that a residual names.
+// Adds what a residual names.
 #[tactic(auto, using(icn_heap::proofs::NeededSteps::needed_none))]
-fn add_texts_of_residual(residual: Residual, needed: &mut NeededTexts) -> Result<(), AllocError>
+fn add_residual(residual: Residual, needed: &mut NeededValues) -> Result<(), AllocError>
     ensures { OnOk result (AreNeeded needed.old needed.new (residual_vals residual)) }
 {
     match residual {
         Residual::TextBytes { text, .. } => add_text(text, needed),
-        Residual::VariableBytes { variable, .. } => add_texts_of_variable(variable, needed),
-        Residual::ListItems { .. } => Ok(()),
-        Residual::SetMembers { .. } => Ok(()),
-        Residual::TableValues { .. } => Ok(()),
-        Residual::TableKeys { .. } => Ok(()),
-        Residual::RecordFields { .. } => Ok(()),
+        Residual::VariableBytes { variable, .. } => add_variable(variable, needed),
+        Residual::ListItems { list, .. } => needed.add(Val::List(list)),
+        Residual::SetMembers { set, .. } => needed.add(Val::Set(set)),
+        Residual::TableValues { table, .. } => needed.add(Val::Table(table)),
+        Residual::TableKeys { table, .. } => needed.add(Val::Table(table)),
+        Residual::RecordFields { rec, .. } => needed.add(Val::Rec(rec)),
         Residual::FileLines { .. } => Ok(()),
-        Residual::UndoAssign { variable, old } => add_texts_of_old(variable, old, needed),
+        Residual::UndoAssign { variable, old } => add_old(variable, old, needed),
         Residual::UndoExchange {
             left,
             right,
@@ -58,8 +59,8 @@ fn add_texts_of_residual(residual: Residual, needed: &mut NeededTexts) -> Result
             old_right,
             ..
         } => {
-            add_texts_of_old(left, old_left, needed)?;
-            add_texts_of_old(right, old_right, needed)?;
+            add_old(left, old_left, needed)?;
+            add_old(right, old_right, needed)?;
             Ok(())
         }
         Residual::UndoPosition { .. } => Ok(()),
@@ -75,113 +76,113 @@ fn add_texts_of_residual(residual: Residual, needed: &mut NeededTexts) -> Result
     }
 }
 
-// Adds the texts of what was suspended.
+// Adds what was suspended.
 #[tactic(auto, using(icn_heap::proofs::NeededSteps::needed_none))]
-fn add_texts_of_suspended(why: Why, needed: &mut NeededTexts) -> Result<(), AllocError>
+fn add_suspended(why: Why, needed: &mut NeededValues) -> Result<(), AllocError>
     ensures { OnOk result (AreNeeded needed.old needed.new (why_vals why)) }
 {
     match why {
         Why::Alt => Ok(()),
-        Why::Op(residual) => add_texts_of_residual(residual, needed),
+        Why::Op(residual) => add_residual(residual, needed),
         Why::Scan(pair) => add_text(pair.subject, needed),
         Why::Escan => Ok(()),
         Why::Proc => Ok(()),
     }
 }
 
-// Adds the texts of what a cell holds.
+// Adds what a cell holds.
 #[tactic(auto, using(icn_heap::proofs::NeededSteps::needed_none))]
-fn add_texts_of_content(content: CellContent, needed: &mut NeededTexts) -> Result<(), AllocError>
+fn add_content(content: CellContent, needed: &mut NeededValues) -> Result<(), AllocError>
     ensures { OnOk result (AreNeeded needed.old needed.new (content_vals content)) }
 {
     match content {
         CellContent::Nothing => Ok(()),
         CellContent::Local(val) => needed.add(val),
-        CellContent::Operand(item) => add_texts_of_item(item, needed),
-        CellContent::Suspended(why) => add_texts_of_suspended(why, needed),
+        CellContent::Operand(item) => add_item(item, needed),
+        CellContent::Suspended(why) => add_suspended(why, needed),
     }
 }
 
-// Adds the texts of a stack, from the lowest cell up.
-fn add_texts_of_stack<K: Stack<Cell> + Drop>(
+// Adds the values of a stack, from the lowest cell up.
+fn add_stack<K: Stack<Cell> + Drop>(
     frames: &Frames<K>,
-    needed: &mut NeededTexts,
+    needed: &mut NeededValues,
 ) -> Result<(), AllocError>
     ensures { OnOk result (AreNeeded needed.old needed.new (stack_vals frames.now.flat)) }
 {
     let len = frames.len();
     let mut i: u64 = 0;
     while i < len {
-        add_texts_of_content(frames.content_at(i), needed)?;
+        add_content(frames.content_at(i), needed)?;
         i += 1;
     }
     Ok(())
 }
 
-// Adds the texts of a stack that waits.
+// Adds the values of a stack that waits.
 #[tactic(auto, using(icn_heap::proofs::NeededSteps::needed_none))]
-fn add_texts_of_status<K: Stack<Cell> + Drop>(
+fn add_status<K: Stack<Cell> + Drop>(
     status: &Status<K>,
-    needed: &mut NeededTexts,
+    needed: &mut NeededValues,
 ) -> Result<(), AllocError>
     ensures { OnOk result (AreNeeded needed.old needed.new (status_vals (status_seen status.now))) }
 {
     match status {
         Status::Fresh(_) => Ok(()),
         Status::Active => Ok(()),
-        Status::Waiting(frames) => add_texts_of_stack(frames, needed),
+        Status::Waiting(frames) => add_stack(frames, needed),
         Status::Exhausted => Ok(()),
     }
 }
 
-// Adds the texts of a co-expression: those of the values that it was made with, and of its stack, if it waits.
-fn add_texts_of_coexp<K: Stack<Cell> + Drop>(
+// Adds the values of a co-expression: those that it was made with, and those of its stack, if it waits.
+fn add_coexp<K: Stack<Cell> + Drop>(
     entry: &CoexpEntry<K>,
-    needed: &mut NeededTexts,
+    needed: &mut NeededValues,
 ) -> Result<(), AllocError>
     ensures { OnOk result (AreNeeded needed.old needed.new (entry_vals entry.now)) }
 {
     needed.add_all(&entry.values)?;
-    add_texts_of_status(&entry.status, needed)?;
+    add_status(&entry.status, needed)?;
     Ok(())
 }
 
-// Adds the texts of the stack that runs, if one does.
+// Adds the values of the stack that runs, if one does.
 #[tactic(auto, using(icn_heap::proofs::NeededSteps::needed_none))]
-fn add_texts_of_running<K: Stack<Cell> + Drop>(
+fn add_running<K: Stack<Cell> + Drop>(
     running: &RunningStack<K>,
-    needed: &mut NeededTexts,
+    needed: &mut NeededValues,
 ) -> Result<(), AllocError>
     ensures { OnOk result (AreNeeded needed.old needed.new (running_vals (running_seen running.now))) }
 {
     match running {
-        RunningStack::On(frames) => add_texts_of_stack(frames, needed),
+        RunningStack::On(frames) => add_stack(frames, needed),
         RunningStack::Hopping => Ok(()),
     }
 }
 
-// Adds the texts of all co-expressions.
-fn add_texts_of_coexps<K: Stack<Cell> + Drop>(
+// Adds the values of all co-expressions.
+fn add_coexps<K: Stack<Cell> + Drop>(
     entries: &[CoexpEntry<K>],
-    needed: &mut NeededTexts,
+    needed: &mut NeededValues,
 ) -> Result<(), AllocError>
     ensures { OnOk result (AreNeeded needed.old needed.new (flat_map entry_vals entries.now)) }
 {
     for entry in entries {
-        add_texts_of_coexp(entry, needed)?;
+        add_coexp(entry, needed)?;
     }
     Ok(())
 }
 
-// Adds the texts of all co-expressions and their stacks.
-fn add_texts_of_stacks<K: Stack<Cell> + Drop>(
+// Adds the values of all co-expressions and their stacks.
+fn add_stacks<K: Stack<Cell> + Drop>(
     stacks: &Stacks<K>,
-    needed: &mut NeededTexts,
+    needed: &mut NeededValues,
 ) -> Result<(), AllocError>
     ensures { OnOk result (AreNeeded needed.old needed.new (stacks_vals stacks.now.table)) }
 {
-    add_texts_of_running(stacks.running(), needed)?;
-    add_texts_of_coexps(stacks.entries(), needed)?;
+    add_running(stacks.running(), needed)?;
+    add_coexps(stacks.entries(), needed)?;
     Ok(())
 }
 
@@ -224,10 +225,11 @@ impl<K: Stack<Cell> + Drop> Machine<K> {
         cells.saturating_add(self.world.heap.held_entries())
     }
 
-    /// Gives back the memory of all texts that nothing reaches. It answers how many texts stay, each as often as it was found.
+    /// Gives back memory of structures and texts that nothing reaches. It answers how many texts stay, each as often as it was
+    /// found.
     ///
     /// What the machine stands for is the same. No more bytes are held then than the texts have together that stacks, co-expressions, the world and
-    /// structures have. The error is want of memory, and leaves the machine as it was.
+    /// structures have that stay. The error is want of memory: then all texts stay, and perhaps all structures.
     pub fn collect(&mut self) -> Result<u64, AllocError>
         requires { (tables : Tables) × IsSoundMachine tables self.old }
         ensures stack { stack_seen self.new ≡ stack_seen self.old }
@@ -239,10 +241,12 @@ impl<K: Stack<Cell> + Drop> Machine<K> {
         ensures limits { self.new.limits ≡ self.old.limits }
         ensures begun { self.new.begun ≡ self.old.begun }
         ensures few { OnOk result (held_by (extent_of self.new.world.heap).strings
-            ≤ length_of_vals (stacks_vals self.old.stacks.table) + reached_length self.old.world) }
+            ≤ length_of_vals (stacks_vals self.old.stacks.table) + reached_length self.new.world) }
+        ensures reached { OnOk result (LeavesReached self.old.world.heap self.new.world.heap
+            (stacks_vals self.old.stacks.table ++ world_vals self.old.world)) }
     {
-        let mut needed = NeededTexts::new(*self.begun.allocator());
-        add_texts_of_stacks(&self.stacks, &mut needed)?;
+        let mut needed = NeededValues::new(*self.begun.allocator());
+        add_stacks(&self.stacks, &mut needed)?;
         self.world.collect(needed)
     }
 }

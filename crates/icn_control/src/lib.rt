@@ -32,13 +32,13 @@ mod world;
 pub use activation::Activation;
 pub use coexpression_laws::{creations_are_read, transfers_are_read};
 pub use coexpressions::{create, refresh};
-pub use failing::{AfterFailure, fall};
+pub use failing::{AfterFailure, Fallen, fall, fall_at_once};
 pub use failing_step::fail_once;
 pub use hops::{exhaust, hop};
 pub use initial::init;
 pub use keywords::{keyword_item, push_keyword};
 pub use leaving::end_failing;
-pub use limits::limit;
+pub use limits::{limit, limit_at_once};
 pub use lists::{make_list, push_list};
 pub use literals::{push_cset, push_global, push_integer, push_local, push_static};
 pub use machine::{Machine, RunState};
@@ -50,7 +50,9 @@ pub use on_stack::{
 pub use opening::open_scan;
 pub use operands::take_operands;
 pub use plain_values::{take_value, value_slot};
-pub use returns::{fail_procedure, give_back, leave_failing, result_of, suspend_with};
+pub use returns::{
+    fail_procedure, give_back, leave_failing, leave_with, result_of, suspend_value, suspend_with,
+};
 pub use scans::{leave_scan, swap_if_scanning, swap_pairs};
 pub use texts::push_string;
 pub use transfers::{coact, coret};

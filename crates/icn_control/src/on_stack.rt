@@ -1,11 +1,12 @@
 // The instructions that touch nothing but the stack that runs.
-ghost use Rattle.std.specs.Prelude.{◌≡◌, ◌+◌, ◌<◌, ◌≤◌, false, Some, IsSome, IfSome, OnOk, IfOk, is_none};
+ghost use Rattle.std.specs.Prelude.{◌≡◌, ◌+◌, ◌<◌, ◌≤◌, true, false, Some, is_some, IsSome, IfSome, OnOk, IfOk, is_none};
 ghost use Rattle.icn_value.specs.declared.item.Item.{Item};
 ghost use Rattle.icn_value.specs.declared.item.Item.TheVariants.{Val as HeldVal};
 ghost use Rattle.icn_value.specs.declared.val.Val.TheVariants.{Null};
 ghost use Rattle.icn_code.specs.declared.instr.Instr.TheVariants as Instrs;
 ghost use Rattle.icn_frames.specs.Slots.{plain_operand};
 ghost use Rattle.icn_frames.specs.Stacks as flat;
+ghost use Rattle.icn_frames.specs.Stacks.{FlatStack};
 ghost use Rattle.icn_control.specs.LiveStacks.{MaybeStaysLive, StaysLive};
 ghost use Rattle.icn_control.specs.StackViews.{GoesOn, GoesOnLeaving, mark_of};
 
@@ -108,6 +109,32 @@ pub fn give_suspended<K: Stack<Cell> + Drop>(frames: &mut Frames<K>) -> Result<(
     Ok(())
 }
 
+// The same as `give_limited`, with the slot of the operand, which tells it.
+#[inline(always)]
+fn give_limited_plain<K: Stack<Cell> + Drop>(
+    frames: &mut Frames<K>,
+    slot: Cell,
+) -> Result<Option<Pair>, AllocError>
+    requires operand { IsSome (flat.pop frames.old.flat) }
+    requires plain { is_some (plain_operand slot) ≡ true }
+    requires told { (x : Item) (rest : FlatStack) → flat.pop frames.old.flat ≡ Some (x, rest)
+        → (y : Item) → plain_operand slot ≡ Some y → x ≡ y }
+    requires mark { IfSome (flat.pop frames.old.flat) (λ popped. flat.at_base popped.1 ≡ false) }
+    requires count { IfSome (flat.pop frames.old.flat) (λ popped. IsSome (flat.count_down popped.1)) }
+    ensures step { IfOk result (λ pair. GoesOnLeaving Instrs.Lsusp frames.old.flat pair frames.new.flat) }
+    ensures live { OnOk result (StaysLive frames.old.flat frames.new.flat) }
+    ensures pair { IfOk result (MaybeStaysLive frames.old.flat) }
+{
+    frames.drop_top();
+    if frames.count_down() > 0 {
+        frames.suspend_mark_plain(slot)?;
+        return Ok(None);
+    }
+    let pair = frames.unmark();
+    frames.push_plain(slot)?;
+    Ok(pair)
+}
+
 /// Counts a result of the innermost limit mark down, which must be there with an operand and a count above 0. After the last
 /// one the mark is dropped, else it is left suspended. Gives the pair that comes back. `AllocError` is want of memory.
 pub fn give_limited<K: Stack<Cell> + Drop>(
@@ -120,6 +147,10 @@ pub fn give_limited<K: Stack<Cell> + Drop>(
     ensures live { OnOk result (StaysLive frames.old.flat frames.new.flat) }
     ensures pair { IfOk result (MaybeStaysLive frames.old.flat) }
 {
+    let slot = frames.top();
+    if is_plain_operand(slot) {
+        return give_limited_plain(frames, slot);
+    }
     let x = frames.pop();
     if frames.count_down() > 0 {
         frames.suspend(Why::Alt, Some(x))?;

@@ -1,5 +1,5 @@
 // Instructions that end a procedure, or suspend it.
-ghost use Rattle.std.specs.Prelude.{◌≡◌, ◌<◌, ℕ, [], false, Some, IsSome, IfOk, IfErr, MatchResult};
+ghost use Rattle.std.specs.Prelude.{◌≡◌, ◌<◌, ℕ, [], true, false, Some, IsSome, IfOk, IfErr, MatchResult};
 ghost use Rattle.icn_value.specs.declared.val.Val.{Val};
 ghost use Rattle.icn_value.specs.declared.item.Item.TheVariants as Items;
 ghost use Rattle.icn_code.specs.Codes.{Tables};
@@ -15,8 +15,8 @@ ghost use Rattle.icn_frames.specs.Stacks.{FlatStack};
 ghost use Rattle.icn_run.specs.Rows.{Item as ItemRead};
 ghost use Rattle.icn_run.specs.Stacks.{Frames as FramesRead, flat as calls};
 ghost use Rattle.icn_run.specs.Step.{State, Store, proc_fails, with_result};
-ghost use Rattle.icn_control.specs.LiveStacks.{IsLiveStack, with_locals};
-ghost use Rattle.icn_control.specs.StackAndWorld.{ComesWith, HaltsWith, StandsWith};
+ghost use Rattle.icn_control.specs.LiveStacks.{IsLiveStack, StaysLive, with_locals};
+ghost use Rattle.icn_control.specs.StackAndWorld.{ComesWith, HaltsWith, RunsAlone, StandsWith};
 ghost use Rattle.icn_control.specs.PlainValues.{TakesValue};
 ghost use Rattle.icn_control.specs.Results.{is_local_item, is_local_root};
 ghost use Rattle.icn_control.specs.StackViews.{instruction_state, stack_in};
@@ -24,7 +24,7 @@ ghost use Rattle.icn_control.specs.Soundness.{KeepsHeap, UnlessEnded};
 
 use crate::machine::RunState;
 use crate::on_stack::{put, put_slot};
-use crate::plain_values::take_value;
+use crate::plain_values::value_slot;
 use crate::scans::swap_if_scanning;
 use crate::values::value_of;
 use crate::world::restore_pair;
@@ -118,29 +118,9 @@ pub fn fail_procedure<K: Stack<Cell> + Drop>(frames: &mut Frames<K>, world: &mut
     leave_failing(frames, world)
 }
 
-/// Returns from the procedure with the top operand, and all its scans are left.
-///
-/// The error is that of the value.
-pub fn give_back<K: Stack<Cell> + Drop>(
-    frames: &mut Frames<K>,
-    world: &mut World,
-) -> Result<RunState, Halt>
-    requires operand { IsSome (flat.pop frames.old.flat) }
-    requires live { (tables : Tables) × IsLiveStack tables (reach_of world.old []) frames.old.flat }
-    ensures step { ComesWith Instrs.Pret world.old frames.old.flat world.new frames.new.flat result }
-    ensures live { (tables : Tables) → IsLiveStack tables (reach_of world.old []) frames.old.flat
-        → UnlessEnded result (IsLiveStack tables (reach_of world.new []) frames.new.flat) }
-    ensures halt { IfErr result (IsLiveHalt (reach_of world.new [])) }
-    ensures same { KeepsHeap world.old world.new }
-{
-    match take_value(frames) {
-        Some(value) => Ok(leave_with(frames, world, value)),
-        None => give_item_back(frames, world),
-    }
-}
-
-// Returns with a value, by its slot, beside which nothing may be kept; the operand was taken.
-fn leave_with<K: Stack<Cell> + Drop>(
+/// Returns with a value, by its slot, beside which nothing may be kept; the operand was taken. It takes no memory.
+#[inline(always)]
+pub fn leave_with<K: Stack<Cell> + Drop>(
     frames: &mut Frames<K>,
     world: &mut World,
     value: Cell,
@@ -167,9 +147,10 @@ fn leave_with<K: Stack<Cell> + Drop>(
     RunState::Running
 }
 
-// Returns with the top operand, whatever it is.
-#[inline(never)]
-fn give_item_back<K: Stack<Cell> + Drop>(
+/// Returns from the procedure with the top operand, and all its scans are left.
+///
+/// The error is that of the value.
+pub fn give_back<K: Stack<Cell> + Drop>(
     frames: &mut Frames<K>,
     world: &mut World,
 ) -> Result<RunState, Halt>
@@ -218,5 +199,30 @@ pub fn suspend_with<K: Stack<Cell> + Drop>(
     match frames.suspend(Why::Proc, Some(r)) {
         Ok(()) => Ok(RunState::Running),
         Err(_) => Err(Halt::NoMemory),
+    }
+}
+
+/// Suspends the procedure with the value of the top operand, which stays in it, where slots tell that value, no scan is open and
+/// the caller is on this stack. Elsewhere, and for want of memory, nothing changes.
+#[inline(always)]
+pub fn suspend_value<K: Stack<Cell> + Drop>(frames: &mut Frames<K>) -> bool
+    requires { IsSome (flat.pop frames.old.flat) }
+    ensures step { result ≡ true → RunsAlone Instrs.Psusp frames.old.flat frames.new.flat }
+    ensures live { result ≡ true → StaysLive frames.old.flat frames.new.flat }
+    ensures not_done { result ≡ false → frames.new.flat ≡ frames.old.flat }
+{
+    let slot = frames.top();
+    let Some(value) = value_slot(frames, slot) else {
+        return false;
+    };
+    if frames.is_scanning() {
+        return false;
+    }
+    if frames.is_base() {
+        return false;
+    }
+    match frames.suspend_proc_plain(value) {
+        Ok(()) => true,
+        Err(_) => false,
     }
 }

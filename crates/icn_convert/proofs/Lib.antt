@@ -1,4 +1,3 @@
-mod RecordCounts
 mod MemberLists
 mod SameTexts
 mod NamedRecords

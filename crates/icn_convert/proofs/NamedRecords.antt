@@ -1,20 +1,28 @@
 -- A record of a heap has a name.
-use Rattle.std.proofs.Common.{ℕ, ◌<◌, length, subst, sym, arith, []}
+use Rattle.std.proofs.Common.{ℕ, ◌<◌, length, subst, sym, []}
 use Rattle.std.proofs.lemmas.List.Elements.{All-get_or}
 use Rattle.std.proofs.lemmas.Option.{unwrap_or-slice_get}
 use Rattle.icn_value.specs.Store.{Names, Record, record_at}
 use Rattle.icn_value.specs.declared.val.Val.TheVariants.{Rec}
 use Rattle.icn_heap.specs.declared.heap.Heap.{Heap}
-use Rattle.icn_heap.specs.Extents.{IsLive}
+use Rattle.icn_heap.specs.Extents.{IsLive, IsMade}
 use Rattle.icn_heap.specs.Heaps.{extent_of, heap_of}
-use Rattle.icn_convert.proofs.RecordCounts.{record_count}
+use Rattle.icn_heap.proofs.StructureNumbers.{made_record_below, record_below}
 use Rattle.icn_convert.specs.ProgramNames.{AreRecordsNamed}
 
-pub kind_named : (names : Names) (heap : Heap) (id : ℕ) → AreRecordsNamed names (heap_of heap) → IsLive (extent_of heap) (Rec id)
+-- by its number
+kind_within : (names : Names) (heap : Heap) (id : ℕ) → AreRecordsNamed names (heap_of heap) → id < length (heap_of heap).records
     → (record_at (heap_of heap) id).kind < length names.records
-kind_named names heap id named live =
-    let below : id < (extent_of heap).records = live.live in
-    let within : id < length (heap_of heap).records = omega (arith, record_count heap) in
+kind_within names heap id named within =
     let is_named : Record → Type 0 = λ (structure : Record). structure.kind < length names.records in
     let nothing : Record = record { kind = 0; fields = [] } in
     subst is_named (sym (unwrap_or-slice_get (heap_of heap).records id nothing)) (All-get_or is_named (heap_of heap).records id nothing within named.kinds)
+
+pub kind_named : (names : Names) (heap : Heap) (id : ℕ) → AreRecordsNamed names (heap_of heap) → IsLive (extent_of heap) (Rec id)
+    → (record_at (heap_of heap) id).kind < length names.records
+kind_named names heap id named live = kind_within names heap id named (record_below heap id live)
+
+-- also of one that is gone
+pub made_kind_named : (names : Names) (heap : Heap) (id : ℕ) → AreRecordsNamed names (heap_of heap) → IsMade (extent_of heap) (Rec id)
+    → (record_at (heap_of heap) id).kind < length names.records
+made_kind_named names heap id named made = kind_within names heap id named (made_record_below heap id made)

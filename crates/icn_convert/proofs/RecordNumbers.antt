@@ -1,5 +1,5 @@
 -- Records of one name, counted.
-use Rattle.std.proofs.Common.{◌≡◌, ◌∙◌, sym, ap, ℕ, ◌+◌, ◌<◌, Bool, true, false, List, [], take, get_or, arith}
+use Rattle.std.proofs.Common.{◌≡◌, ◌∙◌, sym, ap, ℕ, ◌+◌, ◌<◌, Bool, true, false, List, [], take, get_or, length, arith}
 use Rattle.std.specs.List.{count_by, slice_get}
 use Rattle.std.specs.Prelude.{unwrap_or}
 use Rattle.std.specs.Str.{bytes_eq}
@@ -8,8 +8,7 @@ use Rattle.std.proofs.lemmas.Option.{unwrap_or-slice_get}
 use Rattle.icn_value.specs.Store.{Names, Record}
 use Rattle.icn_defs.specs.Images.{record_name}
 use Rattle.icn_heap.specs.declared.heap.Heap.{Heap}
-use Rattle.icn_heap.specs.Heaps.{extent_of, heap_of}
-use Rattle.icn_convert.proofs.RecordCounts.{record_count}
+use Rattle.icn_heap.specs.Heaps.{heap_of}
 
 -- whether a record has the name of another
 abbrev pub is_namesake : Names → Heap → ℕ → Record → Bool
@@ -20,19 +19,19 @@ at : (names : Names) (heap : Heap) (id place : ℕ) (t : Bool) → bytes_eq (rec
 at names heap id place t is =
     ap (is_namesake names heap id) (sym (unwrap_or-slice_get (heap_of heap).records place (record { kind = 0; fields = [] }))) ∙ is
 
-pub one_more : (names : Names) (heap : Heap) (id place : ℕ) → place < (extent_of heap).records
+pub one_more : (names : Names) (heap : Heap) (id place : ℕ) → place < length (heap_of heap).records
     → bytes_eq (record_name names (heap_of heap) place) (record_name names (heap_of heap) id) ≡ true
     → count_by (is_namesake names heap id) (take (place + 1) (heap_of heap).records)
     ≡ count_by (is_namesake names heap id) (take place (heap_of heap).records) + 1
 one_more names heap id place below is =
-    count_by_more_yes (is_namesake names heap id) (heap_of heap).records place (record { kind = 0; fields = [] }) (omega (arith, record_count heap))
+    count_by_more_yes (is_namesake names heap id) (heap_of heap).records place (record { kind = 0; fields = [] }) below
     (at names heap id place true is)
 
-pub no_more : (names : Names) (heap : Heap) (id place : ℕ) → place < (extent_of heap).records
+pub no_more : (names : Names) (heap : Heap) (id place : ℕ) → place < length (heap_of heap).records
     → bytes_eq (record_name names (heap_of heap) place) (record_name names (heap_of heap) id) ≡ false
     → count_by (is_namesake names heap id) (take (place + 1) (heap_of heap).records) ≡ count_by (is_namesake names heap id) (take place (heap_of heap).records)
 no_more names heap id place below is =
-    count_by_more_no (is_namesake names heap id) (heap_of heap).records place (record { kind = 0; fields = [] }) (omega (arith, record_count heap))
+    count_by_more_no (is_namesake names heap id) (heap_of heap).records place (record { kind = 0; fields = [] }) below
     (at names heap id place false is)
 
 pub tested : (a b shown wanted : List ℕ) (result t : Bool) → result ≡ bytes_eq a b → a ≡ shown → b ≡ wanted → result ≡ t → bytes_eq shown wanted ≡ t

@@ -17,7 +17,7 @@ ghost use Rattle.icn_convert.specs.ImageEnds.{number_and_size};
 
 use crate::csets::text_of_cset;
 use crate::names::{Names, ProcKind};
-use crate::order::record_name;
+use crate::order::{made_name, record_name};
 use crate::quotes::push_quoted;
 use icn_heap::Heap;
 use icn_profile::{DOUBLE_QUOTE, SINGLE_QUOTE};
@@ -178,7 +178,7 @@ fn record_number<N: Names>(heap: &Heap, names: &N, id: u32) -> u64
     let name = record_name(heap, names, id);
     let mut number = 1;
     for other in 0..id {
-        if record_name(heap, names, other) == name {
+        if made_name(heap, names, other) == name {
             number += 1;
         }
     }

@@ -5,7 +5,7 @@ ghost use Rattle.std.specs.Cmp.Lexicographic.{slice_cmp};
 ghost use Rattle.icn_value.specs.Sameness.{file_rank, shape_of};
 ghost use Rattle.icn_value.specs.Members.{members_of};
 ghost use Rattle.icn_defs.specs.Images.{record_name, sorted_shape, value_cmp};
-ghost use Rattle.icn_heap.specs.Extents.{Extent, IsLive, value_in};
+ghost use Rattle.icn_heap.specs.Extents.{Extent, IsLive, IsMade, value_in};
 ghost use Rattle.icn_heap.specs.Keys.{file_of};
 ghost use Rattle.icn_value.specs.declared.val.Val.TheVariants.{Rec};
 ghost use Rattle.icn_heap.specs.Heaps.{extent_of, heap_of};
@@ -122,6 +122,16 @@ fn sort_text<'a, N: Names>(heap: &'a Heap, names: &'a N, val: Val) -> SortText<'
         Val::Rec(id) => SortText::Bytes(record_name(heap, names, id)),
         _ => SortText::Bytes(&[]),
     }
+}
+
+/// The name of the constructor that made a record, whether the record is there still or not.
+#[tactic(auto, using(crate::proofs::NamedRecords::made_kind_named))]
+pub fn made_name<'a, N: Names>(heap: &Heap, names: &'a N, id: u32) -> &'a [u8]
+    requires made { IsMade (extent_of heap.now) (Rec id) }
+    requires records { AreRecordsNamed (N.known names.now) (heap_of heap.now) }
+    ensures { result.now ≡ record_name (N.known names.now) (heap_of heap.now) id }
+{
+    names.rec(heap.kind_made(id))
 }
 
 /// The name of the constructor that made a record.

@@ -5,7 +5,7 @@ use Rattle.icn_frames.specs.declared.layout.Cell.{Cell}
 use Rattle.icn_frames.specs.declared.slots.Control.{Control}
 use Rattle.icn_frames.specs.declared.slots.Extra.{Extra}
 use Rattle.icn_frames.specs.declared.slots.StackSlot.{StackSlot}
-use Rattle.icn_frames.specs.Slots.{cell_of, control_at, extra_at, placed_cell, cells_of, ExtrasElsewhere, top_operand}
+use Rattle.icn_frames.specs.Slots.{cell_of, control_at, extra_at, placed_cell, cells_of, ControlsElsewhere, ExtrasElsewhere, top_operand}
 use Rattle.icn_value.specs.declared.item.Item.{Item}
 use Rattle.icn_value.specs.declared.item.Pair.{Pair}
 use Rattle.icn_frames.specs.declared.layout.Why.TheVariants as Whys
@@ -54,6 +54,17 @@ pub placed : (controls : List Control) (extras extras' : List Extra) (slots slot
 placed controls extras extras' slots slots' at slot cell p s b e =
     ap (cells_of controls extras') s ∙ numbered_set (placed_cell controls extras) (placed_cell controls extras') slots at slot p
     (λ j q d z. ap (λ (w : Extra). cell_of (control_at controls j) w z) (sym (b j d)))
+    ∙ ap (λ (w : Cell). set_cell (at + 1) w (cells_of controls extras slots)) e
+
+-- the same with other controls beside it
+pub placed_beside : (controls controls' : List Control) (extras : List Extra) (slots slots' : List StackSlot) (at : ℕ) (slot : StackSlot) (cell : Cell)
+    → at < length slots
+    → slots' ≡ set_cell (at + 1) slot slots → ControlsElsewhere at controls controls'
+    → cell_of (control_at controls' at) (extra_at extras at) slot ≡ cell
+    → cells_of controls' extras slots' ≡ set_cell (at + 1) cell (cells_of controls extras slots)
+placed_beside controls controls' extras slots slots' at slot cell p s a e =
+    ap (cells_of controls' extras) s ∙ numbered_set (placed_cell controls extras) (placed_cell controls' extras) slots at slot p
+    (λ j q d z. ap (λ (w : Control). cell_of w (extra_at extras j) z) (sym (a j d)))
     ∙ ap (λ (w : Cell). set_cell (at + 1) w (cells_of controls extras slots)) e
 
 -- what is kept beside a slot that was not read

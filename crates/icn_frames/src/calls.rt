@@ -186,7 +186,7 @@ impl<K: Stack<StackSlot> + Drop> Frames<K> {
         ensures spare { self.old.spare ≤ self.new.spare + 1 }
         ensures succeeds { 0 < self.old.spare → IsOk result }
     {
-        self.cells.reserve(1)?;
+        self.cells.reserve_one()?;
         self.cells.push_operand(x);
         Ok(())
     }
@@ -228,7 +228,7 @@ impl<K: Stack<StackSlot> + Drop> Frames<K> {
         ensures spare { self.old.spare ≤ self.new.spare + 1 }
         ensures succeeds { 0 < self.old.spare → IsOk result }
     {
-        self.cells.reserve(1)?;
+        self.cells.reserve_one()?;
         self.cells.push_plain(slot);
         Ok(())
     }
@@ -276,7 +276,7 @@ impl<K: Stack<StackSlot> + Drop> Frames<K> {
         ensures spare { self.old.spare ≤ self.new.spare + 1 }
         ensures succeeds { 0 < self.old.spare → IsOk result }
     {
-        self.cells.reserve(1)?;
+        self.cells.reserve_one()?;
         self.cells.push_mark(label, count, self.registers);
         self.registers = Registers {
             base: self.registers.base,
@@ -389,6 +389,19 @@ impl<K: Stack<StackSlot> + Drop> Frames<K> {
         pair
     }
 
+    /// Drops the innermost mark, which `mark` opened, with all above it.
+    #[inline(always)]
+    pub fn drop_mark(&mut self)
+        requires { flat.at_base self.old.flat ≡ false }
+        ensures flat { (pair : Option Pair) × (flat.unmark self.old.flat ≡ Some (self.new.flat, pair)) }
+        ensures spare { self.old.spare ≤ self.new.spare }
+    {
+        let to = self.registers.mark - 1;
+        let saved = self.cells.saved_at(to);
+        self.cells.cut(to);
+        self.registers = saved;
+    }
+
     /// Suspends, and pushes a result if there is one. The mark that goes on is the next outer one for `Alt`, the caller's
     /// for `Proc`, and else the innermost one; it must be there. `AllocError` is want of memory; the stack is as it was
     /// then.
@@ -495,6 +508,40 @@ impl<K: Stack<StackSlot> + Drop> Frames<K> {
                 self.cells.cut(at);
                 self.registers = saved;
                 self.address = address;
+            }
+        }
+    }
+
+    /// Suspends a count in the place of the newest suspension of the innermost mark, which should be there, and pushes the
+    /// integer that it gives: `resume_newest`, and then `suspend_count`. `AllocError` is want of memory; the stack is as it was
+    /// then.
+    pub fn count_anew(&mut self, count: Count) -> Result<(), AllocError>
+        ensures ok { OnOk result ((why : Why) (rest : FlatStack)
+            → flat.resume self.old.flat ≡ Some (why, rest)
+            → flat.given_to (Some (Items.Val (Vals.Integer count.given)))
+            (flat.suspend_by (why_counting count.given count.last count.step) rest)
+            ≡ Some self.new.flat) }
+
+        // What comes back has its locals, each in a cell of its own.
+        ensures same { (why : Why) (rest : FlatStack) → flat.resume self.old.flat ≡ Some (why, rest)
+            → flat.set_locals (flat.locals rest) rest ≡ rest }
+        ensures err { OnErr result (self.new.flat ≡ self.old.flat) }
+    {
+        match self.registers.newest {
+            None => Ok(()),
+            Some(height) => {
+                let at = height - 1;
+                let saved = self.cells.saved_at(at);
+                let from = bottom_of(&self.cells, saved);
+                self.cells.reserve(at - from + 1)?;
+                self.address = self.cells.address_at(at);
+                self.cells.cut(height);
+                self.cells.set_counting(at, count);
+                self.cells.copy_few(from, at);
+                self.registers = saved;
+                self.registers.newest = Some(height);
+                self.cells.push_plain(StackSlot::ValInteger(count.given));
+                Ok(())
             }
         }
     }
@@ -606,7 +653,7 @@ impl<K: Stack<StackSlot> + Drop> Frames<K> {
         ensures spare { self.old.spare ≤ self.new.spare + 1 }
         ensures succeeds { 0 < self.old.spare → IsOk result }
     {
-        self.cells.reserve(1)?;
+        self.cells.reserve_one()?;
         self.cells.push_value(v);
         Ok(())
     }

@@ -1,5 +1,5 @@
 // The cells of a stack over slots, with what is kept beside them.
-ghost use Rattle.std.specs.Prelude.{◌≡◌, ◌+◌, ◌-◌, ◌<◌, ◌≤◌, ◌^◌, ℕ, List, [], ◌∷◌, length, Option, Some, is_some, IsSome, Bool, true, OnOk, IsOk, IfSome};
+ghost use Rattle.std.specs.Prelude.{◌≡◌, ◌+◌, ◌-◌, ◌<◌, ◌≤◌, ◌^◌, ℕ, List, [], ◌∷◌, length, Option, Some, is_some, IsSome, Bool, true, false, OnOk, IsOk, IfSome};
 ghost use Rattle.icn_frames.specs.Heights.{cut, cell_at, set_cell, with_copy};
 ghost use Rattle.icn_frames.specs.Slots.{operand_in, content_of, is_plain_cell, count_in, top_operand, plain_operand, plain_local, why_counting, TellsWhy, value_only};
 ghost use Rattle.icn_frames.specs.StackInvariant.{shape, outer_of};
@@ -17,10 +17,10 @@ ghost use Rattle.icn_frames.specs.declared.layout.Cell.TheVariants as CellVarian
 use crate::layout::{CellContent, Count, NewestKind, Registers, Why};
 use crate::slots::{
     Control, CountRange, Extra, StackSlot, address_of, content_of, copy_beside, count_held,
-    count_of, depth_of, is_base_cell, is_operand, is_plain, is_relabelled, keep_local,
+    count_of, depth_of, is_base_cell, is_operand, is_plain, is_relabelled, is_sided, keep_local,
     keep_operand, keep_value, keep_why, kind_of, label_in, level_of, local_of, locals_of,
     make_beside, make_controls, mark_slot, operand_of, pair_at, proc_of, put_control, put_counted,
-    put_pair, put_saved, range_of, return_of, saved_of, value_of, why_of,
+    put_pair, put_range, put_saved, range_of, return_of, saved_of, value_of, why_of,
 };
 use crate::stack::Stack;
 use icn_value::{Item, Pair, Val};
@@ -87,6 +87,22 @@ impl<K: Stack<StackSlot> + Drop> Cells<K> {
             return Ok(());
         }
         self.grow(n)
+    }
+
+    /// Makes room for one more cell. Where there is room already it takes no memory.
+    ///
+    /// It stands beside `reserve` for speed: each push has its test in it, and `grow`, which is called at two places, stays a call.
+    #[inline(always)]
+    pub fn reserve_one(&mut self) -> Result<(), AllocError>
+        ensures cells { self.new.cells ≡ self.old.cells }
+        ensures spare { self.old.spare ≤ self.new.spare }
+        ensures ok { OnOk result (1 ≤ self.new.spare) }
+        ensures succeeds { 1 ≤ self.old.spare → IsOk result }
+    {
+        if 1 <= self.controls.len() as u64 - self.slots.len() {
+            return Ok(());
+        }
+        self.grow(1)
     }
 
     // Makes room for `n` more cells, and for no fewer than there are.
@@ -296,6 +312,41 @@ impl<K: Stack<StackSlot> + Drop> Cells<K> {
         for i in from..to {
             self.copy_one(i);
         }
+    }
+
+    // Puts the cell above `i` others once more on top, if nothing is kept beside its slot. Elsewhere nothing changes.
+    #[inline(always)]
+    fn copy_bare(&mut self, i: u64) -> bool
+        requires there { i < length self.old.cells }
+        requires room { 0 < self.old.spare }
+        ensures cells { result ≡ true → (cell : Cell) → cell_at (i + 1) self.old.cells ≡ Some cell
+            → self.new.cells ≡ cell ∷ self.old.cells }
+        ensures spare { result ≡ true → self.new.spare + 1 ≡ self.old.spare }
+        ensures not { result ≡ false → self.new ≡ self.old }
+    {
+        let slot = self.slots.get(i);
+        if is_sided(slot) {
+            return false;
+        }
+        self.slots.push(slot);
+        true
+    }
+
+    /// The same as `copy_up`, and before it where there is one cell, beside whose slot nothing is kept.
+    #[inline(always)]
+    pub fn copy_few(&mut self, from: u64, to: u64)
+        requires order { from ≤ to }
+        requires within { to ≤ length self.old.cells }
+        requires room { to - from ≤ self.old.spare }
+        ensures cells { self.new.cells ≡ with_copy from to self.old.cells }
+        ensures spare { self.new.spare + (to - from) ≡ self.old.spare }
+    {
+        if to - from == 1 {
+            if self.copy_bare(from) {
+                return;
+            }
+        }
+        self.copy_up(from, to);
     }
 
     /// Whether an operand stands above `i` others.
@@ -539,6 +590,26 @@ impl<K: Stack<StackSlot> + Drop> Cells<K> {
         ensures spare { self.new.spare ≡ self.old.spare }
     {
         self.slots.set(i, StackSlot::LimitMark { count });
+    }
+
+    /// Puts the suspension of a count in the place of the one above `i` others.
+    pub fn set_counting(&mut self, i: u64, count: Count)
+        requires { i < length self.old.cells }
+        ensures cells { (why : Why) (saved : Registers) (address : ℕ)
+            → cell_at (i + 1) self.old.cells ≡ Some (CellVariants.Suspension why saved address)
+            → self.new.cells ≡ set_cell (i + 1)
+            (CellVariants.Suspension (why_counting count.given count.last count.step) saved address)
+            self.old.cells }
+        ensures spare { self.new.spare ≡ self.old.spare }
+    {
+        let address = address_of(self.slots.get(i));
+        let range = CountRange {
+            last: count.last,
+            step: count.step,
+        };
+        put_range(&mut self.controls, i, range);
+        let given = count.given;
+        self.slots.set(i, StackSlot::CountHeld { address, given });
     }
 
     /// Exchanges the pair of the scan above `i` others.

@@ -16,6 +16,8 @@ mod vec_stack;
 pub use calls::Frames;
 pub use layout::{CellContent, Count, NewestKind, Registers, Why};
 pub use level_laws::levels_count_calls;
-pub use slots::{StackSlot as Cell, is_plain_operand, local_as_operand, operand_as_local};
+pub use slots::{
+    StackSlot as Cell, is_plain_local, is_plain_operand, local_as_operand, operand_as_local,
+};
 pub use stack::Stack;
 pub use vec_stack::VecStack;

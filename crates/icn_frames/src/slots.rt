@@ -980,6 +980,17 @@ pub fn put_counted(controls: &mut Vec<Control>, at: u64, saved: Registers, range
     controls[at as usize].range = range;
 }
 
+/// Keeps where a count ends at this place.
+pub fn put_range(controls: &mut Vec<Control>, at: u64, range: CountRange)
+    requires { at < vec_len controls.old }
+    ensures saved { (control_at controls.new.items at).saved ≡ (control_at controls.old.items at).saved }
+    ensures range { (control_at controls.new.items at).range ≡ range }
+    ensures others { ControlsElsewhere at controls.old.items controls.new.items }
+    ensures len { vec_len controls.new ≡ vec_len controls.old }
+{
+    controls[at as usize].range = range;
+}
+
 /// Keeps all that a call has at this place.
 pub fn put_control(controls: &mut Vec<Control>, at: u64, control: Control)
     requires { at < vec_len controls.old }

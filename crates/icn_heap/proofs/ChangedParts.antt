@@ -1,6 +1,7 @@
 -- What a heap stands for, by the parts that it holds.
 use Rattle.std.proofs.Common.{◌≡◌, ◌∙◌, sym, ap, subst, ℕ, List, Ok, Result, ◌<◌, ◌++◌, length, slice_set, slice_index_or, OnOk, OnErr, Err}
 use Rattle.icn_structs.specs.Numbered.{NumberedList}
+use Rattle.icn_structs.specs.Shelves.{Shelved}
 use Rattle.icn_value.specs.declared.full.Full.{Full}
 use Rattle.icn_value.specs.declared.val.Val.{Val}
 use Rattle.icn_value.specs.Store.{Heap, OpenedFile, no_file}
@@ -18,38 +19,38 @@ use Rattle.icn_heap.proofs.FileChanges.{file_grows}
 -- parts that differ in one list, and perhaps in the cells
 
 module _ (heap : HeldHeap) (sum : ℕ) where
-  -- parts that have equal lists and agree in all else are equal
-  pub with_lists : {a b : List (NumberedList Val)} → a ≡ b
-      → parts heap.strings a heap.sets.items heap.tables.items heap.records.items heap.coexps.items heap.files.items sum heap.limits
-      ≡ parts heap.strings b heap.sets.items heap.tables.items heap.records.items heap.coexps.items heap.files.items sum heap.limits
-  with_lists same = ap (λ x. parts heap.strings x heap.sets.items heap.tables.items heap.records.items heap.coexps.items heap.files.items sum heap.limits) same
+  -- parts that have equal lists, of which the same are there, and agree in all else are equal
+  pub with_lists : {a b : Shelved (NumberedList Val)} → a ≡ b
+      → parts heap.strings a heap.sets.shelf heap.tables.shelf heap.records.shelf heap.coexps.items heap.files.items sum heap.limits
+      ≡ parts heap.strings b heap.sets.shelf heap.tables.shelf heap.records.shelf heap.coexps.items heap.files.items sum heap.limits
+  with_lists same = ap (λ x. parts heap.strings x heap.sets.shelf heap.tables.shelf heap.records.shelf heap.coexps.items heap.files.items sum heap.limits) same
 
   -- the same of sets
-  pub with_sets : {a b : List (List (Key × Val))} → a ≡ b
-      → parts heap.strings heap.lists.items a heap.tables.items heap.records.items heap.coexps.items heap.files.items sum heap.limits
-      ≡ parts heap.strings heap.lists.items b heap.tables.items heap.records.items heap.coexps.items heap.files.items sum heap.limits
-  with_sets same = ap (λ x. parts heap.strings heap.lists.items x heap.tables.items heap.records.items heap.coexps.items heap.files.items sum heap.limits) same
+  pub with_sets : {a b : Shelved (List (Key × Val))} → a ≡ b
+      → parts heap.strings heap.lists.shelf a heap.tables.shelf heap.records.shelf heap.coexps.items heap.files.items sum heap.limits
+      ≡ parts heap.strings heap.lists.shelf b heap.tables.shelf heap.records.shelf heap.coexps.items heap.files.items sum heap.limits
+  with_sets same = ap (λ x. parts heap.strings heap.lists.shelf x heap.tables.shelf heap.records.shelf heap.coexps.items heap.files.items sum heap.limits) same
 
   -- the same of tables
-  pub with_tables : {a b : List Entries} → a ≡ b
-      → parts heap.strings heap.lists.items heap.sets.items a heap.records.items heap.coexps.items heap.files.items sum heap.limits
-      ≡ parts heap.strings heap.lists.items heap.sets.items b heap.records.items heap.coexps.items heap.files.items sum heap.limits
-  with_tables same = ap (λ x. parts heap.strings heap.lists.items heap.sets.items x heap.records.items heap.coexps.items heap.files.items sum heap.limits) same
+  pub with_tables : {a b : Shelved Entries} → a ≡ b
+      → parts heap.strings heap.lists.shelf heap.sets.shelf a heap.records.shelf heap.coexps.items heap.files.items sum heap.limits
+      ≡ parts heap.strings heap.lists.shelf heap.sets.shelf b heap.records.shelf heap.coexps.items heap.files.items sum heap.limits
+  with_tables same = ap (λ x. parts heap.strings heap.lists.shelf heap.sets.shelf x heap.records.shelf heap.coexps.items heap.files.items sum heap.limits) same
 
-  pub with_records : {a b : List HeldRecord} → a ≡ b
-      → parts heap.strings heap.lists.items heap.sets.items heap.tables.items a heap.coexps.items heap.files.items sum heap.limits
-      ≡ parts heap.strings heap.lists.items heap.sets.items heap.tables.items b heap.coexps.items heap.files.items sum heap.limits
-  with_records same = ap (λ x. parts heap.strings heap.lists.items heap.sets.items heap.tables.items x heap.coexps.items heap.files.items sum heap.limits) same
+  pub with_records : {a b : Shelved HeldRecord} → a ≡ b
+      → parts heap.strings heap.lists.shelf heap.sets.shelf heap.tables.shelf a heap.coexps.items heap.files.items sum heap.limits
+      ≡ parts heap.strings heap.lists.shelf heap.sets.shelf heap.tables.shelf b heap.coexps.items heap.files.items sum heap.limits
+  with_records same = ap (λ x. parts heap.strings heap.lists.shelf heap.sets.shelf heap.tables.shelf x heap.coexps.items heap.files.items sum heap.limits) same
 
   pub with_coexps : {a b : List ℕ} → a ≡ b
-      → parts heap.strings heap.lists.items heap.sets.items heap.tables.items heap.records.items a heap.files.items sum heap.limits
-      ≡ parts heap.strings heap.lists.items heap.sets.items heap.tables.items heap.records.items b heap.files.items sum heap.limits
-  with_coexps same = ap (λ x. parts heap.strings heap.lists.items heap.sets.items heap.tables.items heap.records.items x heap.files.items sum heap.limits) same
+      → parts heap.strings heap.lists.shelf heap.sets.shelf heap.tables.shelf heap.records.shelf a heap.files.items sum heap.limits
+      ≡ parts heap.strings heap.lists.shelf heap.sets.shelf heap.tables.shelf heap.records.shelf b heap.files.items sum heap.limits
+  with_coexps same = ap (λ x. parts heap.strings heap.lists.shelf heap.sets.shelf heap.tables.shelf heap.records.shelf x heap.files.items sum heap.limits) same
 
   pub with_files : {a b : List OpenedFile} → a ≡ b
-      → parts heap.strings heap.lists.items heap.sets.items heap.tables.items heap.records.items heap.coexps.items a sum heap.limits
-      ≡ parts heap.strings heap.lists.items heap.sets.items heap.tables.items heap.records.items heap.coexps.items b sum heap.limits
-  with_files same = ap (λ x. parts heap.strings heap.lists.items heap.sets.items heap.tables.items heap.records.items heap.coexps.items x sum heap.limits) same
+      → parts heap.strings heap.lists.shelf heap.sets.shelf heap.tables.shelf heap.records.shelf heap.coexps.items a sum heap.limits
+      ≡ parts heap.strings heap.lists.shelf heap.sets.shelf heap.tables.shelf heap.records.shelf heap.coexps.items b sum heap.limits
+  with_files same = ap (λ x. parts heap.strings heap.lists.shelf heap.sets.shelf heap.tables.shelf heap.records.shelf heap.coexps.items x sum heap.limits) same
 
 -- What becomes of the parts holds of a heap that has them
 

@@ -4,6 +4,8 @@ use Rattle.std.proofs.Math.Nat.{le_refl}
 use Rattle.std.proofs.lemmas.Option.{unwrap_or-slice_get}
 use Rattle.std.proofs.lemmas.List.{length-set}
 use Rattle.std.proofs.lemmas.List.Elements.{All-push, All-set}
+use Rattle.icn_structs.specs.Shelves.{things_there}
+use Rattle.icn_structs.proofs.ShelvedThings.{same_set}
 use Rattle.icn_value.specs.Store.{OpenedFile, file_at, no_file, with_opened}
 use Rattle.icn_value.specs.Changes.{added_to, having_file, shut}
 use Rattle.icn_heap.specs.Extents.{Extent}
@@ -26,18 +28,22 @@ file_joins parts is {sum} paid within file sound =
     let charged : IsCharged parts = is.charged in
     becomes (record {
       texts = texts_stay parts.strings;
-      lists = le_refl _;
-      sets = le_refl _;
-      tables = le_refl _;
-      records = le_refl _;
+      lists = same_set _;
+      sets = same_set _;
+      tables = same_set _;
+      records = same_set _;
       coexps = le_refl _;
       files = omega arith;
     })
     (record {
-      lists = lists_later (extent_in parts) parts.cells sum more parts.lists is.structures.lists;
+      lists = lists_later (extent_in parts) parts.cells sum more (things_there parts.lists) is.structures.lists;
       sets = is.structures.sets;
       tables = is.structures.tables;
       records = is.structures.records;
+      made_lists = is.structures.made_lists;
+      made_sets = is.structures.made_sets;
+      made_tables = is.structures.made_tables;
+      made_records = is.structures.made_records;
       coexps = is.structures.coexps;
       files = All-push IsSoundFile parts.files file is.structures.files sound;
     })
@@ -52,10 +58,10 @@ file_changes parts is number file sound =
     let charged : IsCharged parts = is.charged in
     becomes (record {
       texts = texts_stay parts.strings;
-      lists = le_refl _;
-      sets = le_refl _;
-      tables = le_refl _;
-      records = le_refl _;
+      lists = same_set _;
+      sets = same_set _;
+      tables = same_set _;
+      records = same_set _;
       coexps = le_refl _;
       files = omega arith;
     })
@@ -64,6 +70,10 @@ file_changes parts is number file sound =
       sets = is.structures.sets;
       tables = is.structures.tables;
       records = is.structures.records;
+      made_lists = is.structures.made_lists;
+      made_sets = is.structures.made_sets;
+      made_tables = is.structures.made_tables;
+      made_records = is.structures.made_records;
       coexps = is.structures.coexps;
       files = All-set IsSoundFile parts.files number file sound is.structures.files;
     })

@@ -1,11 +1,13 @@
 -- What stays as a heap grows.
-use Rattle.std.proofs.Common.{◌≡◌, ◌∙◌, refl, ap, ℕ, ◌≤◌, List, [], ◌∷◌, map, Option, Some, None, IfSome, arith}
+use Rattle.std.proofs.Common.{◌≡◌, ◌∙◌, refl, ap, ℕ, ◌≤◌, List, [], ◌∷◌, length, map, Option, Some, None, IfSome, arith}
 use Rattle.std.proofs.lemmas.Int.{ints}
-use Rattle.std.specs.List.{All}
+use Rattle.std.specs.List.{All, flat_map}
 use Rattle.std.specs.Option.{option_map}
 use Rattle.std.proofs.lemmas.List.Elements.{All-weaker, All-head, All-tail}
 use Rattle.icn_strings.specs.Regions.{KeepsBytes, KeepsRanges as KeepsTexts, sum_of}
 use Rattle.icn_structs.specs.Numbered.{NumberedList}
+use Rattle.icn_structs.specs.Shelves.{Shelved, things_there}
+use Rattle.icn_structs.proofs.ShelvedThings.{SetsMore}
 use Rattle.icn_value.specs.declared.val.Span.{Span}
 use Rattle.icn_value.specs.declared.val.File.{File as HeldFile}
 use Rattle.icn_value.specs.declared.val.File.TheVariants.{Input as HeldInput, Output as HeldOutput, Errout as HeldErrout, Opened as HeldOpened}
@@ -15,20 +17,22 @@ use Rattle.icn_value.specs.Values.{Value, Text}
 use Rattle.icn_value.specs.Limited.{limits_of}
 use Rattle.icn_value.specs.Store.{Heap, Table, Record}
 use Rattle.icn_heap.specs.Keys.{key_value}
-use Rattle.icn_heap.specs.Extents.{Extent, range_of, IsText, IsMadeText, IsLive, FileBy, LiveBy, MadeBy, text_in, value_in, KeepsMeaning, KeepsValues}
-use Rattle.icn_heap.specs.HeapParts.{Parts, list_in, set_in, pair_in, table_in, record_in, heap_over, extent_in, IsSoundList, IsSoundMember, IsSoundPair, IsSoundTable, IsSoundRecord, AreSound, IsCharged, IsSoundHeap}
+use Rattle.icn_heap.specs.ElementValues.{list_vals, set_vals, pair_vals, table_vals, record_vals}
+use Rattle.icn_heap.specs.Extents.{Extent, range_of, IsText, IsMadeText, IsLive, IsMade, FileBy, LiveBy, MadeBy, text_in, value_in, KeepsMeaning, KeepsValues}
+use Rattle.icn_heap.specs.HeapParts.{Parts, list_in, set_in, pair_in, table_in, record_in, heap_over, extent_in, IsSoundList, IsSoundMember, IsSoundPair, IsSoundTable, IsSoundRecord, HoldMade, AreSound, IsCharged, IsSoundHeap}
 use Rattle.icn_heap.specs.Records.{HeldRecord}
 use Rattle.icn_heap.specs.declared.key.Key.{Key}
 use Rattle.icn_heap.specs.declared.entries.Entry.{Entry}
 use Rattle.icn_heap.specs.declared.entries.Entries.{Entries}
+use Rattle.icn_heap.proofs.NeededSteps.{all_of}
 
--- texts mean the same, and there are more structures and more opened files, or as many
+-- texts mean the same, and more structures were made and more files were opened, or as many
 pub record MeansMore (old new : Extent) : Type 0 where
   pub texts : KeepsBytes old.strings new.strings
-  pub lists : old.lists ≤ new.lists
-  pub sets : old.sets ≤ new.sets
-  pub tables : old.tables ≤ new.tables
-  pub records : old.records ≤ new.records
+  pub lists : length old.lists ≤ length new.lists
+  pub sets : length old.sets ≤ length new.sets
+  pub tables : length old.tables ≤ length new.tables
+  pub records : length old.records ≤ length new.records
   pub coexps : old.coexps ≤ new.coexps
   pub files : old.files ≤ new.files
 
@@ -77,13 +81,13 @@ module _ {a b : Extent} (more : MeansMore a b) where
     bytes = made_bytes;
   }
 
--- more texts, more structures and more opened files, or as many
+-- there are more texts, structures and opened files, or as many
 pub record Extends (old new : Extent) : Type 0 where
   pub texts : KeepsTexts old.strings new.strings
-  pub lists : old.lists ≤ new.lists
-  pub sets : old.sets ≤ new.sets
-  pub tables : old.tables ≤ new.tables
-  pub records : old.records ≤ new.records
+  pub lists : SetsMore old.lists new.lists
+  pub sets : SetsMore old.sets new.sets
+  pub tables : SetsMore old.tables new.tables
+  pub records : SetsMore old.records new.records
   pub coexps : old.coexps ≤ new.coexps
   pub files : old.files ≤ new.files
 
@@ -91,10 +95,10 @@ pub record Extends (old new : Extent) : Type 0 where
 means_more : {a b : Extent} → Extends a b → MeansMore a b
 means_more more = record {
   texts = more.texts.means;
-  lists = more.lists;
-  sets = more.sets;
-  tables = more.tables;
-  records = more.records;
+  lists = more.lists.long;
+  sets = more.sets.long;
+  tables = more.tables.long;
+  records = more.records.long;
   coexps = more.coexps;
   files = more.files;
 }
@@ -107,10 +111,10 @@ module _ {a b : Extent} (more : Extends a b) where
   live_by (CharsVal cset) is = tt
   live_by (StdVal file) is = file_by (means_more more) file is
   live_by (ProcVal number) is = tt
-  live_by (RecVal id) is = let many = more.records in omega arith
-  live_by (ListVal id) is = let many = more.lists in omega arith
-  live_by (SetVal id) is = let many = more.sets in omega arith
-  live_by (TableVal id) is = let many = more.tables in omega arith
+  live_by (RecVal id) is = more.records.still id is
+  live_by (ListVal id) is = more.lists.still id is
+  live_by (SetVal id) is = more.sets.still id is
+  live_by (TableVal id) is = more.tables.still id is
   live_by (CoexpVal id) is = let many = more.coexps in omega arith
 
   bytes_by : (span : Span) → IsText a span → text_in b span ≡ text_in a span
@@ -179,32 +183,42 @@ module _ (a b : Extent) (value : (val : Val) → IsLive a val → value_in b val
   pub values_same : (vals : List Val) → All (IsLive a) vals → map (value_in b) vals ≡ map (value_in a) vals
   values_same vals are = mapped (IsLive a) (value_in b) (value_in a) value vals are
 
-  list_same : (cells : ℕ) (list : NumberedList Val) → IsSoundList a cells list → list_in b list ≡ list_in a list
-  list_same cells list is = ap (λ items. let it : NumberedList Value = record { items = items; number = list.number } in it) (values_same list.items is.live)
+module _ (a b : Extent) (value : (val : Val) → IsMade a val → value_in b val ≡ value_in a val) where
+  vals_same : (vals : List Val) → All (IsMade a) vals → map (value_in b) vals ≡ map (value_in a) vals
+  vals_same vals are = mapped (IsMade a) (value_in b) (value_in a) value vals are
 
-  pair_same : (pair : Key × Entry) → IsSoundPair a pair → pair_in b pair ≡ pair_in a pair
-  pair_same pair is = ap (λ (it : Value). let e : Value × Value = (key_value pair.0, it) in e) (value pair.1.value is.value)
+  list_same : (list : NumberedList Val) → All (IsMade a) (list_vals list) → list_in b list ≡ list_in a list
+  list_same list are = ap (λ items. let it : NumberedList Value = record { items = items; number = list.number } in it) (vals_same list.items are)
 
-  table_same : (table : Entries) → IsSoundTable a table → table_in b table ≡ table_in a table
-  table_same table is =
-      let first : value_in b table.default ≡ value_in a table.default = value table.default is.default in
-      let rest : map (pair_in b) table.pairs ≡ map (pair_in a) table.pairs = mapped (IsSoundPair a) (pair_in b) (pair_in a) pair_same table.pairs is.pairs in
+  pair_same : (pair : Key × Entry) → All (IsMade a) (pair_vals pair) → pair_in b pair ≡ pair_in a pair
+  pair_same pair are =
+      ap (λ (it : Value). let e : Value × Value = (key_value pair.0, it) in e)
+      (value pair.1.value (All-head (IsMade a) pair.1.value [] (All-tail (IsMade a) pair.1.key (pair.1.value ∷ []) are)))
+
+  table_same : (table : Entries) → All (IsMade a) (table_vals table) → table_in b table ≡ table_in a table
+  table_same table are =
+      let made : All (λ pair. All (IsMade a) (pair_vals pair)) table.pairs =
+      all_of (IsMade a) pair_vals table.pairs (All-tail (IsMade a) table.default (flat_map pair_vals table.pairs) are) in
+      let first : value_in b table.default ≡ value_in a table.default =
+      value table.default (All-head (IsMade a) table.default (flat_map pair_vals table.pairs) are) in
+      let rest : map (pair_in b) table.pairs ≡ map (pair_in a) table.pairs =
+      mapped (λ pair. All (IsMade a) (pair_vals pair)) (pair_in b) (pair_in a) pair_same table.pairs made in
       cc
 
-  record_same : (held : HeldRecord) → IsSoundRecord a held → record_in b held ≡ record_in a held
-  record_same held is = ap (λ fields. let r : Record = record { kind = held.kind; fields = fields } in r) (values_same held.values is.live)
+  record_same : (held : HeldRecord) → All (IsMade a) (record_vals held) → record_in b held ≡ record_in a held
+  record_same held are = ap (λ fields. let r : Record = record { kind = held.kind; fields = fields } in r) (vals_same held.values are)
 
   -- and what the parts stand for is the same
   pub over_same : (parts : Parts) → AreSound a parts → heap_over b parts ≡ heap_over a parts
   over_same parts are =
-      heap_by (mapped _ _ _ (list_same parts.cells) parts.lists are.lists) (mapped _ _ _ table_same parts.tables are.tables)
-      (mapped _ _ _ record_same parts.records are.records)
+      heap_by (mapped _ _ _ list_same parts.lists.things are.made_lists.made) (mapped _ _ _ table_same parts.tables.things are.made_tables.made)
+      (mapped _ _ _ record_same parts.records.things are.made_records.made)
     where
       heap_by : {lists lists' : List (NumberedList Value)} {tables tables' : List Table} {records records' : List Record}
           → lists' ≡ lists → tables' ≡ tables → records' ≡ records
           → (let s : Heap = record {
             lists = lists';
-            sets = map set_in parts.sets;
+            sets = map set_in parts.sets.things;
             tables = tables';
             records = records';
             coexps = parts.coexps;
@@ -215,7 +229,7 @@ module _ (a b : Extent) (value : (val : Val) → IsLive a val → value_in b val
           } in s)
           ≡ (let t : Heap = record {
             lists = lists;
-            sets = map set_in parts.sets;
+            sets = map set_in parts.sets.things;
             tables = tables;
             records = records;
             coexps = parts.coexps;
@@ -225,6 +239,15 @@ module _ (a b : Extent) (value : (val : Val) → IsLive a val → value_in b val
             bounds = limits_of parts.limits;
           } in t)
       heap_by lists tables records = cc
+
+-- what structures hold was made afterwards too
+pub holds_made : {a b : Extent} → KeepsMeaning a b → {X : Type 0} (vals : X → List Val) (shelf : Shelved X) → HoldMade a vals shelf → HoldMade b vals shelf
+holds_made {a} {b} means vals shelf are = record {
+  made =
+      All-weaker (λ structure. All (IsMade a) (vals structure)) (λ structure. All (IsMade b) (vals structure))
+      (λ structure is. All-weaker (IsMade a) (IsMade b) means.made (vals structure) is) shelf.things are.made;
+  long = are.long;
+}
 
 module _ {a b : Extent} (keeps : KeepsValues a b) where
   -- and they stand for the same values
@@ -241,7 +264,7 @@ module _ {a b : Extent} (keeps : KeepsValues a b) where
 
   -- what the parts stand for
   pub over_kept : (parts : Parts) → AreSound a parts → heap_over b parts ≡ heap_over a parts
-  over_kept parts are = over_same a b keeps.value parts are
+  over_kept parts are = over_same a b keeps.means.value parts are
 
   sound_list_stays : (cells : ℕ) (list : NumberedList Val) → IsSoundList a cells list → IsSoundList b cells list
   sound_list_stays cells list is = record { live = live_kept list.items is.live; low = is.low; high = is.high }
@@ -266,10 +289,14 @@ module _ {a b : Extent} (keeps : KeepsValues a b) where
 
   pub sound_kept : (parts : Parts) → AreSound a parts → AreSound b parts
   sound_kept parts are = record {
-    lists = All-weaker _ _ (sound_list_stays parts.cells) parts.lists are.lists;
-    sets = All-weaker _ _ (λ set is. All-weaker _ _ member_stays set is) parts.sets are.sets;
-    tables = All-weaker _ _ table_stays parts.tables are.tables;
-    records = All-weaker _ _ record_stays parts.records are.records;
+    lists = All-weaker _ _ (sound_list_stays parts.cells) (things_there parts.lists) are.lists;
+    sets = All-weaker _ _ (λ set is. All-weaker _ _ member_stays set is) (things_there parts.sets) are.sets;
+    tables = All-weaker _ _ table_stays (things_there parts.tables) are.tables;
+    records = All-weaker _ _ record_stays (things_there parts.records) are.records;
+    made_lists = holds_made keeps.means list_vals parts.lists are.made_lists;
+    made_sets = holds_made keeps.means set_vals parts.sets are.made_sets;
+    made_tables = holds_made keeps.means table_vals parts.tables are.made_tables;
+    made_records = holds_made keeps.means record_vals parts.records are.made_records;
     coexps = are.coexps;
     files = are.files;
   }

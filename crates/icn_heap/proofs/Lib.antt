@@ -1,13 +1,15 @@
 pub mod KeyTests
 pub mod KeyValues
 pub mod HeapCharges
+pub mod NeededSteps
 pub mod GrowingHeaps
+pub mod HeldElements
 pub mod PairViews
 pub mod ListChanges
 pub mod OtherChanges
 pub mod FileChanges
-pub mod NeededSteps
-pub mod SweptTexts
+pub mod MarkedStructures
+pub mod CollectedHeaps
 pub mod TextChanges
 pub mod NewNumbers
 pub mod ChangedParts
@@ -17,3 +19,6 @@ pub mod TakenElements
 pub mod DistinctKeys
 pub mod JoinedValues
 pub mod JoinedPairs
+pub mod StructureNumbers
+mod KindRows
+mod RefusedChanges

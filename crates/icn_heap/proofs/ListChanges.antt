@@ -1,5 +1,5 @@
 -- Lists that join a heap and change in it.
-use Rattle.std.proofs.Common.{◌≡◌, ◌∙◌, refl, sym, ap, ℕ, zero, suc, ◌+◌, ◌-◌, ◌<◌, ◌≤◌, ℤ, pos, negsuc, ◌-ℤ◌, ◌+ℤ◌, ◌≤ℤ◌, FitsSigned, w64, Option, None, Some, is_some, slice_get, unwrap_or, IfSome, List, [], ◌∷◌, ◌++◌, map, take, length, slice_set, slice_index_or, arith, length-append, replicate, subst}
+use Rattle.std.proofs.Common.{◌≡◌, ◌∙◌, refl, sym, ap, ℕ, zero, suc, ◌+◌, ◌-◌, ◌≤◌, ℤ, pos, negsuc, ◌-ℤ◌, ◌+ℤ◌, ◌≤ℤ◌, FitsSigned, w64, Option, None, Some, is_some, slice_get, unwrap_or, IfSome, List, [], ◌∷◌, ◌++◌, map, take, length, slice_set, slice_index_or, arith, length-append, replicate, subst}
 use Rattle.std.proofs.Math.Nat.{le_refl}
 use Rattle.std.proofs.lemmas.Int.{ints}
 use Rattle.std.specs.List.{All}
@@ -10,15 +10,19 @@ use Rattle.std.proofs.lemmas.List.Elements.{All-push, All-set, All-cons, All-hea
 use Rattle.std.proofs.Math.ListN.{get_or-map}
 use Rattle.icn_strings.specs.declared.region.Region.{Region}
 use Rattle.icn_strings.specs.Regions.{KeepsRanges as KeepsTexts}
+use Rattle.icn_structs.specs.Shelves.{IsSet, things_there, with_new, with_other}
+use Rattle.icn_structs.proofs.ShelvedThings.{all_new, all_other, at_there, more_set, same_set, set_below}
 use Rattle.icn_structs.specs.Numbered.{NumberedList, number_after, with_right, with_left, without_left, without_right, with_numbered, items_with, item_at, item_numbered, leftmost, rightmost, after_first}
 use Rattle.icn_value.specs.declared.val.Val.{Val}
 use Rattle.icn_value.specs.Values.{Value}
 use Rattle.icn_value.specs.Store.{Heap, new_list, list_at, with_list}
 use Rattle.icn_value.specs.Changes.{having_list}
+use Rattle.icn_heap.specs.ElementValues.{list_vals}
 use Rattle.icn_heap.specs.Extents.{Extent, IsLive, value_in, KeepsValues}
 use Rattle.icn_heap.specs.HeapParts.{Parts, list_in, heap_over, extent_in, no_vals, IsSoundList, IsCharged, IsSoundHeap}
 use Rattle.icn_heap.specs.Heaps.{with_cells}
 use Rattle.icn_heap.proofs.GrowingHeaps.{lists_later, optional_kept, Becomes, becomes}
+use Rattle.icn_heap.proofs.HeldElements.{list_made, made_new, made_other}
 
 pub texts_stay : (region : Region) → KeepsTexts region region
 texts_stay region =
@@ -34,12 +38,15 @@ pub at_view : {X Y : Type 0} (f : X → Y) (xs : List X) (k : ℕ) (d : X) → u
 at_view f xs k d = unwrap_or-slice_get (map f xs) k (f d) ∙ get_or-map f xs k d
 
 -- a list by its number
-pub list_view : (all : Extent) (parts : Parts) (id : ℕ) → list_at (heap_over all parts) id ≡ list_in all (slice_index_or parts.lists id no_vals)
-list_view all parts id = at_view (list_in all) parts.lists id no_vals
+pub list_view : (all : Extent) (parts : Parts) (id : ℕ) → list_at (heap_over all parts) id ≡ list_in all (slice_index_or parts.lists.things id no_vals)
+list_view all parts id = at_view (list_in all) parts.lists.things id no_vals
 
-pub list_sound : (parts : Parts) → IsSoundHeap parts → (id : ℕ) → id < length parts.lists
-    → IsSoundList (extent_in parts) parts.cells (slice_index_or parts.lists id no_vals)
-list_sound parts is id there = is.structures.lists id no_vals there
+pub list_sound : (parts : Parts) → IsSoundHeap parts → (id : ℕ) → IsSet parts.lists.held id
+    → IsSoundList (extent_in parts) parts.cells (slice_index_or parts.lists.things id no_vals)
+list_sound parts is id there =
+    let within = set_below parts.lists.held id there in
+    let long = is.structures.made_lists.long in
+    at_there (IsSoundList (extent_in parts) parts.cells) parts.lists.held parts.lists.things id no_vals there (omega (arith, within, long)) is.structures.lists
 
 -- Lists that stay sound
 
@@ -165,54 +172,79 @@ get_live P (x ∷ xs) (suc k) are = get_live P xs k (All-tail P x xs are)
 -- A list of a heap that changes, and one that joins it
 
 module _ (parts : Parts) (is : IsSoundHeap parts) {sum : ℕ} (more : parts.cells ≤ sum) (within : sum ≤ parts.limits.cells) where
-  lists_more : All (IsSoundList (extent_in parts) sum) parts.lists
-  lists_more = lists_later (extent_in parts) parts.cells sum more parts.lists is.structures.lists
+  lists_more : All (IsSoundList (extent_in parts) sum) (things_there parts.lists)
+  lists_more = lists_later (extent_in parts) parts.cells sum more (things_there parts.lists) is.structures.lists
 
   pub list_changes : (id : ℕ) {list : NumberedList Val} {value : NumberedList Value} → IsSoundList (extent_in parts) sum list
       → list_in (extent_in parts) list ≡ value
-      → Becomes parts (record parts { lists = slice_set parts.lists id list; cells = sum })
+      → Becomes parts (record parts { lists = with_other parts.lists id list; cells = sum })
       (with_list id value (with_cells sum (heap_over (extent_in parts) parts)))
   list_changes id {list} {value} sound same =
-      let size : length (slice_set parts.lists id list) ≡ length parts.lists = length-set parts.lists id list in
+      let size : length (slice_set parts.lists.things id list) ≡ length parts.lists.things = length-set parts.lists.things id list in
       let charged : IsCharged parts = is.charged in
       becomes
-      (record { texts = texts_stay parts.strings; lists = omega arith; sets = le_refl _; tables = le_refl _; records = le_refl _; coexps = le_refl _; files = le_refl _ })
       (record {
-        lists = All-set (IsSoundList (extent_in parts) sum) parts.lists id list sound lists_more;
+        texts = texts_stay parts.strings;
+        lists = same_set _;
+        sets = same_set _;
+        tables = same_set _;
+        records = same_set _;
+        coexps = le_refl _;
+        files = le_refl _;
+      })
+      (record {
+        lists = all_other (IsSoundList (extent_in parts) sum) parts.lists.held parts.lists.things id list sound lists_more;
         sets = is.structures.sets;
         tables = is.structures.tables;
         records = is.structures.records;
+        made_lists = made_other (extent_in parts) list_vals parts.lists is.structures.made_lists id list (list_made (extent_in parts) sum list sound);
+        made_sets = is.structures.made_sets;
+        made_tables = is.structures.made_tables;
+        made_records = is.structures.made_records;
         coexps = is.structures.coexps;
         files = is.structures.files;
       })
       (record { limit = charged.limit; within = within; counted = (let few = charged.counted in omega arith); main = charged.main })
       (ap (λ lists. let heap : Heap = record (with_cells sum (heap_over (extent_in parts) parts)) { lists = lists } in heap)
-      (map-set (list_in (extent_in parts)) parts.lists id list ∙ ap (slice_set (map (list_in (extent_in parts)) parts.lists) id) same))
+      (map-set (list_in (extent_in parts)) parts.lists.things id list ∙ ap (slice_set (map (list_in (extent_in parts)) parts.lists.things) id) same))
 
   pub list_joins : {list : NumberedList Val} {items : List Val} → sum ≡ parts.cells + (1 + length items) → list.items ≡ items → list.number ≡ pos 1
       → All (IsLive (extent_in parts)) items
-      → Becomes parts (record parts { lists = parts.lists ++ list ∷ []; cells = sum })
+      → Becomes parts (record parts { lists = with_new parts.lists list; cells = sum })
       (having_list (map (value_in (extent_in parts)) items) (with_cells sum (heap_over (extent_in parts) parts)))
   list_joins {list} {items} paid are number live =
-      let size : length (parts.lists ++ list ∷ []) ≡ length parts.lists + 1 = length-append parts.lists (list ∷ []) in
+      let size : length (parts.lists.things ++ list ∷ []) ≡ length parts.lists.things + 1 = length-append parts.lists.things (list ∷ []) in
       let charged : IsCharged parts = is.charged in
       let made : list_in (extent_in parts) list
       ≡ new_list (map (value_in (extent_in parts)) items) = new_by (ap (map (value_in (extent_in parts))) are) number in
+      let sound : IsSoundList (extent_in parts) sum list =
+      record { live = rw are live; low = rw number (omega (arith, ints)); high = rw (number, are) (omega (arith, ints)) } in
       becomes
-      (record { texts = texts_stay parts.strings; lists = omega arith; sets = le_refl _; tables = le_refl _; records = le_refl _; coexps = le_refl _; files = le_refl _ })
       (record {
-        lists = All-push (IsSoundList (extent_in parts) sum) parts.lists list lists_more
-            (record { live = rw are live; low = rw number (omega (arith, ints)); high = rw (number, are) (omega (arith, ints)) });
+        texts = texts_stay parts.strings;
+        lists = more_set _;
+        sets = same_set _;
+        tables = same_set _;
+        records = same_set _;
+        coexps = le_refl _;
+        files = le_refl _;
+      })
+      (record {
+        lists = all_new (IsSoundList (extent_in parts) sum) parts.lists.held parts.lists.things list is.structures.made_lists.long lists_more sound;
         sets = is.structures.sets;
         tables = is.structures.tables;
         records = is.structures.records;
+        made_lists = made_new (extent_in parts) list_vals parts.lists is.structures.made_lists list (list_made (extent_in parts) sum list sound);
+        made_sets = is.structures.made_sets;
+        made_tables = is.structures.made_tables;
+        made_records = is.structures.made_records;
         coexps = is.structures.coexps;
         files = is.structures.files;
       })
       (record { limit = charged.limit; within = within; counted = (let few = charged.counted in omega arith); main = charged.main })
       (ap (λ lists. let heap : Heap = record (with_cells sum (heap_over (extent_in parts) parts)) { lists = lists } in heap)
-      (map-append (list_in (extent_in parts)) parts.lists (list ∷ [])
-      ∙ ap (λ (it : NumberedList Value). map (list_in (extent_in parts)) parts.lists ++ it ∷ []) made))
+      (map-append (list_in (extent_in parts)) parts.lists.things (list ∷ [])
+      ∙ ap (λ (it : NumberedList Value). map (list_in (extent_in parts)) parts.lists.things ++ it ∷ []) made))
     where
       new_by : {a b : List Value} {n m : ℤ} → a ≡ b → n ≡ m
           → (let x : NumberedList Value = record { items = a; number = n } in x) ≡ (let y : NumberedList Value = record { items = b; number = m } in y)
@@ -220,70 +252,70 @@ module _ (parts : Parts) (is : IsSoundHeap parts) {sum : ℕ} (more : parts.cell
 
 -- The calls on one list
 
-module _ (parts : Parts) (is : IsSoundHeap parts) (id : ℕ) (there : id < length parts.lists) where
-  found_sound : IsSoundList (extent_in parts) parts.cells (slice_index_or parts.lists id no_vals)
+module _ (parts : Parts) (is : IsSoundHeap parts) (id : ℕ) (there : IsSet parts.lists.held id) where
+  found_sound : IsSoundList (extent_in parts) parts.cells (slice_index_or parts.lists.things id no_vals)
   found_sound = list_sound parts is id there
 
-  view : list_in (extent_in parts) (slice_index_or parts.lists id no_vals) ≡ list_at (heap_over (extent_in parts) parts) id
+  view : list_in (extent_in parts) (slice_index_or parts.lists.things id no_vals) ≡ list_at (heap_over (extent_in parts) parts) id
   view = sym (list_view (extent_in parts) parts id)
 
   pub list_puts : {sum : ℕ} → sum ≡ parts.cells + (1 + 0) → sum ≤ parts.limits.cells → (val : Val) → IsLive (extent_in parts) val
-      → Becomes parts (record parts { lists = slice_set parts.lists id (with_right (slice_index_or parts.lists id no_vals) val); cells = sum })
+      → Becomes parts (record parts { lists = with_other parts.lists id (with_right (slice_index_or parts.lists.things id no_vals) val); cells = sum })
       (with_list id (with_right (list_at (heap_over (extent_in parts) parts) id) (value_in (extent_in parts) val))
       (with_cells sum (heap_over (extent_in parts) parts)))
   list_puts {sum} paid within val live =
       list_changes parts is (omega arith) within id (sound_right _ _ _ found_sound sum paid val live)
-      (right_in (extent_in parts) (slice_index_or parts.lists id no_vals) val
+      (right_in (extent_in parts) (slice_index_or parts.lists.things id no_vals) val
       ∙ ap (λ (list : NumberedList Value). with_right list (value_in (extent_in parts) val)) view)
 
   pub list_pushes : {sum : ℕ} → sum ≡ parts.cells + (1 + 0) → sum ≤ parts.limits.cells → (val : Val) → IsLive (extent_in parts) val
-      → Becomes parts (record parts { lists = slice_set parts.lists id (with_left (slice_index_or parts.lists id no_vals) val); cells = sum })
+      → Becomes parts (record parts { lists = with_other parts.lists id (with_left (slice_index_or parts.lists.things id no_vals) val); cells = sum })
       (with_list id (with_left (list_at (heap_over (extent_in parts) parts) id) (value_in (extent_in parts) val))
       (with_cells sum (heap_over (extent_in parts) parts)))
   list_pushes {sum} paid within val live =
       list_changes parts is (omega arith) within id (sound_left _ _ _ found_sound sum paid val live)
       (ap (λ (list : NumberedList Value). with_left list (value_in (extent_in parts) val)) view)
 
-  pub list_gets : Becomes parts (record parts { lists = slice_set parts.lists id (without_left (slice_index_or parts.lists id no_vals)) })
+  pub list_gets : Becomes parts (record parts { lists = with_other parts.lists id (without_left (slice_index_or parts.lists.things id no_vals)) })
       (with_list id (without_left (list_at (heap_over (extent_in parts) parts) id)) (heap_over (extent_in parts) parts))
   list_gets =
       list_changes parts is (le_refl _) is.charged.within id (sound_after _ _ _ found_sound)
-      (rest_in (extent_in parts) (slice_index_or parts.lists id no_vals) ∙ ap without_left view)
+      (rest_in (extent_in parts) (slice_index_or parts.lists.things id no_vals) ∙ ap without_left view)
 
-  pub list_pulls : Becomes parts (record parts { lists = slice_set parts.lists id (without_right (slice_index_or parts.lists id no_vals)) })
+  pub list_pulls : Becomes parts (record parts { lists = with_other parts.lists id (without_right (slice_index_or parts.lists.things id no_vals)) })
       (with_list id (without_right (list_at (heap_over (extent_in parts) parts) id)) (heap_over (extent_in parts) parts))
   list_pulls =
       list_changes parts is (le_refl _) is.charged.within id (sound_before _ _ _ found_sound)
-      (front_in (extent_in parts) (slice_index_or parts.lists id no_vals) ∙ ap without_right view)
+      (front_in (extent_in parts) (slice_index_or parts.lists.things id no_vals) ∙ ap without_right view)
 
   pub list_sets : (n : ℤ) (val : Val) → IsLive (extent_in parts) val
-      → Becomes parts (record parts { lists = slice_set parts.lists id (with_numbered (slice_index_or parts.lists id no_vals) n val) })
+      → Becomes parts (record parts { lists = with_other parts.lists id (with_numbered (slice_index_or parts.lists.things id no_vals) n val) })
       (with_list id (with_numbered (list_at (heap_over (extent_in parts) parts) id) n (value_in (extent_in parts) val)) (heap_over (extent_in parts) parts))
   list_sets n val live =
       list_changes parts is (le_refl _) is.charged.within id (sound_numbered _ _ _ found_sound n val live)
-      (numbered_in (extent_in parts) (slice_index_or parts.lists id no_vals) n val
+      (numbered_in (extent_in parts) (slice_index_or parts.lists.things id no_vals) n val
       ∙ ap (λ (list : NumberedList Value). with_numbered list n (value_in (extent_in parts) val)) view)
 
   -- what is found there
-  pub first_live : IfSome (leftmost (slice_index_or parts.lists id no_vals)) (IsLive (extent_in parts))
+  pub first_live : IfSome (leftmost (slice_index_or parts.lists.things id no_vals)) (IsLive (extent_in parts))
   first_live = get_live _ _ 0 found_sound.live
 
-  pub last_live : IfSome (rightmost (slice_index_or parts.lists id no_vals)) (IsLive (extent_in parts))
+  pub last_live : IfSome (rightmost (slice_index_or parts.lists.things id no_vals)) (IsLive (extent_in parts))
   last_live = get_live _ _ _ found_sound.live
 
-  pub first_is : option_map (value_in (extent_in parts)) (leftmost (slice_index_or parts.lists id no_vals))
+  pub first_is : option_map (value_in (extent_in parts)) (leftmost (slice_index_or parts.lists.things id no_vals))
       ≡ leftmost (list_at (heap_over (extent_in parts) parts) id)
-  first_is = sym (first_in (extent_in parts) (slice_index_or parts.lists id no_vals)) ∙ ap leftmost view
+  first_is = sym (first_in (extent_in parts) (slice_index_or parts.lists.things id no_vals)) ∙ ap leftmost view
 
-  pub last_is : option_map (value_in (extent_in parts)) (rightmost (slice_index_or parts.lists id no_vals))
+  pub last_is : option_map (value_in (extent_in parts)) (rightmost (slice_index_or parts.lists.things id no_vals))
       ≡ rightmost (list_at (heap_over (extent_in parts) parts) id)
-  last_is = sym (last_in (extent_in parts) (slice_index_or parts.lists id no_vals)) ∙ ap rightmost view
+  last_is = sym (last_in (extent_in parts) (slice_index_or parts.lists.things id no_vals)) ∙ ap rightmost view
 
   pub numbered_is : (n : ℤ)
-      → is_some (item_numbered (slice_index_or parts.lists id no_vals) n) ≡ is_some (item_numbered (list_at (heap_over (extent_in parts) parts) id) n)
+      → is_some (item_numbered (slice_index_or parts.lists.things id no_vals) n) ≡ is_some (item_numbered (list_at (heap_over (extent_in parts) parts) id) n)
   numbered_is n =
-      sym (is_some_map (value_in (extent_in parts)) (item_numbered (slice_index_or parts.lists id no_vals) n))
-      ∙ (ap is_some (sym (item_in (extent_in parts) (slice_index_or parts.lists id no_vals) n))
+      sym (is_some_map (value_in (extent_in parts)) (item_numbered (slice_index_or parts.lists.things id no_vals) n))
+      ∙ (ap is_some (sym (item_in (extent_in parts) (slice_index_or parts.lists.things id no_vals) n))
       ∙ ap (λ (list : NumberedList Value). is_some (item_numbered list n)) view)
 
 -- an item that was found, as the heap afterwards sees it
@@ -303,11 +335,11 @@ map-replicate all (suc n) fill = ap (λ rest. value_in all fill ∷ rest) (map-r
 pub list_repeats : (parts : Parts) → IsSoundHeap parts → {sum : ℕ} {list : NumberedList Val} (n : ℕ) (fill : Val) → sum ≡ parts.cells + (1 + n)
     → sum ≤ parts.limits.cells
     → list.items ≡ replicate n fill → list.number ≡ pos 1 → IsLive (extent_in parts) fill
-    → Becomes parts (record parts { lists = parts.lists ++ list ∷ []; cells = sum })
+    → Becomes parts (record parts { lists = with_new parts.lists list; cells = sum })
     (having_list (replicate n (value_in (extent_in parts) fill)) (with_cells sum (heap_over (extent_in parts) parts)))
 list_repeats parts is {sum} {list} n fill paid within are number live =
     let size : length (replicate n fill) ≡ n = length-replicate n fill in
-    subst (λ items. Becomes parts (record parts { lists = parts.lists ++ list ∷ []; cells = sum })
+    subst (λ items. Becomes parts (record parts { lists = with_new parts.lists list; cells = sum })
     (having_list items (with_cells sum (heap_over (extent_in parts) parts))))
     (map-replicate (extent_in parts) n fill)
     (list_joins parts is (omega arith) within (omega arith) are number (All-replicate (IsLive (extent_in parts)) n fill live))

@@ -1,9 +1,11 @@
--- What a value stands for beside the texts that a heap has and the counts of its structures, and which values are of it.
-use Rattle.std.specs.Prelude.{◌≡◌, ℕ, ◌<◌, List, ⊤}
+-- What a value stands for beside the texts that a heap has and the structures that were made, and which values are of it.
+use Rattle.std.specs.Prelude.{◌≡◌, ℕ, ◌<◌, Bool, List, length, ⊤}
 use Rattle.std.specs.Coded.{Unit-prop, le_prop}
+use Rattle.std.proofs.Props.{props}
 use Rattle.icn_strings.specs.declared.byte_range.ByteRange.{ByteRange}
 use Rattle.icn_strings.specs.declared.region.Region.{Region}
 use Rattle.icn_strings.specs.Regions.{IsOf, IsOf-prop, IsWritten, IsWritten-prop, bytes_of}
+use Rattle.icn_structs.specs.Shelves.{IsSet}
 use Rattle.icn_value.specs.declared.val.Span.{Span}
 use Rattle.icn_value.specs.declared.val.File.{File as HeldFile}
 use Rattle.icn_value.specs.declared.val.File.TheVariants.{Input as HeldInput, Output as HeldOutput, Errout as HeldErrout, Opened as HeldOpened}
@@ -13,13 +15,14 @@ use Rattle.icn_value.specs.Values.{Value, Null, Integer, Text, Chars, Std, Proce
 use Rattle.icn_value.specs.Members.{members_of}
 use Rattle.icn_heap.specs.Keys.{file_of}
 
--- the texts that a heap has, how many structures of each type, and how many files were opened
+-- the texts that a heap has, of each structure that was ever made whether it is there still, how many co-expressions were
+-- made, and how many files were opened
 pub record Extent : Type 0 where
   pub strings : Region
-  pub lists : ℕ
-  pub sets : ℕ
-  pub tables : ℕ
-  pub records : ℕ
+  pub lists : List Bool
+  pub sets : List Bool
+  pub tables : List Bool
+  pub records : List Bool
   pub coexps : ℕ
   pub files : ℕ
 
@@ -64,8 +67,8 @@ FileBy all HeldOutput = ⊤
 FileBy all HeldErrout = ⊤
 FileBy all (HeldOpened number) = number < all.files
 
--- a text is of the heap, a structure has a number below the count of its type, and so has an opened file; other
--- values ask for nothing
+-- a text is of the heap, a structure is there, a co-expression has a number below their count, and so has an opened file;
+-- other values ask for nothing
 abbrev pub LiveBy : Extent → Val → Type 0
 LiveBy all NullVal = ⊤
 LiveBy all (IntegerVal n) = ⊤
@@ -73,14 +76,14 @@ LiveBy all (TextVal span) = IsText all span
 LiveBy all (CharsVal cset) = ⊤
 LiveBy all (StdVal file) = FileBy all file
 LiveBy all (ProcVal number) = ⊤
-LiveBy all (RecVal id) = id < all.records
-LiveBy all (ListVal id) = id < all.lists
-LiveBy all (SetVal id) = id < all.sets
-LiveBy all (TableVal id) = id < all.tables
+LiveBy all (RecVal id) = IsSet all.records id
+LiveBy all (ListVal id) = IsSet all.lists id
+LiveBy all (SetVal id) = IsSet all.sets id
+LiveBy all (TableVal id) = IsSet all.tables id
 LiveBy all (CoexpVal id) = id < all.coexps
 
--- a text was made, a structure has a number below the count of its type, and so has an opened file; other values ask
--- for nothing
+-- a text was made, a structure has a number below the count of those that were ever made of its type, and so has an opened
+-- file; other values ask for nothing
 abbrev pub MadeBy : Extent → Val → Type 0
 MadeBy all NullVal = ⊤
 MadeBy all (IntegerVal n) = ⊤
@@ -88,13 +91,13 @@ MadeBy all (TextVal span) = IsMadeText all span
 MadeBy all (CharsVal cset) = ⊤
 MadeBy all (StdVal file) = FileBy all file
 MadeBy all (ProcVal number) = ⊤
-MadeBy all (RecVal id) = id < all.records
-MadeBy all (ListVal id) = id < all.lists
-MadeBy all (SetVal id) = id < all.sets
-MadeBy all (TableVal id) = id < all.tables
+MadeBy all (RecVal id) = id < length all.records
+MadeBy all (ListVal id) = id < length all.lists
+MadeBy all (SetVal id) = id < length all.sets
+MadeBy all (TableVal id) = id < length all.tables
 MadeBy all (CoexpVal id) = id < all.coexps
 
--- the value was made in the heap, and stands for something, whether its text is there still or not
+-- the value was made in the heap, and stands for something, whether its text or structure is there still or not
 pub record IsMade (all : Extent) (val : Val) : Type 0 where
   pub made : MadeBy all val
 
@@ -114,7 +117,7 @@ pub record KeepsMeaning (old new : Extent) : Type 0 where
   pub text : (span : Span) → IsMadeText old span → IsMadeText new span
   pub bytes : (span : Span) → IsMadeText old span → text_in new span ≡ text_in old span
 
--- every value stays of the heap, and stands for the same: each call but `collect_texts` gives this
+-- every value stays of the heap, and stands for the same: each call but `collect` gives this
 pub record KeepsValues (old new : Extent) : Type 0 where
   pub means : KeepsMeaning old new
   pub live : (val : Val) → IsLive old val → IsLive new val
@@ -138,10 +141,10 @@ LiveBy-prop all (TextVal span) = IsText-prop all span
 LiveBy-prop all (CharsVal cset) = Unit-prop
 LiveBy-prop all (StdVal file) = FileBy-prop all file
 LiveBy-prop all (ProcVal number) = Unit-prop
-LiveBy-prop all (RecVal id) = le_prop
-LiveBy-prop all (ListVal id) = le_prop
-LiveBy-prop all (SetVal id) = le_prop
-LiveBy-prop all (TableVal id) = le_prop
+LiveBy-prop all (RecVal id) = hlevel props
+LiveBy-prop all (ListVal id) = hlevel props
+LiveBy-prop all (SetVal id) = hlevel props
+LiveBy-prop all (TableVal id) = hlevel props
 LiveBy-prop all (CoexpVal id) = le_prop
 
 -- there is one proof at most that a value is of a heap

@@ -6,6 +6,7 @@ use Rattle.icn_strings.specs.declared.region.Region.{Region}
 use Rattle.icn_strings.specs.Regions.{sum_of, limit_of}
 use Rattle.icn_structs.specs.Numbered.{NumberedList, number_after}
 use Rattle.icn_structs.specs.PairLists.{value_of, with_value_of, without}
+use Rattle.icn_structs.specs.Shelves.{Shelved, things_there}
 use Rattle.icn_value.specs.declared.limits.Limits.{Limits}
 use Rattle.icn_value.specs.declared.val.Val.{Val}
 use Rattle.icn_value.specs.declared.val.Val.TheVariants.{Null}
@@ -13,7 +14,8 @@ use Rattle.icn_value.specs.Limited.{limits_of}
 use Rattle.icn_value.specs.Values.{Value}
 use Rattle.icn_value.specs.Store.{Heap, Table, Record, OpenedFile}
 use Rattle.icn_value.specs.Sameness.{same}
-use Rattle.icn_heap.specs.Extents.{Extent, IsLive, IsLive-prop, value_in}
+use Rattle.icn_heap.specs.ElementValues.{list_vals, set_vals, table_vals, record_vals}
+use Rattle.icn_heap.specs.Extents.{Extent, IsLive, IsLive-prop, IsMade, IsMade-prop, value_in}
 use Rattle.icn_heap.specs.Keys.{key_value, IsKey, IsKey-prop}
 use Rattle.icn_heap.specs.KeyTests.{key_eq}
 use Rattle.icn_heap.specs.declared.key.Key.{Key}
@@ -21,21 +23,22 @@ use Rattle.icn_heap.specs.declared.entries.Entry.{Entry}
 use Rattle.icn_heap.specs.declared.entries.Entries.{Entries}
 use Rattle.icn_heap.specs.Records.{HeldRecord}
 
--- the parts: the region of strings, the structures of each type, the counts of results, the files that were opened, and what cells are charged
+-- the parts: the region of strings, the structures of each type that were ever made, the counts of results, the files that were
+-- opened, and what cells are charged
 pub record Parts : Type 0 where
   pub strings : Region
-  pub lists : List (NumberedList Val)
-  pub sets : List (List (Key × Val))
-  pub tables : List Entries
-  pub records : List HeldRecord
+  pub lists : Shelved (NumberedList Val)
+  pub sets : Shelved (List (Key × Val))
+  pub tables : Shelved Entries
+  pub records : Shelved HeldRecord
   pub coexps : List ℕ
   pub files : List OpenedFile
   pub cells : ℕ
   pub limits : Limits
 
 -- the parts of a heap, by name
-abbrev pub parts : Region → List (NumberedList Val) → List (List (Key × Val)) → List Entries → List HeldRecord
-    → List ℕ → List OpenedFile → ℕ → Limits → Parts
+abbrev pub parts : Region → Shelved (NumberedList Val) → Shelved (List (Key × Val)) → Shelved Entries
+    → Shelved HeldRecord → List ℕ → List OpenedFile → ℕ → Limits → Parts
 parts strings lists sets tables records coexps files cells limits = record {
   strings = strings;
   lists = lists;
@@ -74,13 +77,13 @@ table_in all table = record { default = value_in all table.default; pairs = map 
 abbrev pub record_in : Extent → HeldRecord → Record
 record_in all held = record { kind = held.kind; fields = map (value_in all) held.values }
 
--- the parts as a heap of the definitions, by an extent
+-- the parts as a heap of the definitions, by an extent: with all structures that were ever made
 abbrev pub heap_over : Extent → Parts → Heap
 heap_over all parts = record {
-  lists = map (list_in all) parts.lists;
-  sets = map set_in parts.sets;
-  tables = map (table_in all) parts.tables;
-  records = map (record_in all) parts.records;
+  lists = map (list_in all) parts.lists.things;
+  sets = map set_in parts.sets.things;
+  tables = map (table_in all) parts.tables.things;
+  records = map (record_in all) parts.records.things;
   coexps = parts.coexps;
   files = parts.files;
   strings = sum_of parts.strings;
@@ -88,14 +91,14 @@ heap_over all parts = record {
   bounds = limits_of parts.limits;
 }
 
--- the texts of the parts, and how many structures of each type they have
+-- the texts of the parts, and which of their structures are there
 abbrev pub extent_in : Parts → Extent
 extent_in parts = record {
   strings = parts.strings;
-  lists = length parts.lists;
-  sets = length parts.sets;
-  tables = length parts.tables;
-  records = length parts.records;
+  lists = parts.lists.held;
+  sets = parts.sets.held;
+  tables = parts.tables.held;
+  records = parts.records.held;
   coexps = length parts.coexps;
   files = length parts.files;
 }
@@ -111,10 +114,6 @@ abbrev pub no_entries : Entries
 no_entries = record { default = Null; pairs = [] }
 
 -- What is found at a place
-
--- the value of a member, without the key that finds it
-abbrev pub member_val : Key × Val → Val
-member_val member = member.1
 
 -- the entry of a pair, without the key that finds it
 abbrev pub entry_of : Key × Entry → Entry
@@ -178,12 +177,21 @@ pub record IsSoundRecord (all : Extent) (held : HeldRecord) : Type 0 where
 pub record IsSoundFile (file : OpenedFile) : Type 0 where
   pub within : file.place ≤ length file.content
 
--- the structures are sound, by an extent
+-- what structures hold was made in the heap, and of each it is known whether it is there
+pub record HoldMade {X : Type 0} (all : Extent) (vals : X → List Val) (shelf : Shelved X) : Type 0 where
+  pub made : All (λ structure. All (IsMade all) (vals structure)) shelf.things
+  pub long : length shelf.held ≡ length shelf.things
+
+-- by an extent, the structures that are there are sound; those that are gone hold what was made
 pub record AreSound (all : Extent) (parts : Parts) : Type 0 where
-  pub lists : All (IsSoundList all parts.cells) parts.lists
-  pub sets : All (All (IsSoundMember all)) parts.sets
-  pub tables : All (IsSoundTable all) parts.tables
-  pub records : All (IsSoundRecord all) parts.records
+  pub lists : All (IsSoundList all parts.cells) (things_there parts.lists)
+  pub sets : All (All (IsSoundMember all)) (things_there parts.sets)
+  pub tables : All (IsSoundTable all) (things_there parts.tables)
+  pub records : All (IsSoundRecord all) (things_there parts.records)
+  pub made_lists : HoldMade all list_vals parts.lists
+  pub made_sets : HoldMade all set_vals parts.sets
+  pub made_tables : HoldMade all table_vals parts.tables
+  pub made_records : HoldMade all record_vals parts.records
   pub coexps : All (λ count. count < 2 ^ 63) parts.coexps
   pub files : All IsSoundFile parts.files
 
@@ -191,8 +199,8 @@ pub record AreSound (all : Extent) (parts : Parts) : Type 0 where
 pub record IsCharged (parts : Parts) : Type 0 where
   pub limit : limit_of parts.strings ≡ parts.limits.strings
   pub within : parts.cells ≤ parts.limits.cells
-  pub counted : length parts.lists + length parts.sets + length parts.tables + length parts.records
-      + length parts.files + length parts.coexps ≤ parts.cells + 1
+  pub counted : length parts.lists.things + length parts.sets.things + length parts.tables.things
+      + length parts.records.things + length parts.files + length parts.coexps ≤ parts.cells + 1
   pub main : 0 < length parts.coexps
 
 -- what each heap keeps
@@ -218,6 +226,10 @@ IsSoundRecord-prop all held = hlevel (IsLive-prop, props)
 IsSoundFile-prop : (file : OpenedFile) → IsProp (IsSoundFile file)
 IsSoundFile-prop file = hlevel props
 
+HoldMade-prop : {X : Type 0} (all : Extent) (vals : X → List Val) (shelf : Shelved X)
+    → IsProp (HoldMade all vals shelf)
+HoldMade-prop all vals shelf = hlevel (IsMade-prop, props)
+
 AreSound-prop : (all : Extent) (parts : Parts) → IsProp (AreSound all parts)
 AreSound-prop all parts =
     hlevel (
@@ -226,6 +238,7 @@ AreSound-prop all parts =
       IsSoundTable-prop,
       IsSoundRecord-prop,
       IsSoundFile-prop,
+      HoldMade-prop,
       props,
     )
 

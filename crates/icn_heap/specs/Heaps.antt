@@ -8,10 +8,10 @@ use Rattle.icn_heap.specs.declared.heap.Heap.{Heap as HeldHeap}
 
 -- the parts that a heap holds
 abbrev pub parts_of : HeldHeap → Parts
-parts_of heap = parts heap.strings heap.lists.items heap.sets.items heap.tables.items heap.records.items
+parts_of heap = parts heap.strings heap.lists.shelf heap.sets.shelf heap.tables.shelf heap.records.shelf
     heap.coexps.items heap.files.items heap.cells heap.limits
 
--- the texts that a heap has, and how many structures
+-- the texts that a heap has, and which of its structures are there
 unfoldable pub extent_of : HeldHeap → Extent
 extent_of heap = extent_in (parts_of heap)
 

@@ -1,11 +1,14 @@
 pub mod Keys
 pub mod KeyTests
 pub mod Extents
+pub mod KindRows
 pub mod Records
 pub mod FileEntries
+pub mod ElementValues
 pub mod HeapParts
 pub mod Heaps
 pub mod RegionRefusals
 pub mod Texts
 pub mod MadeStructures
 pub mod NeededValues
+pub mod MarkedStructures

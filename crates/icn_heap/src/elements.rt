@@ -1,5 +1,4 @@
 // The elements of a structure, one by one and all at once.
-use crate::fields::record_ref;
 use crate::heap::Heap;
 use icn_value::Val;
 use std::alloc::AllocError;
@@ -92,6 +91,6 @@ impl Heap {
         ensures live { All (IsLive (extent_of self.now)) result.now }
         ensures few { length result.now ≤ 2 ^ 16 }
     {
-        record_ref(&self.records, rec).values()
+        self.records.at(rec).values()
     }
 }

@@ -1,5 +1,5 @@
 // Opened files as a heap holds them, and one file among others that changes.
-ghost use Rattle.std.specs.Prelude.{◌≡◌, ◌<◌, ◌≤◌, ◌++◌, ◌∷◌, [], true, false, length, IfOk, OnOk, OnErr, slice_set, slice_index_or, string_bytes};
+ghost use Rattle.std.specs.Prelude.{◌≡◌, ◌+◌, ◌<◌, ◌≤◌, ◌++◌, ◌∷◌, [], true, false, length, take, drop, IfOk, OnOk, OnErr, slice_set, slice_index_or, string_bytes};
 ghost use Rattle.std.specs.Vec.{vec_len};
 ghost use Rattle.icn_value.specs.Store.{no_file};
 ghost use Rattle.icn_heap.specs.FileEntries.{opened_file};
@@ -117,6 +117,27 @@ pub fn file_ref(files: &Vec<FileEntry>, number: u32) -> &FileEntry
     ensures { result.now ≡ slice_index_or files.now.items number no_file }
 {
     &files[number as usize]
+}
+
+/// A part of what the opened file of this number holds, from a place on.
+pub fn part_at(files: &Vec<FileEntry>, number: u32, from: u64, len: u64) -> &[u8]
+    requires there { number < vec_len files.now }
+    requires within { from + len ≤ length (slice_index_or files.now.items number no_file).content }
+    ensures part { result.now
+        ≡ take len (drop from (slice_index_or files.now.items number no_file).content) }
+    ensures len { length result.now ≡ len }
+{
+    part_of(file_ref(files, number).content(), from, len)
+}
+
+// A part of bytes, from a place on.
+fn part_of(bytes: &[u8], from: u64, len: u64) -> &[u8]
+    requires { from + len ≤ length bytes.now }
+    ensures part { result.now ≡ take len (drop from bytes.now) }
+    ensures len { length result.now ≡ len }
+{
+    let from = from as usize;
+    &bytes[from..from + len as usize]
 }
 
 /// Appends bytes to an opened file. `AllocError` is want of memory, and all is as it was then.

@@ -1,16 +1,17 @@
 // The files that a program opened.
-use crate::file_entries::{FileEntry, add_file, added_at, file_ref, read_at, shut_at};
+use crate::file_entries::{FileEntry, add_file, added_at, file_ref, part_at, read_at, shut_at};
 use crate::heap::Heap;
-use icn_value::{File, FileMode, Full, Val};
+use crate::spans::{full_of, span_of};
+use icn_value::{File, FileMode, Full, Span, Val};
 use std::alloc::AllocError;
 
 impl Heap {
-    ghost use Rattle.std.specs.Prelude.{◌≡◌, ◌<◌, ◌≤◌, ◌^◌, length, MatchResult, IfOk, OnOk, OnErr, Ok, string_bytes};
+    ghost use Rattle.std.specs.Prelude.{◌≡◌, ◌+◌, ◌<◌, ◌≤◌, ◌^◌, drop, length, take, MatchResult, IfOk, OnOk, OnErr, Ok, string_bytes};
     ghost use Rattle.icn_value.specs.declared.val.File.TheVariants.{Opened};
     ghost use Rattle.icn_value.specs.declared.val.Val.TheVariants.{Std};
     ghost use Rattle.icn_value.specs.Store.{file_at, with_opened};
-    ghost use Rattle.icn_value.specs.Changes.{added_to, made_file, next_file, shut, LimitsFirst, Refuses};
-    ghost use Rattle.icn_heap.specs.Extents.{IsLive, value_in, KeepsValues};
+    ghost use Rattle.icn_value.specs.Changes.{added_to, charged_strings, made_file, next_file, shut, LimitsFirst, Refuses};
+    ghost use Rattle.icn_heap.specs.Extents.{IsLive, IsText, text_in, value_in, KeepsValues};
     ghost use Rattle.icn_heap.specs.Heaps.{extent_of, heap_of};
 
     /// Opens a file under a name, which holds this and of which nothing is read yet. It costs a cell. The error is the limit that
@@ -54,6 +55,28 @@ impl Heap {
             ≤ length (file_at (heap_of self.now) number).content }
     {
         file_ref(&self.files, number)
+    }
+
+    /// Makes a text of a part of what an opened file holds, from a place on, and charges it. The error is the limit that refuses the
+    /// charge, or else want of memory; the heap is then as it was.
+    #[tactic(auto, unfolding(crate::specs::Heaps::extent_of, crate::specs::Heaps::heap_of))]
+    pub fn build_of_file(&mut self, number: u32, from: u64, len: u64) -> Result<Span, Full>
+        requires file { IsLive (extent_of self.old) (Std (Opened number)) }
+        requires within { from + len ≤ length (file_at (heap_of self.old) number).content }
+        ensures live { IfOk result (IsText (extent_of self.new)) }
+        ensures bytes { IfOk result (λ span. text_in (extent_of self.new) span
+            ≡ take len (drop from (file_at (heap_of self.old) number).content)) }
+        ensures step { MatchResult result (λ _. charged_strings (heap_of self.old) len ≡ Ok (heap_of self.new))
+            (Refuses (charged_strings (heap_of self.old) len)) }
+        ensures limits { LimitsFirst (charged_strings (heap_of self.old) len) result }
+        ensures kept { KeepsValues (extent_of self.old) (extent_of self.new) }
+        ensures unchanged { OnErr result (heap_of self.new ≡ heap_of self.old) }
+    {
+        let bytes = part_at(&self.files, number, from, len);
+        match self.strings.build(bytes) {
+            Ok(range) => Ok(span_of(range)),
+            Err(full) => Err(full_of(full)),
+        }
     }
 
     /// Adds bytes behind what an opened file holds, without a charge. The error is want of memory, and the heap is as it was

@@ -3,32 +3,32 @@ ghost use Rattle.icn_heap.specs.HeapParts.{parts, IsSoundHeap, IsSound-prop};
 
 use crate::counts::add_count;
 use crate::entries::Entries;
-use crate::fields::Fields;
+use crate::fields::RecordShelf;
 use crate::file_entries::FileEntry;
 use crate::members::MemberMap;
 use icn_strings::Region;
-use icn_structs::Deque;
+use icn_structs::{Deque, Shelf};
 use icn_value::{Limits, Val};
 use std::alloc::{AllocError, Global};
 
 /// The strings and structures of a program, the files that it opened, and what is charged for them.
 ///
-/// What a value stands for is the same from then on, whatever is made beside it or given back. `collect_texts` alone gives memory back.
+/// What a value stands for is the same from then on, whatever is made beside it or given back. `collect` alone gives memory back.
 #[derive(Drop)]
 pub struct Heap {
     pub(crate) alloc: Global,
     pub(crate) strings: Region,
-    pub(crate) lists: Vec<Deque<Val>>,
-    pub(crate) sets: Vec<MemberMap>,
-    pub(crate) tables: Vec<Entries>,
-    pub(crate) records: Vec<Fields>,
+    pub(crate) lists: Shelf<Deque<Val>>,
+    pub(crate) sets: Shelf<MemberMap>,
+    pub(crate) tables: Shelf<Entries>,
+    pub(crate) records: RecordShelf,
     pub(crate) coexps: Vec<u64>,
     pub(crate) files: Vec<FileEntry>,
     pub(crate) cells: u64,
     pub(crate) limits: Limits,
     ghost sound: { IsSoundHeap (parts strings
-        lists.items sets.items tables.items records.items coexps.items files.items cells limits) } by { IsSound-prop
-            (parts strings lists.items sets.items tables.items records.items coexps.items files.items cells limits) },
+        lists.shelf sets.shelf tables.shelf records.shelf coexps.items files.items cells limits) } by { IsSound-prop
+            (parts strings lists.shelf sets.shelf tables.shelf records.shelf coexps.items files.items cells limits) },
 }
 
 impl Heap {
@@ -46,10 +46,10 @@ impl Heap {
         Ok(Heap {
             alloc,
             strings: Region::new(alloc, limits.strings),
-            lists: Vec::new(alloc),
-            sets: Vec::new(alloc),
-            tables: Vec::new(alloc),
-            records: Vec::new(alloc),
+            lists: Shelf::new(alloc),
+            sets: Shelf::new(alloc),
+            tables: Shelf::new(alloc),
+            records: RecordShelf::new(alloc),
             coexps,
             files: Vec::new(alloc),
             cells: 0,

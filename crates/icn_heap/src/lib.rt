@@ -17,9 +17,11 @@ mod heap_laws;
 mod held_entries;
 mod key;
 mod keys;
+mod kinds;
 mod lists;
+mod marking;
 mod members;
-mod needed_texts;
+mod needed_values;
 mod records;
 mod sets;
 mod sizes;
@@ -34,5 +36,5 @@ pub use heap_laws::{
     members_differ, short_text, strings_within_limit, within_limit,
 };
 pub use icn_value::Full;
-pub use needed_texts::NeededTexts;
+pub use needed_values::NeededValues;
 pub use spans::as_range;

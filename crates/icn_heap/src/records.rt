@@ -1,5 +1,4 @@
 // The records of a heap.
-use crate::fields::{add_record, field_set_at, record_ref};
 use crate::heap::Heap;
 use icn_value::{Full, Val};
 
@@ -9,7 +8,7 @@ impl Heap {
     ghost use Rattle.icn_value.specs.declared.val.Val.TheVariants.{Rec};
     ghost use Rattle.icn_value.specs.Store.{record_at, value_at};
     ghost use Rattle.icn_value.specs.Changes.{made_record, next_record, with_field, Refuses, LimitsFirst};
-    ghost use Rattle.icn_heap.specs.Extents.{IsLive, value_in, KeepsValues};
+    ghost use Rattle.icn_heap.specs.Extents.{IsLive, IsMade, value_in, KeepsValues};
     ghost use Rattle.icn_heap.specs.Heaps.{extent_of, heap_of};
 
     /// Makes a record of the constructor with this number among all constructors. It costs a cell, and one more for each field.
@@ -32,7 +31,7 @@ impl Heap {
     {
         let sum = self.charged_sum(fields.len() as u64)?;
         let id = self.records.len() as u32;
-        add_record(self.alloc, &mut self.records, kind, fields)?;
+        self.records.add(self.alloc, kind, fields)?;
         self.cells = sum;
         Ok(Val::Rec(id))
     }
@@ -46,7 +45,7 @@ impl Heap {
         ensures value { value_in (extent_of self.now) result
             ≡ value_at (record_at (heap_of self.now) rec).fields n }
     {
-        record_ref(&self.records, rec).get(n)
+        self.records.at(rec).get(n)
     }
 
     /// Gives a field of a record another value. It takes no memory.
@@ -59,7 +58,7 @@ impl Heap {
             ≡ with_field rec n (value_in (extent_of self.old) val) (heap_of self.old) }
         ensures kept { KeepsValues (extent_of self.old) (extent_of self.new) }
     {
-        field_set_at(&mut self.records, rec, n, val);
+        self.records.set_field(rec, n, val);
     }
 
     /// The number of a record's constructor among all constructors. It takes no memory.
@@ -68,6 +67,15 @@ impl Heap {
         requires { IsLive (extent_of self.now) (Rec rec) }
         ensures { result ≡ (record_at (heap_of self.now) rec).kind }
     {
-        record_ref(&self.records, rec).kind()
+        self.records.at(rec).kind()
+    }
+
+    /// The same of a record that was ever made, whether it is there still or not. It takes no memory.
+    #[tactic(auto, unfolding(crate::specs::Heaps::extent_of))]
+    pub fn kind_made(&self, rec: u32) -> u16
+        requires { IsMade (extent_of self.now) (Rec rec) }
+        ensures { result ≡ (record_at (heap_of self.now) rec).kind }
+    {
+        self.records.kind(rec)
     }
 }

@@ -1,7 +1,6 @@
 // The sizes of values.
 use crate::counts::count_of_results;
 use crate::entries::count_of;
-use crate::fields::record_ref;
 use crate::heap::Heap;
 use crate::members::count_at;
 use icn_text::decimal;
@@ -73,7 +72,7 @@ impl Heap {
         ensures count { result ≡ length (record_at (heap_of self.now) id).fields }
         ensures small { result < 2 ^ 63 }
     {
-        record_ref(&self.records, id).len()
+        self.records.at(id).len()
     }
 
     // How many results a co-expression gave.

@@ -1,5 +1,5 @@
 -- What an arm of the instructions says of its instruction, said of the instruction that was matched.
-use Rattle.std.proofs.Common.{◌≡◌, ◌≢◌, true, false, Result, Ok, Err, OnOk, IsOk, sym, ap, ◌∙◌, subst}
+use Rattle.std.proofs.Common.{◌≡◌, ◌≢◌, true, false, Option, None, Result, Ok, Err, OnOk, IsOk, refl, sym, ap, ◌∙◌, subst}
 use Rattle.icn_value.specs.Store.{Outside}
 use Rattle.icn_heap.specs.Extents.{Extent}
 use Rattle.icn_vars.specs.declared.world.World.{World}
@@ -16,7 +16,7 @@ use Rattle.icn_control.specs.declared.machine.Machine.{Machine}
 use Rattle.icn_control.specs.declared.machine.RunState.{RunState}
 use Rattle.icn_control.specs.Soundness.{UnlessEnded}
 use Rattle.icn_control.specs.StackViews.{instruction_state, GoesOn, GoesOnIn}
-use Rattle.icn_instructions.specs.InstructionEffects.{ComesIn, HasMemory}
+use Rattle.icn_instructions.specs.InstructionEffects.{ComesIn, DoesAtOnce, HasMemory}
 use Rattle.icn_instructions.specs.Groups.{takes_no_memory}
 use Rattle.icn_run.specs.InstructionNeeds.{HasCaseMark}
 
@@ -68,3 +68,17 @@ comes_as tables i j w m v n result e h = subst (λ (x : Instr). ComesIn tables x
 pub comes_to_as : {K : Type 0} (tables : Tables) (outside : Outside) (i j : Instr) (m n : Machine K) (result : Result RunState Halt) → i ≡ j
     → ComesTo tables outside (does tables outside j m) n result → ComesTo tables outside (does tables outside i m) n result
 comes_to_as tables outside i j m n result e h = subst (λ (x : Instr). ComesTo tables outside (does tables outside x m) n result) (sym e) h
+
+-- an instruction that is done at once, by its own name
+pub does_as : (tables : Tables) (i j : Instr) (w : World) (m : FlatStack) (v : World) (n : FlatStack) (result : Option RunState) → i ≡ j
+    → DoesAtOnce tables j w m v n result → DoesAtOnce tables i w m v n result
+does_as tables i j w m v n result e d = subst (λ (x : Instr). DoesAtOnce tables x w m v n result) (sym e) d
+
+-- one that was not
+pub nothing_done : (tables : Tables) (instr : Instr) (w : World) (m n : FlatStack) → n ≡ m → DoesAtOnce tables instr w m w n None
+nothing_done tables instr w m n e = record {
+  step = tt;
+  live = tt;
+  same = record { heap = refl; reach = refl };
+  not_done = λ q. (e, refl);
+}

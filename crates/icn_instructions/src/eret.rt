@@ -20,37 +20,15 @@ ghost use Rattle.icn_control.specs.StackViews.{instruction_state};
 ghost use Rattle.icn_instructions.specs.InstructionEffects.{LacksNothingIn};
 ghost use Rattle.icn_control.specs.Soundness.{KeepsHeap, UnlessEnded};
 
-use icn_control::{put, put_slot, restore_pair, take_value, value_of};
+use icn_control::{put, put_slot, restore_pair, value_of};
 use icn_frames::{Cell, Frames, Stack};
 use icn_value::Item;
 use icn_vars::{Halt, World};
 
-/// Drops the innermost mark and pushes the value of its top operand outside. The mark must be there where there is a value.
-///
-/// The error is that of the value.
-pub fn give_out<K: Stack<Cell> + Drop>(
-    frames: &mut Frames<K>,
-    world: &mut World,
-) -> Result<(), Halt>
-    requires goes_on { (tables : Tables) × LacksNothingIn tables Instrs.Eret world.old frames.old.flat }
-    requires live { (tables : Tables) × IsLiveStack tables (reach_of world.old []) frames.old.flat }
-    ensures step { DoesWith Instrs.Eret world.old frames.old.flat world.new frames.new.flat result }
-    ensures live { (tables : Tables) → IsLiveStack tables (reach_of world.old []) frames.old.flat
-        → UnlessEnded result (IsLiveStack tables (reach_of world.new []) frames.new.flat) }
-    ensures halt { IfErr result (IsLiveHalt (reach_of world.new [])) }
-    ensures same { KeepsHeap world.old world.new }
-{
-    match take_value(frames) {
-        Some(value) => {
-            give_value_out(frames, world, value);
-            Ok(())
-        }
-        None => give_item_out(frames, world),
-    }
-}
-
-// Drops the innermost mark and pushes a value outside, by its slot, beside which nothing may be kept; the operand was taken.
-fn give_value_out<K: Stack<Cell> + Drop>(frames: &mut Frames<K>, world: &mut World, value: Cell)
+/// Drops the innermost mark and pushes a value outside, by its slot, beside which nothing may be kept; the operand was taken. It
+/// takes no memory.
+#[inline(always)]
+pub fn give_value_out<K: Stack<Cell> + Drop>(frames: &mut Frames<K>, world: &mut World, value: Cell)
     requires room { 0 < frames.old.spare }
     requires value { IsSome (plain_operand value) }
     requires mark { flat.at_base frames.old.flat ≡ false }
@@ -69,9 +47,10 @@ fn give_value_out<K: Stack<Cell> + Drop>(frames: &mut Frames<K>, world: &mut Wor
     put_slot(frames, value);
 }
 
-// The same with the top operand, whatever it is.
-#[inline(never)]
-fn give_item_out<K: Stack<Cell> + Drop>(
+/// Drops the innermost mark and pushes the value of its top operand outside. The mark must be there where there is a value.
+///
+/// The error is that of the value.
+pub fn give_out<K: Stack<Cell> + Drop>(
     frames: &mut Frames<K>,
     world: &mut World,
 ) -> Result<(), Halt>

@@ -27,22 +27,21 @@ use icn_value::{Item, Val};
 use icn_vars::Halt;
 use std::alloc::AllocError;
 
-/// Does an instruction that performs no row and calls nothing, where the place is that of the next one. The rooms for operands
-/// and for values are used again, whatever they hold. The numbers of the first statics of the code's procedures are handed in.
+/// Does an instruction that performs no row, calls nothing and touches more than the stack that runs, where the place is that of
+/// the next one. The rooms for operands and for values are used again, whatever they hold.
 ///
 /// The error is that of an operand's value, one of the instruction (101 and 205 of a limit, 103 and 306 of a scan, 118 and 215 of
 /// a co-expression, 307 where cells are charged), or want of memory.
 #[inline(never)]
-pub fn do_instruction<K: Stack<Cell> + Drop>(
+pub fn do_off_stack<K: Stack<Cell> + Drop>(
     m: &mut Machine<K>,
     code: &Code,
-    firsts: &[u32],
     instr: Instr,
     items: &mut Vec<Item>,
     vals: &mut Vec<Val>,
 ) -> Result<RunState, Halt>
     requires kind { group_of instr ≢ Groups.Application }
-    requires firsts { AreFirstStatics (tables_of code.now) firsts.now }
+    requires off_stack { group_of instr ≢ Groups.Stack }
     requires runs { IsSome m.old.stacks.table.running }
     requires sound { IsSoundMachine (tables_of code.now) m.old }
     requires goes_on { (outside : Outside) × (does (tables_of code.now) outside instr m.old ≢ stuck) }
@@ -59,7 +58,7 @@ pub fn do_instruction<K: Stack<Cell> + Drop>(
     ensures no_memory { takes_no_memory instr ≡ true → HasMemory result }
 {
     match group_of(instr) {
-        InstrGroup::Stack => answer_on_stack(m, code, firsts, instr),
+        InstrGroup::Stack => unreachable!(),
         InstrGroup::World => do_in_world(m.stacks.frames(), &mut m.world, code, instr),
         InstrGroup::Machine => do_on_machine(m, code, instr, items, vals),
         InstrGroup::Coexpression => do_with_coexpressions(m, code, instr),
@@ -67,8 +66,8 @@ pub fn do_instruction<K: Stack<Cell> + Drop>(
     }
 }
 
-/// Does an instruction that touches nothing but the stack that runs, as `do_instruction` does it. The next one is due then. The
-/// error is want of memory.
+/// Does an instruction that touches nothing but the stack that runs. The numbers of the first statics of the code's procedures are
+/// handed in. The next instruction is due then. The error is want of memory.
 pub fn do_stack_instruction<K: Stack<Cell> + Drop>(
     m: &mut Machine<K>,
     code: &Code,
@@ -94,35 +93,5 @@ pub fn do_stack_instruction<K: Stack<Cell> + Drop>(
     match do_on_stack(m.stacks.frames(), code, firsts, instr) {
         Ok(()) => Ok(()),
         Err(lack) => Err(lack),
-    }
-}
-
-// The same, answered as of any instruction.
-fn answer_on_stack<K: Stack<Cell> + Drop>(
-    m: &mut Machine<K>,
-    code: &Code,
-    firsts: &[u32],
-    instr: Instr,
-) -> Result<RunState, Halt>
-    requires group { group_of instr ≡ Groups.Stack }
-    requires firsts { AreFirstStatics (tables_of code.now) firsts.now }
-    requires runs { IsSome m.old.stacks.table.running }
-    requires sound { IsSoundMachine (tables_of code.now) m.old }
-    requires goes_on { (outside : Outside) × (does (tables_of code.now) outside instr m.old ≢ stuck) }
-    requires in_range { IsInRange (tables_of code.now) (flat.proc (stack_of m.old)) instr }
-    requires case_mark { HasCaseMark instr (stack_seen m.old) }
-    requires variables { (outside : Outside)
-        × HasVariables (tables_of code.now) (store_seen (tables_of code.now) outside m.old) }
-    ensures step { (outside : Outside)
-        → ComesTo (tables_of code.now) outside (does (tables_of code.now) outside instr m.old) m.new result }
-    ensures sound { UnlessEnded result (IsSoundMachine (tables_of code.now) m.new) }
-    ensures halt { IfErr result (IsLiveHalt (world_reach m.new)) }
-    ensures stack { HasItsStack m.new result }
-    ensures limits { m.new.limits ≡ m.old.limits }
-    ensures no_memory { takes_no_memory instr ≡ true → HasMemory result }
-{
-    match do_stack_instruction(m, code, firsts, instr) {
-        Ok(()) => Ok(RunState::Running),
-        Err(_) => Err(Halt::NoMemory),
     }
 }

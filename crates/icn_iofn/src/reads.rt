@@ -115,7 +115,7 @@ fn read_from<L: Locals, I: Source, O: Sink, E: Sink>(
 {
     match readable(&w.heap, file) {
         Some(ReadFrom::Input) => read_input(ask, w, l, buffer, input, out, err),
-        Some(ReadFrom::Opened(number)) => give_opened(ask, number, w, l, buffer),
+        Some(ReadFrom::Opened(number)) => give_opened(ask, number, w, l),
         None => Err(Halt::Error(212, Some(named))),
     }
 }
@@ -165,19 +165,13 @@ fn give_text<L: Locals, I: Source>(
 }
 
 // Reads a text from an opened file that may be read, and gives it.
-fn give_opened<L: Locals>(
-    ask: Ask,
-    number: u32,
-    w: &mut World,
-    l: &L,
-    buffer: &mut Vec<u8>,
-) -> Result<ValueOutcome, Halt>
+fn give_opened<L: Locals>(ask: Ask, number: u32, w: &mut World, l: &L) -> Result<ValueOutcome, Halt>
     requires locals { All (IsLive (extent_of w.old.heap)) (L.items l.now) }
     requires file { IsLive (extent_of w.old.heap) (Std (Opened number)) }
     ensures { (handed : CallStreams) → Applies (reads_opened (asked_in ask) number)
         (call_state w.old (L.items l.now) handed) (call_state w.new (L.items l.now) handed) (answer_of result) }
 {
-    match read_opened(ask, number, w, l, buffer)? {
+    match read_opened(ask, number, w, l)? {
         Some(text) => Ok(ValueOutcome::Gives(Val::Text(text))),
         None => Ok(ValueOutcome::Fails),
     }

@@ -61,19 +61,19 @@ nothing_done tables instr m s f e same = record {
 -- A machine of which nothing has changed
 
 module _ {K : Type 0} (m n : Machine K) (same : StaysSame m n) where
-  same_stack : stack_seen n ≡ stack_seen m
+  pub same_stack : stack_seen n ≡ stack_seen m
   same_stack =
       ap (λ (w : World). stack_in (extent_of w.heap) (running_of n.stacks.table.running)) same.world
       ∙ ap (λ (t : CoexpTable). stack_in (extent_of m.world.heap) (running_of t.running)) same.table
 
-  same_store : (tables : Tables) (outside : Outside) → store_seen tables outside n ≡ store_seen tables outside m
+  pub same_store : (tables : Tables) (outside : Outside) → store_seen tables outside n ≡ store_seen tables outside m
   same_store tables outside =
       ap (λ (w : World). store_in (all_names tables) outside (world_of w) n.turns n.begun.items (extent_of w.heap) n.stacks.table) same.world
       ∙ ap (λ (t : ℕ). store_in (all_names tables) outside (world_of m.world) t n.begun.items (extent_of m.world.heap) n.stacks.table) same.turns
       ∙ ap (λ (b : List Bool). store_in (all_names tables) outside (world_of m.world) m.turns b (extent_of m.world.heap) n.stacks.table) same.begun
       ∙ ap (λ (t : CoexpTable). store_in (all_names tables) outside (world_of m.world) m.turns m.begun.items (extent_of m.world.heap) t) same.table
 
-  same_sound : (tables : Tables) → IsSoundMachine tables m → IsSoundMachine tables n
+  pub same_sound : (tables : Tables) → IsSoundMachine tables m → IsSoundMachine tables n
   same_sound tables k = record {
     stacks = subst (λ (w : World). AreLiveStacks tables (reach_of w []) n.stacks.table) (sym same.world)
         (subst (λ (t : CoexpTable). AreLiveStacks tables (reach_of m.world []) t) (sym same.table) k.stacks);
@@ -97,7 +97,8 @@ module _ {K : Type 0} (m n : Machine K) (same : StaysSame m n) where
   doing_alike tables instr d = record {
     sound = same_sound tables d.sound;
     runs = subst (λ (t : CoexpTable). IsSome t.running) (sym same.table) d.runs;
-    always = λ outside. subst (λ (s : State Frames Frames). AlwaysOver tables (LacksNothing tables) s) (sym (does_alike tables outside instr)) (d.always outside);
+    always = λ outside. subst (λ (s : State Frames Frames). AlwaysOver tables (LacksNothing tables) s) (sym (does_alike tables outside instr))
+        (d.always outside);
     variables = λ outside. subst (λ (st : Store Frames). HasVariables tables st) (sym (same_store tables outside)) (d.variables outside);
     in_range = subst (λ (t : CoexpTable). IsInRange tables (held.proc (running_of t.running)) instr) (sym same.table) d.in_range;
     mark = subst (λ (s : Frames). HasCaseMark instr s) (sym same_stack) d.mark;
@@ -163,4 +164,5 @@ pub settled_at_once : {K : Type 0} (tables : Tables) (m n : Machine K) (instr : 
     → ((outside : Outside) → ComesTo tables outside (does tables outside instr m) n (Ok stage))
     → SettlesOn tables (λ outside. does tables outside instr m) n before before (Ok stage)
 settled_at_once tables m n instr before stage done =
-    still_performs (λ outside. does tables outside instr m) (λ was now answer. SettlesAt tables now (does tables was instr m) n answer) before (Ok stage) tt done
+    still_performs (λ outside. does tables outside instr m) (λ was now answer. SettlesAt tables now (does tables was instr m) n answer) before (Ok stage) tt
+    done

@@ -33,6 +33,13 @@ few_instrs tables proc rules = by_proc (slice_get tables.procs proc) refl
     by_proc (Some entry) at = ltb-true _ _ (right _ _ (left _ _ (at_place (is_proc tables) tables.procs proc entry (procs_fit tables rules) at)))
     by_proc None at = omega arith
 
+-- a procedure that has instructions is there
+pub proc_within : (procs : List Proc) (proc address : ℕ)
+    → address < length (option_map_or (λ (entry : Proc). entry.instrs) (slice_get procs proc) []) → proc < length procs
+proc_within [] proc address within = absurd (omega (arith, within))
+proc_within (entry ∷ procs) zero address within = omega arith
+proc_within (entry ∷ procs) (suc proc) address within = let there : proc < length procs = proc_within procs proc address within in omega arith
+
 -- where an entry is there, the default is not read
 pub index_there : {X : Type 0} (xs : List X) (n : ℕ) (d : X) → n < length xs → slice_get xs n ≡ Some (slice_index_or xs n d)
 index_there [] n d l = absurd (omega (arith, l))

@@ -1,5 +1,5 @@
 -- Counts on the stack alone, as rows that are resumed.
-use Rattle.std.proofs.Common.{◌≡◌, ℤ, Bool, true, false, [], FitsSigned, Option, Some, None, Result, Ok, Err, IfErr, IfOk, OnOk, refl, sym, ap, ◌∙◌, subst, arith}
+use Rattle.std.proofs.Common.{◌≡◌, ℤ, suc, Bool, true, false, [], FitsSigned, Option, Some, None, Result, Ok, Err, IfErr, IfOk, OnOk, refl, sym, ap, ◌∙◌, subst, arith}
 use mir.Val.{of_z, to_z}
 use Rattle.std.specs.Prelude.{◌+ℤ◌, ok_or}
 use Rattle.std.proofs.lemmas.Int.{to_z-of_z}
@@ -27,6 +27,7 @@ use Rattle.icn_vars.specs.declared.outcome.Outcome.TheVariants as HeldOutcomes
 use Rattle.icn_vars.specs.declared.world.World.{World}
 use Rattle.icn_frames.specs.declared.layout.Count.{Count}
 use Rattle.icn_frames.specs.declared.layout.Why.TheVariants.{Op}
+use Rattle.icn_frames.specs.Slots.{why_counting}
 use Rattle.icn_frames.specs.Stacks as held
 use Rattle.icn_frames.specs.Stacks.{FlatStack}
 use Rattle.icn_code.specs.Codes.{Tables}
@@ -35,7 +36,7 @@ use Rattle.icn_apply.specs.SizesAfter.{WorldsKeepSizes}
 use Rattle.icn_run.specs.Calls as calls
 use Rattle.icn_run.specs.Stacks.{Frames, flat}
 use Rattle.icn_run.specs.Step as code
-use Rattle.icn_run.specs.Step.{State, Store, failing, here, running, with_at}
+use Rattle.icn_run.specs.Step.{State, Store, failing, fails, here, running, with_at}
 use Rattle.law_frames.proofs.ScansRead.{suspend_read}
 use Rattle.law_names.specs.NamedSettings.{ItemNamed, WorldNamed}
 use Rattle.law_steps.specs.StateNames.{StackNamed}
@@ -47,11 +48,12 @@ use Rattle.icn_control.specs.StackViews.{reading_of, stack_in}
 use Rattle.icn_control.specs.declared.machine.RunState.{RunState}
 use Rattle.icn_control.specs.declared.machine.RunState.TheVariants as RunStates
 use Rattle.icn_control.proofs.StackAndWorldSteps.{same_world}
-use Rattle.icn_machine.specs.Counts.{CountsOn, count_if, count_outcome}
+use Rattle.icn_control.proofs.FailingStackSteps.{falls_by}
+use Rattle.icn_machine.specs.Counts.{CountsOn, FailsAsTurn, count_if, count_outcome}
 use Rattle.icn_machine.specs.Giving.{GivesOutcome, StandsAs}
 use Rattle.icn_machine.specs.Performing.{LeavesNamed, PerformsRow, over_outside}
 use Rattle.icn_machine.proofs.GiveSteps.{fails_given, suspends_given, suspends_live}
-use Rattle.icn_machine.proofs.OperateSteps.{performs_idle, performs_still}
+use Rattle.icn_machine.proofs.OperateSteps.{in_turn, performs_idle, performs_still}
 use Rattle.icn_machine.proofs.PlainOperationSteps.{locals_back}
 
 -- Giving
@@ -105,7 +107,7 @@ fitting_sum m n = by_found (if_fits (m +ℤ n))
     by_found None = refl
 
 -- what a count comes to, as the definitions say it
-counted : (count : Count) (all : Extent) (seen : Setting)
+pub counted : (count : Count) (all : Extent) (seen : Setting)
     → count_from count.last count.step (Some count.given) seen ≡ outcome_in all (count_outcome count) seen
 counted count all seen = by_end (counts_on count.step count.last count.given)
   where
@@ -224,3 +226,18 @@ names_left names w m n (Err halted) halt named there k =
     let P : Halt → Type 0 = λ h. let r : Result RunState Halt = Err h in LeavesNamed names w n r in
     let nothing : P Halts.NoMemory = tt in
     subst P (sym halt) nothing
+
+-- Failing to a count
+
+-- a step of failing that resumes a count is a turn on the stack alone
+pub count_in_turn : (m k n : FlatStack) (count : Count) (stage : RunState)
+    → held.resume m ≡ Some (why_counting count.given count.last count.step, k) → held.set_locals (held.locals k) k ≡ k → CountsOn count k n stage
+    → FailsAsTurn m n stage
+count_in_turn m k n count stage e same counts all tables st more =
+    let on : Frames = stack_in all k in
+    let later : Store Frames = record st { turns = suc st.turns } in
+    let event : Store Frames → State Frames Frames = λ s. code.outcome flat (counting_again count.given count.last count.step (here flat on s)) on s in
+    let leads : fails flat tables (stack_in all m) st ≡ event later
+    = falls_by all m k (why_counting count.given count.last count.step) e tables st ∙ in_turn tables st event more in
+    subst (λ (x : State Frames Frames). StandsAs x (stack_in all n) later stage) (sym leads)
+    (counts all on (here flat on later) later (locals_back all k same))

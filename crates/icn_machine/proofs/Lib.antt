@@ -28,3 +28,9 @@ pub mod SetTwice
 pub mod StartLoops
 pub mod StartSteps
 pub mod StaticsKept
+pub mod ValueOperationSteps
+pub mod AtOnceAnswers
+pub mod WorldAtOnce
+pub mod FailingAtOnce
+pub mod DroppedOperands
+pub mod BegunCounts

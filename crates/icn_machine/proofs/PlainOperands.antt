@@ -15,7 +15,10 @@ use Rattle.law_rows.proofs.EachOfList.{Each, each_get}
 use Rattle.icn_heap.specs.Extents.{Extent, value_in}
 use Rattle.law_names.specs.NamedSettings.{ItemNamed, ValueNamed}
 use Rattle.icn_vars.specs.Worlds.{IsLiveItem, Reach, item_in}
-use Rattle.icn_frames.specs.CalledWith.{HoldsValue, as_local as held_local, as_value as held_value}
+use Rattle.icn_frames.proofs.HeightsRead.{some_is}
+use Rattle.icn_frames.specs.CalledWith.{HoldsValue, as_local as held_local, as_value as held_value, operands_above}
+use Rattle.icn_frames.specs.declared.layout.Cell.{Cell}
+use Rattle.icn_frames.specs.declared.layout.Cell.TheVariants.{Operand}
 use Rattle.icn_frames.specs.Slots.{plain_local, plain_operand}
 use Rattle.icn_frames.specs.declared.slots.StackSlot.{StackSlot}
 use Rattle.icn_frames.specs.Stacks as held
@@ -26,10 +29,10 @@ use Rattle.law_steps.proofs.CallsNamed as named
 use Rattle.icn_control.specs.LiveStacks.{IsLiveStack, with_locals}
 use Rattle.icn_control.specs.StackViews.{reading_of, stack_in}
 use Rattle.icn_control.specs.TakenOperands.{take_operands, taken_onto}
-use Rattle.icn_control.proofs.LiveCalls.{own_locals}
+use Rattle.icn_control.proofs.LiveCalls.{live_pop, own_locals, pop_owner}
 use Rattle.icn_control.proofs.StackSteps.{pushed_back}
 use Rattle.icn_control.proofs.TakenOperandSteps.{live_taken}
-use Rattle.icn_machine.specs.PlainOperations.{Computes, NamesOwnLocal, TakesSlots, TellIntegers, TellsInteger, as_local, as_value, integer_result, local_item}
+use Rattle.icn_machine.specs.PlainOperations.{Computes, HasValueOf, HoldsInteger, IsLocalSlot, NamesOwnLocal, TakesSlots, TellIntegers, TellsInteger, as_local, as_value, integer_result, local_item}
 
 -- Two operands that are there
 
@@ -97,7 +100,8 @@ own_local : (reach : Reach) (k : FlatStack) (slot : StackSlot) (x : Item) → pl
     → IsLiveItem (with_locals (own_locals k) reach) x → NamesOwnLocal k slot
 own_local reach k slot x e live index is =
     let same : x ≡ local_item index = same_Some x (local_item index) (sym e ∙ is) in
-    let own : IsLiveItem (with_locals (own_locals k) reach) (local_item index) = subst (λ (y : Item). IsLiveItem (with_locals (own_locals k) reach) y) same live in
+    let own : IsLiveItem (with_locals (own_locals k) reach) (local_item index)
+    = subst (λ (y : Item). IsLiveItem (with_locals (own_locals k) reach) y) same live in
     own.live.live.live
 
 pub lower_own : (t : Tables) (reach : Reach) (m k : FlatStack) (slots : StackSlot × StackSlot) → TakesSlots m k slots → IsLiveStack t reach m
@@ -137,14 +141,87 @@ value_named names all k item v h i (held_local index e there) =
 -- Integers that slots tell
 
 pub value_tells : (vs : List Val) (slot : StackSlot) (n : ℤ) → plain_operand slot ≡ Some (Items.Val (Vals.Integer n)) → TellsInteger vs slot n
-value_tells vs slot n is x e = as_value (same_Some x (Items.Val (Vals.Integer n)) (sym e ∙ is))
+value_tells vs slot n is = (Items.Val (Vals.Integer n), (is, as_value refl))
 
 pub local_tells : (vs : List Val) (slot : StackSlot) (index : ℕ) (r : Option ℤ) → plain_operand slot ≡ Some (local_item index)
     → IfSome r (λ n. slice_get vs index ≡ Some (Vals.Integer n)) → IfSome r (TellsInteger vs slot)
-local_tells vs slot index (Some n) is there = λ x e. as_local index (same_Some x (local_item index) (sym e ∙ is)) there
+local_tells vs slot index (Some n) is there = (local_item index, (is, as_local index refl there))
 local_tells vs slot index None is there = tt
+
+-- Locals that have the value of an operand
+
+-- the slot of a local tells its value
+pub slot_of_local : (vs : List Val) (index count : ℕ) (slot : StackSlot) → index < count → count ≡ length vs
+    → ((v : Val) → slice_get vs index ≡ Some v → (w : Val) → plain_local slot ≡ Some w → v ≡ w) → IsSome (plain_local slot)
+    → IsLocalSlot vs index slot
+slot_of_local vs index count slot within same told plain =
+    let there : slice_get vs index ≡ Some (get_or vs index Vals.Null)
+    = slice_get-get_or vs index Vals.Null (subst (λ (c : ℕ). index < c) same within) in
+    let y = some_is (plain_local slot) plain in
+    record {
+      is = y.0;
+      there = there ∙ ap (λ (v : Val). Some v) (told (get_or vs index Vals.Null) there y.0 y.1);
+      gives = y.1;
+    }
+
+-- an operand is a local
+pub local_had : (vs : List Val) (slot : StackSlot) (index : ℕ) (r : Option StackSlot) → plain_operand slot ≡ Some (local_item index)
+    → IfSome r (IsLocalSlot vs index) → IfSome r (HasValueOf vs slot)
+local_had vs slot index (Some local) e t =
+    record { item = local_item index; is = t.is; tells = e; gives = t.gives; holds = held_local index refl t.there }
+local_had vs slot index None e t = tt
+
+-- an operand is an integer
+pub integer_had : (vs : List Val) (slot local : StackSlot) (n : ℤ) → plain_operand slot ≡ Some (Items.Val (Vals.Integer n))
+    → plain_local local ≡ Some (Vals.Integer n) → HasValueOf vs slot local
+integer_had vs slot local n e gives = record { item = Items.Val (Vals.Integer n); is = Vals.Integer n; tells = e; gives = gives; holds = held_value refl }
+
+-- Arithmetic
 
 pub computes_so : (op : Op) (vs : List Val) (slots : StackSlot × StackSlot) (a b : ℤ) (r : Option ℤ) → TellIntegers vs slots (a, b)
     → r ≡ integer_result op a b → IfSome r (Computes op vs slots)
 computes_so op vs slots a b (Some n) t e = record { two = (a, b); of = t; is = sym e }
 computes_so op vs slots a b None t e = tt
+
+-- what a slot that tells an integer says of the operand
+pub holds_of : (vs : List Val) (slot : StackSlot) (n : ℤ) (x : Item) → TellsInteger vs slot n → plain_operand slot ≡ Some x → HoldsInteger vs x n
+holds_of vs slot n x t e = subst (λ (y : Item). HoldsInteger vs y n) (same_Some t.0 x (sym t.1.0 ∙ e)) t.1.1
+
+-- Operands below others
+
+-- a slot tells the operand below so many others
+abbrev pub TellsBelow : ℕ → FlatStack → StackSlot → Type 0
+TellsBelow count m slot = (x y : Item) (items : List Item) (rest : List Cell) → m.cells ≡ operands_above items (Operand x ∷ rest)
+    → length items ≡ count → plain_operand slot ≡ Some y → x ≡ y
+
+popped_cells : (m k : FlatStack) (x : Item) → held.pop m ≡ Some (x, k) → m.cells ≡ Operand x ∷ k.cells
+popped_cells m k x e = ap (λ (y : FlatStack). y.cells) (sym (pushed_back m k x e))
+
+own_at : (t : Tables) (reach : Reach) (m k : FlatStack) (slot : StackSlot) (x : Item) → held.pop m ≡ Some (x, k) → IsLiveStack t reach m
+    → plain_operand slot ≡ Some x → NamesOwnLocal m slot
+own_at t reach m k slot x e l told index is =
+    let back = live_pop t reach m k x e l in
+    let same : own_locals m ≡ own_locals k = pop_owner m k x e l.root in
+    subst (λ (c : ℕ). index < c) (sym same) (own_local reach k slot x told back.item_live index is)
+
+-- the upper of two operands is a local of the activation, if it is one
+pub upper_named : (t : Tables) (reach : Reach) (m : FlatStack) (slot : StackSlot) → IsSome (take_operands 2 m) → IsLiveStack t reach m → TellsBelow 0 m slot
+    → NamesOwnLocal m slot
+upper_named t reach m slot there l tells index is =
+    let two = two_there m there in
+    let same : two.upper ≡ local_item index = tells two.upper (local_item index) [] two.rest.cells (popped_cells m two.rest two.upper two.first) refl is in
+    own_at t reach m two.rest slot two.upper two.first l (is ∙ ap (λ (x : Item). Some x) (sym same)) index is
+
+-- and the lower one
+pub lower_named : (t : Tables) (reach : Reach) (m : FlatStack) (slot : StackSlot) → IsSome (take_operands 2 m) → IsLiveStack t reach m → TellsBelow 1 m slot
+    → NamesOwnLocal m slot
+lower_named t reach m slot there l tells index is =
+    let two = two_there m there in
+    let cells : m.cells ≡ operands_above (two.upper ∷ []) (Operand two.lower ∷ two.left.cells)
+    = popped_cells m two.rest two.upper two.first
+    ∙ ap (λ (cs : List Cell). Operand two.upper ∷ cs) (popped_cells two.rest two.left two.lower two.second) in
+    let same : two.lower ≡ local_item index = tells two.lower (local_item index) (two.upper ∷ []) two.left.cells cells refl is in
+    let back = live_pop t reach m two.rest two.upper two.first l in
+    let own : index < own_locals two.rest
+    = own_at t reach two.rest two.left slot two.lower two.second back.rest (is ∙ ap (λ (x : Item). Some x) (sym same)) index is in
+    subst (λ (c : ℕ). index < c) (sym (pop_owner m two.rest two.upper two.first l.root)) own

@@ -51,7 +51,7 @@ use Rattle.icn_control.proofs.TakenOperandSteps.{live_taken, taken_runs}
 use Rattle.icn_machine.specs.PlainOperations.{Assigns, Compares, Computes, HoldsInteger, OperatesAlone, OperatesInPlace, TakesSlots, as_local, as_value, integer_result, is_met, local_item}
 use Rattle.icn_machine.proofs.OperateSteps.{in_turn, named_taken, operated_is}
 use Rattle.icn_machine.proofs.PerformSteps.{live_from}
-use Rattle.icn_machine.proofs.PlainOperands.{value_named}
+use Rattle.icn_machine.proofs.PlainOperands.{holds_of, value_named}
 
 -- The integers of operands
 
@@ -63,7 +63,7 @@ local_is all k index v there =
     ∙ ap (λ (o : Option Value). unwrap_or o values.Null) (slice_get-map (value_in all) (held.locals k) index ∙ ap (option_map (value_in all)) there)
 
 -- the value of an operand that is or holds an integer
-found : (all : Extent) (k : FlatStack) (st : Store Frames) (item : Item) (n : ℤ) (next : Value → Row) → HoldsInteger (held.locals k) item n
+pub found : (all : Extent) (k : FlatStack) (st : Store Frames) (item : Item) (n : ℤ) (next : Value → Row) → HoldsInteger (held.locals k) item n
     → the_value (item_in all item) next (here flat (stack_in all k) st) ≡ next (values.Integer n) (here flat (stack_in all k) st)
 found all k st item n next (as_value e) = ap (λ (x : Item). the_value (item_in all x) next (here flat (stack_in all k) st)) e
 found all k st item n next (as_local index e there) =
@@ -80,7 +80,7 @@ held_found all k st item v next (held_local index e there) =
 
 -- Rows
 
-was_ok : (o : Result ℤ Arith) (r : ℤ) → result_ok o ≡ Some r → o ≡ Ok r
+pub was_ok : (o : Result ℤ Arith) (r : ℤ) → result_ok o ≡ Some r → o ≡ Ok r
 was_ok (Ok n) r e = ap (λ (x : ℤ). let y : Result ℤ Arith = Ok x in y) (same_Some n r e)
 was_ok (Err why) r e = cc
 
@@ -247,8 +247,9 @@ pub computes : (op : Op) (m k n : FlatStack) (slots : StackSlot × StackSlot) (r
 computes op m k n slots r takes same c e = record {
   done =
       gives_alone op m k n (takes.first ∷ takes.second ∷ []) (Items.Val (Vals.Integer r)) (computes_two op c.two.0 c.two.1 r c.is) takes.taken same e
-      (λ all st. computed_row op all k st takes.first takes.second c.two.0 c.two.1 r (c.of.lower takes.first takes.lower)
-      (c.of.upper takes.second takes.upper) c.is);
+      (λ all st. computed_row op all k st takes.first takes.second c.two.0 c.two.1 r
+      (holds_of (held.locals k) slots.0 c.two.0 takes.first c.of.lower takes.lower)
+      (holds_of (held.locals k) slots.1 c.two.1 takes.second c.of.upper takes.upper) c.is);
   not_done = λ q. cc;
   live = pushed_live m k n (takes.first ∷ takes.second ∷ []) r takes.taken e;
   named = pushed_named m k n (takes.first ∷ takes.second ∷ []) r takes.taken e;
@@ -261,8 +262,9 @@ pub meets : (op : Op) (m k n : FlatStack) (slots : StackSlot × StackSlot) (b : 
 meets op m k n slots b takes same c e = record {
   done =
       gives_alone op m k n (takes.first ∷ takes.second ∷ []) (Items.Val (Vals.Integer b)) (compares_two op (int_cmp c.left b) true c.is) takes.taken same e
-      (λ all st. compared_row op all k st takes.first takes.second c.left b true (c.of.lower takes.first takes.lower)
-      (c.of.upper takes.second takes.upper) c.is);
+      (λ all st. compared_row op all k st takes.first takes.second c.left b true
+      (holds_of (held.locals k) slots.0 c.left takes.first c.of.lower takes.lower)
+      (holds_of (held.locals k) slots.1 b takes.second c.of.upper takes.upper) c.is);
   not_done = λ q. cc;
   live = pushed_live m k n (takes.first ∷ takes.second ∷ []) b takes.taken e;
   named = pushed_named m k n (takes.first ∷ takes.second ∷ []) b takes.taken e;
@@ -275,8 +277,9 @@ pub misses : (op : Op) (m k n : FlatStack) (slots : StackSlot × StackSlot) (b :
 misses op m k n slots b takes same c e = record {
   done =
       fails_alone op m k n (takes.first ∷ takes.second ∷ []) (compares_two op (int_cmp c.left b) false c.is) takes.taken same e
-      (λ all st. compared_row op all k st takes.first takes.second c.left b false (c.of.lower takes.first takes.lower)
-      (c.of.upper takes.second takes.upper) c.is);
+      (λ all st. compared_row op all k st takes.first takes.second c.left b false
+      (holds_of (held.locals k) slots.0 c.left takes.first c.of.lower takes.lower)
+      (holds_of (held.locals k) slots.1 b takes.second c.of.upper takes.upper) c.is);
   not_done = λ q. cc;
   live = left_live m k n (takes.first ∷ takes.second ∷ []) takes.taken e;
   named = left_named m k n (takes.first ∷ takes.second ∷ []) takes.taken e;

@@ -12,3 +12,5 @@ pub mod Counts
 pub mod PlainCalls
 pub mod PlainFunctions
 pub mod DoneInPlace
+pub mod ValueOperations
+pub mod AnsweredAtOnce

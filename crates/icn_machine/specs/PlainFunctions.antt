@@ -12,7 +12,6 @@ use Rattle.icn_frames.specs.declared.layout.Cell.TheVariants.{Operand}
 use Rattle.icn_frames.specs.CalledWith.{HoldsValue, operands_above}
 use Rattle.icn_frames.specs.Stacks.{FlatStack, locals}
 use Rattle.icn_code.specs.Codes.{Tables}
-use Rattle.icn_apply.specs.ResumedFunctions.{GivesOneAtMost}
 use Rattle.icn_run.specs.Rows.{Function, apply}
 use Rattle.icn_run.specs.Rows as rows
 use Rattle.icn_run.specs.Stacks.{Frames, flat}
@@ -25,14 +24,16 @@ global_item index = Items.Var (VarRefs.Whole (Roots.Global index))
 -- the value that an operand is, or that the local or the global holds which it names
 pub data HasValue (globals held : List Val) (item : Item) (v : Val) : Type 0 where
   as_held : HoldsValue held item v → HasValue globals held item v
-  as_global : (index : ℕ) → item ≡ global_item index → slice_get globals index ≡ Some v → HasValue globals held item v
+  as_global : (index : ℕ) → item ≡ global_item index → slice_get globals index ≡ Some v
+      → HasValue globals held item v
 
 -- the same of each of some operands
 abbrev pub HaveValues : List Val → List Val → List Item → List Val → Type 0
 HaveValues globals held [] [] = Unit {0}
 HaveValues globals held [] (v ∷ values) = ⊥
 HaveValues globals held (item ∷ items) [] = ⊥
-HaveValues globals held (item ∷ items) (v ∷ values) = HasValue globals held item v × HaveValues globals held items values
+HaveValues globals held (item ∷ items) (v ∷ values) =
+    HasValue globals held item v × HaveValues globals held items values
 
 -- the operand below so many others has this value
 abbrev pub HasValueBelow : List Val → FlatStack → ℕ → Val → Type 0
@@ -46,16 +47,17 @@ HaveValuesAbove globals m count values = (items : List Item) (rest : List Cell)
     → m.cells ≡ operands_above items rest → length items ≡ count
     → HaveValues globals (locals m) items values
 
--- The value of the operand below so many others names a function, which gives a value at most.
-pub record NamesFunction (tables : Tables) (globals : List Val) (m : FlatStack) (count : ℕ) (func : Func) : Type 0 where
+-- The value of the operand below so many others names a function.
+pub record NamesFunction (tables : Tables) (globals : List Val) (m : FlatStack) (count : ℕ)
+    (func : Func) : Type 0 where
   pub callee : Val
   pub below : HasValueBelow globals m count callee
   pub invoked : (all : Extent) (items : List rows.Item) (k : Frames) (st : Store Frames)
       → invoke_value flat tables (value_in all callee) items k st
       ≡ outcome flat (apply st.names (Function func) items (here flat k st)) k st
-  pub once : GivesOneAtMost func
 
 -- It is called with so many operands, whose values are these.
-pub record CallsFunction (tables : Tables) (globals : List Val) (m : FlatStack) (count : ℕ) (values : List Val) (func : Func) : Type 0 where
+pub record CallsFunction (tables : Tables) (globals : List Val) (m : FlatStack) (count : ℕ)
+    (values : List Val) (func : Func) : Type 0 where
   pub names : NamesFunction tables globals m count func
   pub given : HaveValuesAbove globals m count values

@@ -19,7 +19,8 @@ use Rattle.icn_vars.specs.declared.world.World.{World}
 use Rattle.icn_vars.specs.Worlds.{reach_of, world_of}
 use Rattle.law_names.specs.NamedSettings.{WorldNamed}
 use Rattle.icn_frames.specs.declared.slots.StackSlot.{StackSlot}
-use Rattle.icn_frames.specs.Slots.{plain_operand}
+use Rattle.icn_frames.specs.CalledWith.{HoldsValue}
+use Rattle.icn_frames.specs.Slots.{plain_local, plain_operand}
 use Rattle.icn_frames.specs.Stacks.{FlatStack, local_count, locals}
 use Rattle.icn_code.specs.declared.instr.Instr.TheVariants as Instrs
 use Rattle.icn_code.specs.Codes.{Tables}
@@ -27,7 +28,6 @@ use Rattle.icn_run.specs.Stacks.{Frames}
 use Rattle.icn_run.specs.Step.{Store}
 use Rattle.law_steps.specs.StateNames.{StackNamed}
 use Rattle.icn_control.specs.LiveStacks.{IsLiveStack, StaysLive}
-use Rattle.icn_control.specs.PlainValues.{TellsValue}
 use Rattle.icn_control.specs.StackViews.{instruction_state, stack_in}
 use Rattle.icn_control.specs.TakenOperands.{take_operands}
 use Rattle.icn_control.specs.declared.machine.RunState.{RunState}
@@ -49,7 +49,7 @@ pub data HoldsInteger (held : List Val) (item : Item) (n : ℤ) : Type 0 where
 
 -- the same of the operand that a slot tells
 abbrev pub TellsInteger : List Val → StackSlot → ℤ → Type 0
-TellsInteger held slot n = (x : Item) → plain_operand slot ≡ Some x → HoldsInteger held x n
+TellsInteger held slot n = (x : Item) × ((plain_operand slot ≡ Some x) × HoldsInteger held x n)
 
 -- the integers of two operands, that of the lower one first
 pub record TellIntegers (held : List Val) (slots : StackSlot × StackSlot) (two : ℤ × ℤ) : Type 0 where
@@ -96,11 +96,25 @@ pub record Compares (op : Op) (held : List Val) (slots : StackSlot × StackSlot)
   pub of : TellIntegers held slots (left, met.1)
   pub is : is_met op (int_cmp left met.1) ≡ Some met.0
 
+-- a slot tells the value of a local
+pub record IsLocalSlot (held : List Val) (index : ℕ) (local : StackSlot) : Type 0 where
+  pub is : Val
+  pub there : slice_get held index ≡ Some is
+  pub gives : plain_local local ≡ Some is
+
+-- a local of this slot has the value that the operand of a slot is or holds
+pub record HasValueOf (held : List Val) (slot local : StackSlot) : Type 0 where
+  pub item : Item
+  pub is : Val
+  pub tells : plain_operand slot ≡ Some item
+  pub gives : plain_local local ≡ Some is
+  pub holds : HoldsValue held item is
+
 -- the lower operand is this local, and a slot tells the value that the upper one is or holds
 pub record Assigns (m : FlatStack) (slots : StackSlot × StackSlot) (two : ℕ × StackSlot) : Type 0 where
   pub is : plain_operand slots.0 ≡ Some (local_item two.0)
   pub within : two.0 < local_count m
-  pub tells : TellsValue (locals m) slots.1 two.1
+  pub tells : HasValueOf (locals m) slots.1 two.1
 
 -- The operation is performed as a turn, on the stack alone, whatever the world is.
 abbrev pub OperatesAlone : Op → FlatStack → FlatStack → RunState → Type 0

@@ -1,16 +1,25 @@
 // Failing, until the next instruction is due.
-ghost use Rattle.std.specs.Prelude.{◌≡◌, false, Ok, IfOk};
+ghost use Rattle.std.specs.Prelude.{◌≡◌, false, None, Ok, IfOk, IfSome, IsSome};
 ghost use Rattle.icn_code.specs.Codes.{Tables};
-ghost use Rattle.icn_run.specs.Step.{all_names};
+ghost use Rattle.icn_value.specs.Store.{Outside};
+ghost use Rattle.icn_run.specs.Stacks.{flat as calls};
+ghost use Rattle.icn_run.specs.Step.{all_names, fails};
 ghost use Rattle.icn_streams.specs.Handed.{CallStreams};
-ghost use Rattle.icn_control.specs.Soundness.{KeepsLimits};
+ghost use Rattle.icn_control.specs.FailingMachines.{DueAt};
+ghost use Rattle.icn_control.specs.FailingStacks.{due_of};
+ghost use Rattle.icn_control.specs.Machines.{IsSoundMachine, stack_seen, store_seen};
+ghost use Rattle.icn_control.specs.Soundness.{IsRunnable, KeepsLimits};
 ghost use Rattle.icn_control.specs.declared.machine.RunState.TheVariants as RunStates;
+ghost use Rattle.icn_machine.specs.AnsweredAtOnce.{FailsAtOnce, FailsOnAtOnce, FailsThroughAtOnce};
 ghost use Rattle.icn_machine.specs.Stepping.{Advances, FailsFurther, GoesOn, IsFailing, IsReady, MakesTurn, fails_within, is_failing};
 
+use crate::at_once::{AtOnce, done_at, fails_at_once, fails_in_turn, is_not};
+use crate::counts::count_again;
 use crate::errors::settle;
 use crate::operations::resume;
 use icn_control::{
-    AfterFailure, Machine, RunState, begin_again, end_failing, fail_once, hop, reenter,
+    AfterFailure, Fallen, Machine, RunState, begin_again, end_failing, fail_once, fall_at_once,
+    hop, reenter,
 };
 use icn_convert::Names;
 use icn_frames::{Cell, Stack};
@@ -170,4 +179,90 @@ pub fn fail_through<K: Stack<Cell> + Drop, N: Names, S: Streams>(
         stage = fail_turn(m, stage, names, streams)?;
     }
     Ok(stage)
+}
+
+// One step of failing, where no operation and no function is resumed, and no scan comes back. Elsewhere nothing changes.
+#[inline(always)]
+fn fall_here<K: Stack<Cell> + Drop>(m: &mut Machine<K>) -> Option<Fallen>
+    requires { IsRunnable m.old }
+    ensures due { IfSome result (λ fallen. (tables : Tables) (outside : Outside) → DueAt tables outside
+        (fails calls tables (stack_seen m.old) (store_seen tables outside m.old)) m.new (due_of fallen)) }
+    ensures sound { IfSome result
+        (λ fallen. (tables : Tables) → IsSoundMachine tables m.old → IsSoundMachine tables m.new) }
+    ensures runs { IsSome m.new.stacks.table.running }
+    ensures limits { m.new.limits ≡ m.old.limits }
+    ensures not_done { result ≡ None → m.new ≡ m.old }
+{
+    fall_at_once(m.stacks.frames())
+}
+
+// Goes on with a count that is the newest suspension, as a turn, where one is left. Elsewhere nothing changes.
+#[inline(always)]
+fn count_at_once<K: Stack<Cell> + Drop>(m: &mut Machine<K>) -> AtOnce
+    requires { (tables : Tables) × IsReady tables m.old RunStates.Failing }
+    ensures { (tables : Tables) → IsReady tables m.old RunStates.Failing
+        → FailsAtOnce tables m.old m.new result }
+{
+    steps_keep_names();
+    steps_keep_sizes();
+    if m.turns >= m.limits.turns {
+        return AtOnce::Not;
+    }
+    let done = count_again(m.stacks.frames());
+    if is_not(done) {
+        return AtOnce::Not;
+    }
+    m.turns += 1;
+    done
+}
+
+// One step of failing with the turn that it may count, done at once; or nothing changes.
+#[inline(always)]
+fn fail_step_at_once<K: Stack<Cell> + Drop>(m: &mut Machine<K>) -> AtOnce
+    requires { (tables : Tables) × IsReady tables m.old RunStates.Failing }
+    ensures { (tables : Tables) → IsReady tables m.old RunStates.Failing
+        → FailsAtOnce tables m.old m.new result }
+{
+    steps_keep_names();
+    steps_keep_sizes();
+    match fall_here(m) {
+        Some(Fallen::Failing) => AtOnce::Failing,
+        Some(Fallen::Running) => AtOnce::Running,
+        Some(Fallen::Beginning) => done_at(begin_again(m)),
+        Some(Fallen::Reentering) => done_at(reenter(m)),
+        Some(Fallen::Leaving) => done_at(end_failing(m)),
+        None => count_at_once(m),
+    }
+}
+
+// Fails at once, until a turn was made, the code fails no more, or something else is to be resumed.
+#[inline(always)]
+fn fail_turn_at_once<K: Stack<Cell> + Drop>(m: &mut Machine<K>) -> AtOnce
+    requires { (tables : Tables) × IsReady tables m.old RunStates.Failing }
+    ensures { (tables : Tables) → IsReady tables m.old RunStates.Failing
+        → FailsOnAtOnce tables m.old m.new result }
+{
+    let turns = m.turns;
+    let mut done = AtOnce::Failing;
+    while fails_in_turn(done, m.turns, turns) {
+        done = fail_step_at_once(m);
+    }
+    done
+}
+
+/// Fails at once, until the next instruction is due, the run is over, or something else is to be resumed: the code fails then.
+#[inline(always)]
+pub fn fail_through_at_once<K: Stack<Cell> + Drop>(m: &mut Machine<K>) -> AtOnce
+    requires { (tables : Tables) × IsReady tables m.old RunStates.Failing }
+    ensures { (tables : Tables) → IsReady tables m.old RunStates.Failing
+        → FailsThroughAtOnce tables m.old m.new result }
+{
+    let mut done = AtOnce::Failing;
+    while fails_at_once(done) {
+        done = fail_turn_at_once(m);
+    }
+    if is_not(done) {
+        return AtOnce::Failing;
+    }
+    done
 }

@@ -164,8 +164,8 @@ fn call_first<K: Stack<Cell> + Drop, N: Names, S: Streams>(
     )
 }
 
-/// Calls the operand below so many others with these, as a turn; all of them must be there. A function that gives a value at most
-/// is called on the values of operands where they stand. The rooms for operands and for values are used again, whatever they hold.
+/// Calls the operand below so many others with these, as a turn; all of them must be there. A function is called on the values of
+/// operands where they stand. The rooms for operands and for values are used again, whatever they hold.
 ///
 /// # Errors
 ///

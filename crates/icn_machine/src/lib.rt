@@ -1,6 +1,9 @@
 //! The machine over all rows: operations, functions, what they left, and runs of instructions.
 #![tactic(auto)]
 
+mod assigning;
+mod at_once;
+mod concatenating;
 mod counts;
 mod elements;
 mod errors;
@@ -16,7 +19,9 @@ mod plain_functions;
 mod plain_operations;
 mod starting;
 mod stepping;
+mod value_operations;
 
+pub use at_once::{AtOnce, is_unfinished, step_at_once};
 pub use failing::fail_through;
 pub use fields::field;
 pub use giving::give_outcome;
@@ -25,4 +30,4 @@ pub use operations::{operate, resume};
 pub use own_locals::{Earlier, OwnLocals};
 pub use performing::{perform, perform_again};
 pub use starting::start;
-pub use stepping::{AfterStep, Rooms, step};
+pub use stepping::{AfterStep, Rooms, finish_step, step};

@@ -18,8 +18,11 @@ ghost use Rattle.icn_machine.specs.DoneInPlace.{DoneInPlace};
 ghost use Rattle.icn_machine.specs.Performing.{LeavesNamed, PerformsOn};
 ghost use Rattle.icn_machine.specs.NamedWorlds.{MachineNamed};
 
+use crate::assigning::perform_assignment;
+use crate::concatenating::perform_concatenation;
 use crate::performing::{perform, perform_again};
 use crate::plain_operations::operate_in_world;
+use crate::value_operations::take_two;
 use icn_apply::Applied;
 use icn_control::{Machine, RunState, take_operands};
 use icn_convert::Names;
@@ -53,11 +56,15 @@ pub fn operate<K: Stack<Cell> + Drop, N: Names, S: Streams>(
     if m.turns >= m.limits.turns {
         return Ok(RunState::AtBound);
     }
-    operate_by_row(m, op, items, names, streams)
+    match op {
+        Op::Assign => operate_by_variable(m, names, streams),
+        Op::Concatenate => operate_by_texts(m, names, streams),
+        _ => operate_by_row(m, op, items, names, streams),
+    }
 }
 
-/// Performs an operation on the stack alone, as a turn, where its operands are told as they stand and a turn is left. Elsewhere nothing
-/// changes. Its operands must be there. It takes no memory.
+/// Performs an operation on the stack alone, as a turn, where its operands are told as they stand and a turn is left. Elsewhere,
+/// and for want of memory, nothing changes. Its operands must be there.
 pub fn operate_at_once<K: Stack<Cell> + Drop>(m: &mut Machine<K>, op: Op) -> Option<RunState>
     requires stands { IsRunnable m.old }
     requires operands { IsSome (take_operands (arity op) (stack_of m.old)) }
@@ -109,6 +116,54 @@ fn operate_by_row<K: Stack<Cell> + Drop, N: Names, S: Streams>(
         names,
         streams,
     )
+}
+
+// Puts two texts together, where a turn is left.
+#[inline(never)]
+fn operate_by_texts<K: Stack<Cell> + Drop, N: Names, S: Streams>(
+    m: &mut Machine<K>,
+    names: &N,
+    streams: &mut S,
+) -> Result<RunState, Halt>
+    requires stands { IsRunnable m.old }
+    requires turn { m.old.turns < m.old.limits.turns }
+    requires few { m.old.turns + 1 < 2 ^ 64 }
+    requires operands { IsSome (take_operands 2 (stack_of m.old)) }
+    requires named { MachineNamed (N.known names.now) m.old }
+    ensures step { (tables : Tables) → all_names tables ≡ N.known names.now
+        → PerformsOn tables (λ outside. does tables outside (Instrs.Op Ops.Concatenate) m.old) m.new
+        (S.state streams.old)
+        (S.state streams.new) result }
+    ensures keeps { StaysSound m.old m.new result }
+    ensures named { LeavesNamed (N.known names.now) m.new.world (stack_of m.new) result }
+{
+    let two = take_two(m.stacks.frames());
+    m.turns += 1;
+    perform_concatenation(m.stacks.frames(), &mut m.world, two, names, streams)
+}
+
+// Assigns to a variable, where a turn is left.
+#[inline(never)]
+fn operate_by_variable<K: Stack<Cell> + Drop, N: Names, S: Streams>(
+    m: &mut Machine<K>,
+    names: &N,
+    streams: &mut S,
+) -> Result<RunState, Halt>
+    requires stands { IsRunnable m.old }
+    requires turn { m.old.turns < m.old.limits.turns }
+    requires few { m.old.turns + 1 < 2 ^ 64 }
+    requires operands { IsSome (take_operands 2 (stack_of m.old)) }
+    requires named { MachineNamed (N.known names.now) m.old }
+    ensures step { (tables : Tables) → all_names tables ≡ N.known names.now
+        → PerformsOn tables (λ outside. does tables outside (Instrs.Op Ops.Assign) m.old) m.new
+        (S.state streams.old)
+        (S.state streams.new) result }
+    ensures keeps { StaysSound m.old m.new result }
+    ensures named { LeavesNamed (N.known names.now) m.new.world (stack_of m.new) result }
+{
+    let two = take_two(m.stacks.frames());
+    m.turns += 1;
+    perform_assignment(m.stacks.frames(), &mut m.world, two, names, streams)
 }
 
 /// Resumes what an operation or a function left, as a turn. The errors are those of `perform`.

@@ -29,7 +29,8 @@ ghost use Rattle.icn_machine.specs.NamedWorlds.{AreNamed, HoldsNamed};
 use crate::counts::count_on;
 use crate::giving::{give_outcome, give_value};
 use crate::own_locals::{Earlier, OwnLocals};
-use icn_apply::{Applied, again, apply, function_answer};
+use crate::plain_functions::gives_once;
+use icn_apply::{Applied, again, apply, function_answer, function_outcome};
 use icn_control::{Activation, RunState};
 use icn_convert::Names;
 use icn_frames::{Cell, Count, Frames, Stack};
@@ -133,8 +134,37 @@ fn perform_lent<'a, K: Stack<Cell> + Drop, B: Earlier, N: Names, S: Streams>(
     (answer, own.frames)
 }
 
-/// Performs a function that gives a value at most, on values: pushes what it gives, or fails. The errors are those of `perform`.
+/// Performs a function on values: pushes what it gives, or fails. The errors are those of `perform`.
 pub fn perform_function<K: Stack<Cell> + Drop, N: Names, S: Streams>(
+    frames: &mut Frames<K>,
+    world: &mut World,
+    func: Func,
+    vals: &[Val],
+    names: &N,
+    streams: &mut S,
+) -> Result<RunState, Halt>
+    requires here { HoldsNamed (N.known names.now) world.old frames.old.flat }
+    requires live { All (IsLive (extent_of world.old.heap)) vals.now }
+    requires named { All (ValueNamed (N.known names.now)) (map (value_in (extent_of world.old.heap)) vals.now) }
+    ensures row { PerformsRow (rows.function_of (N.known names.now) func
+        (map (value_in (extent_of world.old.heap)) vals.now)) world.old frames.old.flat
+        (S.state streams.old)
+        world.new frames.new.flat
+        (S.state streams.new) result }
+    ensures live { (tables : Tables) → IsLiveStack tables (reach_of world.old []) frames.old.flat
+        → UnlessEnded result (IsLiveStack tables (reach_of world.new []) frames.new.flat) }
+    ensures leaves { LeavesWorld world.old world.new result }
+    ensures sized { UnlessEnded result (WorldsKeepSizes world.old world.new) }
+    ensures named { LeavesNamed (N.known names.now) world.new frames.new.flat result }
+{
+    if gives_once(func) {
+        return perform_once(frames, world, func, vals, names, streams);
+    }
+    perform_suspending(frames, world, func, vals, names, streams)
+}
+
+// Performs one that gives a value at most.
+fn perform_once<K: Stack<Cell> + Drop, N: Names, S: Streams>(
     frames: &mut Frames<K>,
     world: &mut World,
     func: Func,
@@ -165,7 +195,7 @@ pub fn perform_function<K: Stack<Cell> + Drop, N: Names, S: Streams>(
     }
 }
 
-// Applies it to values.
+// Applies one that gives a value at most to values.
 #[inline(always)]
 fn answer_in<K: Stack<Cell> + Drop, N: Names, S: Streams>(
     frames: &mut Frames<K>,
@@ -192,6 +222,65 @@ fn answer_in<K: Stack<Cell> + Drop, N: Names, S: Streams>(
     frames.local_count();
     let activation = Activation { frames };
     function_answer(func, vals, world, &activation, names, streams)
+}
+
+// Performs any function.
+fn perform_suspending<K: Stack<Cell> + Drop, N: Names, S: Streams>(
+    frames: &mut Frames<K>,
+    world: &mut World,
+    func: Func,
+    vals: &[Val],
+    names: &N,
+    streams: &mut S,
+) -> Result<RunState, Halt>
+    requires here { HoldsNamed (N.known names.now) world.old frames.old.flat }
+    requires live { All (IsLive (extent_of world.old.heap)) vals.now }
+    requires named { All (ValueNamed (N.known names.now)) (map (value_in (extent_of world.old.heap)) vals.now) }
+    ensures row { PerformsRow (rows.function_of (N.known names.now) func
+        (map (value_in (extent_of world.old.heap)) vals.now)) world.old frames.old.flat
+        (S.state streams.old)
+        world.new frames.new.flat
+        (S.state streams.new) result }
+    ensures live { (tables : Tables) → IsLiveStack tables (reach_of world.old []) frames.old.flat
+        → UnlessEnded result (IsLiveStack tables (reach_of world.new []) frames.new.flat) }
+    ensures leaves { LeavesWorld world.old world.new result }
+    ensures sized { UnlessEnded result (WorldsKeepSizes world.old world.new) }
+    ensures named { LeavesNamed (N.known names.now) world.new frames.new.flat result }
+{
+    let outcome = applied_in(frames, world, func, vals, names, streams)?;
+    frames.local_count();
+    match give_outcome(frames, outcome) {
+        Ok(stage) => Ok(stage),
+        Err(_) => Err(Halt::NoMemory),
+    }
+}
+
+// What a function gives on these values, whatever that is.
+#[inline(always)]
+fn applied_in<K: Stack<Cell> + Drop, N: Names, S: Streams>(
+    frames: &mut Frames<K>,
+    world: &mut World,
+    func: Func,
+    vals: &[Val],
+    names: &N,
+    streams: &mut S,
+) -> Result<Outcome, Halt>
+    requires here { HoldsNamed (N.known names.now) world.old frames.old.flat }
+    requires live { All (IsLive (extent_of world.old.heap)) vals.now }
+    requires named { All (ValueNamed (N.known names.now)) (map (value_in (extent_of world.old.heap)) vals.now) }
+    ensures applies { Applies (rows.function_of (N.known names.now) func
+        (map (value_in (extent_of world.old.heap)) vals.now))
+        (call_state world.old (flat.locals frames.old.flat)
+        (S.state streams.old))
+        (call_state world.new (flat.locals frames.new.flat)
+        (S.state streams.new)) result }
+    ensures named { AnswerNamed (N.known names.now) world.new (flat.locals frames.new.flat) result }
+    ensures sized { AnswerKeepsSizes world.old world.new result }
+    ensures stack { flat.set_locals (flat.locals frames.new.flat) frames.old.flat ≡ frames.new.flat }
+{
+    frames.local_count();
+    let activation = Activation { frames };
+    function_outcome(func, vals, world, &activation, names, streams)
 }
 
 /// Resumes what an operation or a function left on a stack: pushes what it gives next, or fails. The errors are those of `perform`.

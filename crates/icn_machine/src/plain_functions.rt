@@ -42,9 +42,9 @@ pub fn value_told<K: Stack<Cell> + Drop>(
     }
 }
 
-// Whether a function gives a value at most.
+/// Whether a function gives a value at most.
 #[inline(always)]
-fn gives_once(func: Func) -> bool
+pub fn gives_once(func: Func) -> bool
     ensures { IsTrue result → GivesOneAtMost func }
 {
     match func {
@@ -59,7 +59,7 @@ fn gives_once(func: Func) -> bool
     }
 }
 
-// The function that the value of the operand below so many others names, if that is told and gives a value at most.
+// The function that the value of the operand below so many others names, if that is told.
 #[inline(always)]
 fn function_told<K: Stack<Cell> + Drop>(
     frames: &Frames<K>,
@@ -73,7 +73,7 @@ fn function_told<K: Stack<Cell> + Drop>(
 {
     let callee = value_told(frames, world, count)?;
     let func = function_of(code, callee)?;
-    if gives_once(func) { Some(func) } else { None }
+    Some(func)
 }
 
 // Puts the values of so many operands into a room, whatever it held, the lowest one first. Whether all are told, and there is
@@ -104,7 +104,7 @@ fn values_told<K: Stack<Cell> + Drop>(
 }
 
 /// The function that is called by the operand below so many others, which must be there, with the values of these in a room,
-/// whatever that held: where all are told, it gives a value at most, and there is memory for the values.
+/// whatever that held: where all are told, and there is memory for the values.
 #[inline(always)]
 pub fn function_called<K: Stack<Cell> + Drop>(
     frames: &Frames<K>,

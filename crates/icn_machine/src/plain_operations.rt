@@ -14,31 +14,21 @@ ghost use Rattle.icn_code.specs.Codes.{Tables};
 ghost use Rattle.icn_control.specs.LiveStacks.{IsLiveStack};
 ghost use Rattle.icn_control.specs.TakenOperands.{take_operands};
 ghost use Rattle.icn_machine.specs.PlainFunctions.{HasValueBelow};
-ghost use Rattle.icn_machine.specs.PlainOperations.{Assigns, Compares, Computes, NamesOwnLocal, OperatesInPlace, OperatesInWorld, TakesSlots, TellIntegers, TellsInteger, integer_result, is_met, local_item};
+ghost use Rattle.icn_machine.specs.PlainOperations.{Assigns, Compares, Computes, HasValueOf, IsLocalSlot, NamesOwnLocal, OperatesInPlace, OperatesInWorld, TakesSlots, TellIntegers, TellsInteger, integer_result, is_met, local_item};
 
+use crate::counts::count_from;
 use crate::plain_functions::value_told;
+use crate::value_operations::operate_on_values;
 use icn_control::{RunState, put_slot, value_slot};
-use icn_frames::{Cell, Frames, Stack, is_plain_operand, operand_as_local};
+use icn_frames::{Cell, Frames, Stack, is_plain_local, operand_as_local};
 use icn_text::{Arith, Op, add, div, mul, rem, sub};
 use icn_value::{Item, Root, Val, VarRef};
 use icn_vars::World;
 use std::cmp::Ordering;
 
-// Whether an operand may be an integer: it is one, or a local.
+/// The integer that a local holds, if it holds one.
 #[inline(always)]
-fn may_be_integer(slot: Cell) -> bool
-    ensures { IsTrue result → IsSome (plain_operand slot) }
-{
-    match slot {
-        Cell::ValInteger(_) => true,
-        Cell::VarLocal(_) => true,
-        _ => false,
-    }
-}
-
-// The integer that a local holds, if it holds one.
-#[inline(always)]
-fn local_integer<K: Stack<Cell> + Drop>(frames: &Frames<K>, index: u32) -> Option<i64>
+pub fn local_integer<K: Stack<Cell> + Drop>(frames: &Frames<K>, index: u32) -> Option<i64>
     requires { index < flat.local_count frames.now.flat }
     ensures { IfSome result
         (λ n. slice_get (flat.locals frames.now.flat) index ≡ Some (Vals.Integer n)) }
@@ -75,41 +65,6 @@ fn integers_in<K: Stack<Cell> + Drop>(frames: &Frames<K>, slots: (Cell, Cell)) -
     Some((m, n))
 }
 
-// Takes the two top operands, where both may be integers.
-#[inline(always)]
-fn take_slots<K: Stack<Cell> + Drop>(frames: &mut Frames<K>) -> Option<(Cell, Cell)>
-    requires { IsSome (take_operands 2 frames.old.flat) }
-    ensures taken { IfSome result (TakesSlots frames.old.flat frames.new.flat) }
-    ensures spare { IfSome result (λ slots. 2 ≤ frames.new.spare) }
-    ensures none { result ≡ None → frames.new.flat ≡ frames.old.flat }
-{
-    let upper = frames.top();
-    if !may_be_integer(upper) {
-        return None;
-    }
-    frames.drop_top();
-    let lower = frames.top();
-    if !may_be_integer(lower) {
-        put_slot(frames, upper);
-        return None;
-    }
-    frames.drop_top();
-    Some((lower, upper))
-}
-
-// Puts two operands back that were taken.
-#[inline(always)]
-fn put_slots<K: Stack<Cell> + Drop>(frames: &mut Frames<K>, slots: (Cell, Cell))
-    requires room { 2 ≤ frames.old.spare }
-    requires lower { IsSome (plain_operand slots.0) }
-    requires upper { IsSome (plain_operand slots.1) }
-    ensures { (x y : Item) → plain_operand slots.0 ≡ Some x → plain_operand slots.1 ≡ Some y
-        → frames.new.flat ≡ flat.push y (flat.push x frames.old.flat) }
-{
-    put_slot(frames, slots.0);
-    put_slot(frames, slots.1);
-}
-
 /// What was computed, if it was.
 #[inline(always)]
 pub fn computed_number(found: Result<i64, Arith>) -> Option<i64>
@@ -136,9 +91,9 @@ fn integer_result(op: Op, m: i64, n: i64) -> Option<i64>
     }
 }
 
-// Whether a comparison is met, by the order of its operands.
+/// Whether a comparison is met, by the order of its operands.
 #[inline(always)]
-fn is_met(op: Op, order: Ordering) -> Option<bool>
+pub fn is_met(op: Op, order: Ordering) -> Option<bool>
     ensures { result ≡ is_met op order }
 {
     match op {
@@ -185,12 +140,11 @@ fn compute<K: Stack<Cell> + Drop>(frames: &mut Frames<K>, op: Op) -> Option<RunS
     requires live { (tables : Tables) × ((reach : Reach) × IsLiveStack tables reach frames.old.flat) }
     ensures { OperatesInPlace op frames.old.flat frames.new.flat result }
 {
-    let slots = take_slots(frames)?;
+    let lower = frames.slot_below(1);
+    let upper = frames.slot_below(0);
+    let n = result_of(frames, op, (lower, upper))?;
+    frames.drop_with(1);
     frames.local_count();
-    let Some(n) = result_of(frames, op, slots) else {
-        put_slots(frames, slots);
-        return None;
-    };
     put_slot(frames, Cell::ValInteger(n));
     Some(RunState::Running)
 }
@@ -201,28 +155,16 @@ fn compare<K: Stack<Cell> + Drop>(frames: &mut Frames<K>, op: Op) -> Option<RunS
     requires live { (tables : Tables) × ((reach : Reach) × IsLiveStack tables reach frames.old.flat) }
     ensures { OperatesInPlace op frames.old.flat frames.new.flat result }
 {
-    let slots = take_slots(frames)?;
+    let lower = frames.slot_below(1);
+    let upper = frames.slot_below(0);
+    let met = comparison_of(frames, op, (lower, upper))?;
+    frames.drop_with(1);
     frames.local_count();
-    let Some(met) = comparison_of(frames, op, slots) else {
-        put_slots(frames, slots);
-        return None;
-    };
     if met.0 {
         put_slot(frames, Cell::ValInteger(met.1));
         return Some(RunState::Running);
     }
     Some(RunState::Failing)
-}
-
-// Whether an operand is a local.
-#[inline(always)]
-fn is_local(slot: Cell) -> bool
-    ensures { IsTrue result → IsSome (plain_operand slot) }
-{
-    match slot {
-        Cell::VarLocal(_) => true,
-        _ => false,
-    }
 }
 
 // The index of a local that an operand is.
@@ -236,40 +178,56 @@ fn local_index(slot: Cell) -> Option<u32>
     }
 }
 
-// Takes the two top operands, where the lower one is a local, and the slot of the upper one tells all.
-#[inline(always)]
-fn take_assigned<K: Stack<Cell> + Drop>(frames: &mut Frames<K>) -> Option<(Cell, Cell)>
-    requires { IsSome (take_operands 2 frames.old.flat) }
-    ensures taken { IfSome result (TakesSlots frames.old.flat frames.new.flat) }
-    ensures spare { IfSome result (λ slots. 2 ≤ frames.new.spare) }
-    ensures none { result ≡ None → frames.new.flat ≡ frames.old.flat }
+// The slot of a local with the value that an operand is or holds, where slots tell it.
+fn local_with<K: Stack<Cell> + Drop>(frames: &Frames<K>, slot: Cell) -> Option<Cell>
+    ensures { IfSome result (HasValueOf (flat.locals frames.now.flat) slot) }
 {
-    let upper = frames.top();
-    if !is_plain_operand(upper) {
-        return None;
-    }
-    frames.drop_top();
-    let lower = frames.top();
-    if !is_local(lower) {
-        put_slot(frames, upper);
-        return None;
-    }
-    frames.drop_top();
-    Some((lower, upper))
+    let value = value_slot(frames, slot)?;
+    Some(operand_as_local(value))
 }
 
-// The index of the local that an operand is, and the slot of the value that the other one is or holds, where slots tell it.
+// The slot of a local, if nothing is kept beside it.
+#[inline(always)]
+fn local_copied<K: Stack<Cell> + Drop>(frames: &Frames<K>, index: u32) -> Option<Cell>
+    requires { index < flat.local_count frames.now.flat }
+    ensures { IfSome result (IsLocalSlot (flat.locals frames.now.flat) index) }
+{
+    frames.local_count();
+    let local = frames.local_slot(index as u64);
+    if is_plain_local(local) {
+        Some(local)
+    } else {
+        None
+    }
+}
+
+// The same as `local_with`, and before it where the operand is a local or an integer.
+#[inline(always)]
+fn local_assigned<K: Stack<Cell> + Drop>(frames: &Frames<K>, slot: Cell) -> Option<Cell>
+    requires { NamesOwnLocal frames.now.flat slot }
+    ensures { IfSome result (HasValueOf (flat.locals frames.now.flat) slot) }
+{
+    match slot {
+        Cell::VarLocal(index) => local_copied(frames, index),
+        Cell::ValInteger(n) => Some(Cell::LocalInteger(n)),
+        _ => local_with(frames, slot),
+    }
+}
+
+// The index of the local that an operand is, and its slot once it has the value that the other one is or holds, where slots tell
+// both.
 #[inline(always)]
 fn assignment_of<K: Stack<Cell> + Drop>(
     frames: &Frames<K>,
     slots: (Cell, Cell),
 ) -> Option<(u32, Cell)>
-    requires { NamesOwnLocal frames.now.flat slots.0 }
+    requires lower { NamesOwnLocal frames.now.flat slots.0 }
+    requires upper { NamesOwnLocal frames.now.flat slots.1 }
     ensures { IfSome result (Assigns frames.now.flat slots) }
 {
     let index = local_index(slots.0)?;
-    let value = value_slot(frames, slots.1)?;
-    Some((index, value))
+    let local = local_assigned(frames, slots.1)?;
+    Some((index, local))
 }
 
 // The assignment of a value to a local.
@@ -278,38 +236,32 @@ fn assign<K: Stack<Cell> + Drop>(frames: &mut Frames<K>) -> Option<RunState>
     requires live { (tables : Tables) × ((reach : Reach) × IsLiveStack tables reach frames.old.flat) }
     ensures { OperatesInPlace Ops.Assign frames.old.flat frames.new.flat result }
 {
-    let slots = take_assigned(frames)?;
+    let lower = frames.slot_below(1);
+    let upper = frames.slot_below(0);
     frames.local_count();
-    let Some(two) = assignment_of(frames, slots) else {
-        put_slots(frames, slots);
-        return None;
-    };
-    frames.set_local_plain(two.0 as u64, operand_as_local(two.1));
+    let two = assignment_of(frames, (lower, upper))?;
+    frames.drop_with(1);
+    frames.local_count();
+    frames.set_local_plain(two.0 as u64, two.1);
     frames.local_count();
     put_slot(frames, Cell::VarLocal(two.0));
     Some(RunState::Running)
 }
 
-/// Performs an operation on what is on top, where slots tell it: arithmetic on integers, a comparison of them, or the assignment
-/// of a value to a local. Elsewhere nothing changes. Its operands must be there. It takes no memory.
+/// Performs an operation on what is on top, where slots tell it: arithmetic on integers, a comparison of them, the assignment of a
+/// value to a local, or a count. Elsewhere, and for want of memory, nothing changes. Its operands must be there.
 pub fn operate_in_place<K: Stack<Cell> + Drop>(frames: &mut Frames<K>, op: Op) -> Option<RunState>
     requires operands { IsSome (take_operands (arity op) frames.old.flat) }
     requires live { (tables : Tables) × ((reach : Reach) × IsLiveStack tables reach frames.old.flat) }
     ensures { OperatesInPlace op frames.old.flat frames.new.flat result }
 {
+    // One arm for each call: what is called at one place is put there.
     match op {
-        Op::Add => compute(frames, op),
-        Op::Subtract => compute(frames, op),
-        Op::Multiply => compute(frames, op),
-        Op::Divide => compute(frames, op),
-        Op::Remainder => compute(frames, op),
-        Op::Less => compare(frames, op),
-        Op::LessOrEqual => compare(frames, op),
-        Op::Equal => compare(frames, op),
-        Op::GreaterOrEqual => compare(frames, op),
-        Op::Greater => compare(frames, op),
-        Op::NotEqual => compare(frames, op),
+        Op::Add | Op::Subtract | Op::Multiply | Op::Divide | Op::Remainder => compute(frames, op),
+        Op::Less | Op::LessOrEqual | Op::Equal | Op::GreaterOrEqual | Op::Greater | Op::NotEqual =>
+            { compare(frames, op) }
         Op::Assign => assign(frames),
+        Op::ToBy => count_from(frames),
         _ => None,
     }
 }
@@ -369,9 +321,10 @@ fn subscript<K: Stack<Cell> + Drop>(frames: &mut Frames<K>, world: &World) -> Op
     Some(RunState::Running)
 }
 
-/// Performs an operation on what is on top, where it is told as it stands: one that `operate_in_place` performs, the size of a
-/// value, or the subscript of a table. Elsewhere nothing changes. Its operands must be there. It takes no memory.
-pub fn operate_in_world<K: Stack<Cell> + Drop>(
+// Performs an operation on what is on top, where slots tell it: one that `operate_in_place` performs, the size of a value, or the
+// subscript of a table.
+#[inline(always)]
+fn operate_as_told<K: Stack<Cell> + Drop>(
     frames: &mut Frames<K>,
     world: &World,
     op: Op,
@@ -384,5 +337,23 @@ pub fn operate_in_world<K: Stack<Cell> + Drop>(
         Op::Size => size(frames, world),
         Op::Subscript => subscript(frames, world),
         _ => operate_in_place(frames, op),
+    }
+}
+
+/// Performs an operation on what is on top, where it is told as it stands: one that `operate_in_place` performs, the size of a
+/// value, the subscript of a table, or one that `operate_on_values` performs. Elsewhere, and for want of memory, nothing changes.
+/// Its operands must be there.
+pub fn operate_in_world<K: Stack<Cell> + Drop>(
+    frames: &mut Frames<K>,
+    world: &World,
+    op: Op,
+) -> Option<RunState>
+    requires operands { IsSome (take_operands (arity op) frames.old.flat) }
+    requires live { (tables : Tables) × IsLiveStack tables (reach_of world.now []) frames.old.flat }
+    ensures { OperatesInWorld world.now op frames.old.flat frames.new.flat result }
+{
+    match operate_as_told(frames, world, op) {
+        Some(stage) => Some(stage),
+        None => operate_on_values(frames, world, op),
     }
 }

@@ -1,5 +1,5 @@
 // One instruction of a run.
-ghost use Rattle.std.specs.Prelude.{◌≡◌, ◌≢◌, ◌<◌, false, true, suc, Err, None, Ok, Some, IfOk, IfSome, length, slice_get, IsTrue};
+ghost use Rattle.std.specs.Prelude.{◌≡◌, ◌≢◌, ◌<◌, false, true, suc, Err, Ok, Some, IfOk, length, slice_get};
 ghost use Rattle.icn_value.specs.Store.{Outside};
 ghost use Rattle.icn_vars.specs.declared.outcome.Halt.TheVariants.{NoMemory};
 ghost use Rattle.icn_code.specs.declared.instr.Instr.{Instr as InstrSeen};
@@ -10,25 +10,27 @@ ghost use Rattle.icn_run.specs.Step.{all_names, instruction_at, instrs_of, runni
 ghost use Rattle.icn_control.specs.Machines.{ComesTo, does, stack_seen, store_seen};
 ghost use Rattle.icn_control.specs.Soundness.{KeepsLimits};
 ghost use Rattle.icn_control.specs.declared.machine.RunState.TheVariants as RunStates;
-ghost use Rattle.icn_instructions.specs.FirstStatics.{AreFirstStatics};
 ghost use Rattle.icn_instructions.specs.Groups.{group_of};
 ghost use Rattle.icn_instructions.specs.declared.groups.InstrGroup.TheVariants as Groups;
-ghost use Rattle.icn_machine.specs.DoneInPlace.{StaysSame};
+ghost use Rattle.icn_machine.specs.AnsweredAtOnce.{Finishes, stepping_at};
+ghost use Rattle.icn_machine.specs.declared.at_once.AtOnce.TheVariants as AtOnces;
+ghost use Rattle.icn_machine.specs.DoneInPlace.{IsPast};
 ghost use Rattle.icn_machine.specs.Performing.{PerformsOn, SettlesOn};
 ghost use Rattle.icn_machine.specs.Stepping.{Advances, EndsWhole, GoesOn, IsDoing, IsFailing, IsReady, IsReadyToFail, is_applied, is_failing, is_whole};
 ghost use Rattle.icn_machine.specs.AfterInstruction.{stage_of, stage_result};
 
+use crate::at_once::{AtOnce, step_at_once};
 use crate::errors::settle;
 use crate::failing::{fail_through, is_failing as fails_now};
 use crate::fields::field;
-use crate::invoking::{appl, call_at_once, invoke};
-use crate::operations::{operate, operate_at_once};
+use crate::invoking::{appl, invoke};
+use crate::operations::operate;
 use icn_apply::CodeNames;
 use icn_code::{Code, Instr};
 use icn_control::{Machine, RunState};
 use icn_convert::Names;
 use icn_frames::{Cell, Frames, Stack};
-use icn_instructions::{InstrGroup, do_instruction, do_stack_instruction, group_of};
+use icn_instructions::do_off_stack;
 use icn_streams::Streams;
 use icn_text::Op;
 use icn_value::{Item, Val};
@@ -54,14 +56,13 @@ pub struct Rooms {
     pub vals: Vec<Val>,
 }
 
-// The instructions of a procedure; of one that is not there, none.
+// The instructions of a procedure, which must be there.
 fn instrs_at(code: &Code, proc: u32) -> &[Instr]
+    requires { proc < length (tables_of code.now).procs }
     ensures { result.now ≡ instrs_of (tables_of code.now) proc }
 {
-    match code.procs.get(proc as usize) {
-        Some(entry) => &entry.instrs,
-        None => &[],
-    }
+    let entry = &code.procs[proc as usize];
+    &entry.instrs
 }
 
 // The instruction that is due, and the next one is gone to.
@@ -79,13 +80,14 @@ fn take_instr<K: Stack<Cell> + Drop>(frames: &mut Frames<K>, code: &Code) -> Ins
     instr
 }
 
-// The same on the stack that runs. What a step of the run comes to is what the instruction comes to then.
-fn next_instr<K: Stack<Cell> + Drop>(m: &mut Machine<K>, code: &Code) -> Instr
+/// The same on the stack that runs. What a step of the run comes to is what the instruction comes to then.
+pub fn next_instr<K: Stack<Cell> + Drop>(m: &mut Machine<K>, code: &Code) -> Instr
     requires ready { IsReady (tables_of code.now) m.old RunStates.Running }
     ensures instr { instruction_at calls (tables_of code.now) (stack_seen m.old) ≡ Some result }
     ensures step { (outside : Outside) → step calls (tables_of code.now) (running (stack_seen m.old)
         (store_seen (tables_of code.now) outside m.old)) ≡ does (tables_of code.now) outside result m.new }
     ensures doing { IsDoing (tables_of code.now) m.new result }
+    ensures past { IsPast m.old m.new }
     ensures limits { m.new.limits ≡ m.old.limits }
 {
     take_instr(m.stacks.frames(), code)
@@ -138,17 +140,16 @@ fn do_applied<K: Stack<Cell> + Drop, N: Names, S: Streams>(
     }
 }
 
-// Does any other instruction that is due. The errors are those of `do_instruction`.
+// Does any other instruction that is due. The errors are those of `do_off_stack`.
 #[inline(always)]
 fn do_plain<K: Stack<Cell> + Drop>(
     m: &mut Machine<K>,
     code: &Code,
-    firsts: &[u32],
     instr: Instr,
     rooms: &mut Rooms,
 ) -> Result<RunState, Halt>
-    requires firsts { AreFirstStatics (tables_of code.now) firsts.now }
     requires applied { is_applied instr ≡ false }
+    requires off_stack { group_of instr ≢ Groups.Stack }
     requires doing { IsDoing (tables_of code.now) m.old instr }
     ensures step { (outside : Outside)
         → ComesTo (tables_of code.now) outside (does (tables_of code.now) outside instr m.old) m.new result }
@@ -159,72 +160,7 @@ fn do_plain<K: Stack<Cell> + Drop>(
 {
     steps_keep_names();
     steps_keep_sizes();
-    do_instruction(m, code, firsts, instr, &mut rooms.items, &mut rooms.vals)
-}
-
-// Whether an instruction touches nothing but the stack that runs.
-#[inline(always)]
-fn is_on_stack(instr: Instr) -> bool
-    ensures { IsTrue result → group_of instr ≡ Groups.Stack }
-{
-    match group_of(instr) {
-        InstrGroup::Stack => true,
-        InstrGroup::World => false,
-        InstrGroup::Machine => false,
-        InstrGroup::Coexpression => false,
-        InstrGroup::Application => false,
-    }
-}
-
-// Does one that touches nothing but the stack that runs. The error is want of memory.
-#[inline(always)]
-fn do_on_stack<K: Stack<Cell> + Drop>(
-    m: &mut Machine<K>,
-    code: &Code,
-    firsts: &[u32],
-    instr: Instr,
-) -> Result<RunState, Halt>
-    requires firsts { AreFirstStatics (tables_of code.now) firsts.now }
-    requires group { group_of instr ≡ Groups.Stack }
-    requires doing { IsDoing (tables_of code.now) m.old instr }
-    ensures step { (outside : Outside)
-        → ComesTo (tables_of code.now) outside (does (tables_of code.now) outside instr m.old) m.new result }
-    ensures ready { IfOk result (IsReady (tables_of code.now) m.new) }
-    ensures erring { IsReadyToFail (tables_of code.now) m.new result }
-    ensures whole { is_whole instr ≡ true → EndsWhole result }
-    ensures within { KeepsLimits m.old m.new result }
-{
-    steps_keep_names();
-    steps_keep_sizes();
-    match do_stack_instruction(m, code, firsts, instr) {
-        Ok(()) => Ok(RunState::Running),
-        Err(_) => Err(Halt::NoMemory),
-    }
-}
-
-// Does an instruction on the stack alone, where slots tell what it takes and a turn is left: an operation, or the call of a
-// procedure. Elsewhere nothing changes.
-fn do_in_place<K: Stack<Cell> + Drop>(
-    m: &mut Machine<K>,
-    code: &Code,
-    instr: Instr,
-) -> Option<RunState>
-    requires { IsDoing (tables_of code.now) m.old instr }
-    ensures step { IfSome result (λ stage. (outside : Outside)
-        → ComesTo (tables_of code.now) outside (does (tables_of code.now) outside instr m.old) m.new
-        (Ok stage)) }
-    ensures ready { IfSome result (IsReady (tables_of code.now) m.new) }
-    ensures part { IfSome result (λ stage. is_whole instr ≡ false) }
-    ensures limits { m.new.limits ≡ m.old.limits }
-    ensures not_done { result ≡ None → StaysSame m.old m.new }
-{
-    steps_keep_names();
-    steps_keep_sizes();
-    match instr {
-        Instr::Op(op) => operate_at_once(m, op),
-        Instr::Invoke(count) => call_at_once(m, code, count),
-        _ => None,
-    }
+    do_off_stack(m, code, instr, &mut rooms.items, &mut rooms.vals)
 }
 
 // Does an instruction that is due, whatever it takes, but for the failing behind it. The errors are those of the instruction that
@@ -233,14 +169,13 @@ fn do_in_place<K: Stack<Cell> + Drop>(
 fn do_other<K: Stack<Cell> + Drop, N: Names, S: Streams>(
     m: &mut Machine<K>,
     code: &Code,
-    firsts: &[u32],
     instr: Instr,
     names: &N,
     rooms: &mut Rooms,
     streams: &mut S,
 ) -> Result<RunState, Halt>
-    requires firsts { AreFirstStatics (tables_of code.now) firsts.now }
     requires known { N.known names.now ≡ all_names (tables_of code.now) }
+    requires off_stack { group_of instr ≢ Groups.Stack }
     requires doing { IsDoing (tables_of code.now) m.old instr }
     ensures step { SettlesOn (tables_of code.now) (λ outside. does (tables_of code.now) outside instr m.old)
         m.new (S.state streams.old)
@@ -253,7 +188,7 @@ fn do_other<K: Stack<Cell> + Drop, N: Names, S: Streams>(
         let answer = do_applied(m, code, instr, names, rooms, streams);
         return settle(m, answer);
     }
-    let answer = do_plain(m, code, firsts, instr, rooms);
+    let answer = do_plain(m, code, instr, rooms);
     settle(m, answer)
 }
 
@@ -262,13 +197,14 @@ fn do_other<K: Stack<Cell> + Drop, N: Names, S: Streams>(
 fn do_next<K: Stack<Cell> + Drop, N: Names, S: Streams>(
     m: &mut Machine<K>,
     code: &Code,
-    firsts: &[u32],
     names: &N,
     rooms: &mut Rooms,
     streams: &mut S,
 ) -> Result<RunState, Halt>
-    requires firsts { AreFirstStatics (tables_of code.now) firsts.now }
     requires known { N.known names.now ≡ all_names (tables_of code.now) }
+    requires off_stack { (instr : InstrSeen)
+        → instruction_at calls (tables_of code.now) (stack_seen m.old) ≡ Some instr
+        → group_of instr ≢ Groups.Stack }
     requires ready { IsReady (tables_of code.now) m.old RunStates.Running }
     ensures steps { Advances IsFailing (tables_of code.now) m.old RunStates.Running
         (S.state streams.old) m.new
@@ -280,14 +216,7 @@ fn do_next<K: Stack<Cell> + Drop, N: Names, S: Streams>(
     ensures within { KeepsLimits m.old m.new result }
 {
     let instr = next_instr(m, code);
-    if is_on_stack(instr) {
-        let answer = do_on_stack(m, code, firsts, instr);
-        return settle(m, answer);
-    }
-    match do_in_place(m, code, instr) {
-        Some(stage) => Ok(stage),
-        None => do_other(m, code, firsts, instr, names, rooms, streams),
-    }
+    do_other(m, code, instr, names, rooms, streams)
 }
 
 // Where the run stands at a stage at which nothing fails.
@@ -331,13 +260,14 @@ fn fail_to_next<K: Stack<Cell> + Drop, N: Names, S: Streams>(
 fn step_named<K: Stack<Cell> + Drop, N: Names, S: Streams>(
     m: &mut Machine<K>,
     code: &Code,
-    firsts: &[u32],
     names: &N,
     rooms: &mut Rooms,
     streams: &mut S,
 ) -> Result<AfterStep, Halt>
-    requires firsts { AreFirstStatics (tables_of code.now) firsts.now }
     requires known { N.known names.now ≡ all_names (tables_of code.now) }
+    requires off_stack { (instr : InstrSeen)
+        → instruction_at calls (tables_of code.now) (stack_seen m.old) ≡ Some instr
+        → group_of instr ≢ Groups.Stack }
     requires ready { IsReady (tables_of code.now) m.old RunStates.Running }
     ensures steps { Advances IsFailing (tables_of code.now) m.old RunStates.Running
         (S.state streams.old) m.new
@@ -349,7 +279,7 @@ fn step_named<K: Stack<Cell> + Drop, N: Names, S: Streams>(
         → result ≢ Err NoMemory }
     ensures within { KeepsLimits m.old m.new result }
 {
-    let stage = do_next(m, code, firsts, names, rooms, streams)?;
+    let stage = do_next(m, code, names, rooms, streams)?;
     if fails_now(stage) {
         return fail_to_next(m, stage, code, names, streams);
     }
@@ -381,8 +311,65 @@ pub fn step<K: Stack<Cell> + Drop, S: Streams>(
         → is_whole instr ≡ true → result ≢ Err NoMemory }
     ensures within { KeepsLimits m.old m.new result }
 {
-    let firsts = code.first_statics();
+    let done = step_at_once(m, code);
+    finish_step(m, done, code, rooms, streams)
+}
+
+// The same, by the names of the code.
+fn finish_named<K: Stack<Cell> + Drop, N: Names, S: Streams>(
+    m: &mut Machine<K>,
+    done: AtOnce,
+    code: &Code,
+    names: &N,
+    rooms: &mut Rooms,
+    streams: &mut S,
+) -> Result<AfterStep, Halt>
+    requires known { N.known names.now ≡ all_names (tables_of code.now) }
+    requires ready { IfOk (stepping_at done) (IsReady (tables_of code.now) m.old) }
+    requires off_stack { done ≡ AtOnces.Not → (instr : InstrSeen)
+        → instruction_at calls (tables_of code.now) (stack_seen m.old) ≡ Some instr
+        → group_of instr ≢ Groups.Stack }
+    ensures steps { Finishes (tables_of code.now) m.old (S.state streams.old) m.new (S.state streams.new)
+        result done }
+    ensures ready { IfOk result (λ stepped. IsReady (tables_of code.now) m.new (stage_of stepped)) }
+    ensures no_memory { done ≡ AtOnces.Not → (instr : InstrSeen)
+        → instruction_at calls (tables_of code.now) (stack_seen m.old) ≡ Some instr
+        → is_whole instr ≡ true → result ≢ Err NoMemory }
+    ensures within { KeepsLimits m.old m.new result }
+{
+    match done {
+        AtOnce::Running => Ok(AfterStep::Running),
+        AtOnce::Failing => fail_to_next(m, RunState::Failing, code, names, streams),
+        AtOnce::Hopping => fail_to_next(m, RunState::Hopping, code, names, streams),
+        AtOnce::Over => Ok(AfterStep::Over),
+        AtOnce::AtBound => Ok(AfterStep::AtBound),
+        AtOnce::NoMemory => Err(Halt::NoMemory),
+        AtOnce::Not => step_named(m, code, names, rooms, streams),
+    }
+}
+
+/// Finishes a step of which so much was done at once: the failing behind it is done, and what was not done at once. The rooms are
+/// used again, whatever they hold. The errors are those of `step`.
+pub fn finish_step<K: Stack<Cell> + Drop, S: Streams>(
+    m: &mut Machine<K>,
+    done: AtOnce,
+    code: &Verified,
+    rooms: &mut Rooms,
+    streams: &mut S,
+) -> Result<AfterStep, Halt>
+    requires ready { IfOk (stepping_at done) (IsReady (tables_of code.now.code) m.old) }
+    requires off_stack { done ≡ AtOnces.Not → (instr : InstrSeen)
+        → instruction_at calls (tables_of code.now.code) (stack_seen m.old) ≡ Some instr
+        → group_of instr ≢ Groups.Stack }
+    ensures steps { Finishes (tables_of code.now.code) m.old (S.state streams.old) m.new (S.state streams.new)
+        result done }
+    ensures ready { IfOk result (λ stepped. IsReady (tables_of code.now.code) m.new (stage_of stepped)) }
+    ensures no_memory { done ≡ AtOnces.Not → (instr : InstrSeen)
+        → instruction_at calls (tables_of code.now.code) (stack_seen m.old) ≡ Some instr
+        → is_whole instr ≡ true → result ≢ Err NoMemory }
+    ensures within { KeepsLimits m.old m.new result }
+{
     let code = code.code();
     let names = CodeNames::new(code);
-    step_named(m, code, firsts, &names, rooms, streams)
+    finish_named(m, done, code, &names, rooms, streams)
 }

@@ -14,7 +14,7 @@ use Rattle.icn_tree.specs.declared.tree.LocalKind.TheVariants as Kinds
 use Rattle.icn_tree.specs.Trees.{Tree, Trees, MaybeTree, Clauses, LocalDecl, Initial, Declaration, Empty, Constant, Identifier, Keyword, Parentheses, Listing, Compound, Call, CoCall, Subscript, Section, Field, Prefix, Not, Binary, To, If, Case, Loop, Repeat, Create, Next, Fail, Break, Return, Suspend, Absent, Present, NoTrees, More, Default, Guarded, NoClauses, MoreClauses, NoInitial, Initially, Global as GlobalDeclaration, Link, Invocable, Record, ProcedureOf, Procedure as ProcedureTree}
 use Rattle.icn_value.specs.Values.{Value, Null, Procedure, Root, Global, Static, Local}
 use Rattle.icn_value.specs.Store.{Names}
-use Rattle.icn_defs.specs.KeptProcedures.{Mentioned, dropped, kept_from}
+use Rattle.icn_defs.specs.KeptProcedures.{MentionLists, dropped_numbers, kept_from}
 use Rattle.icn_defs.specs.NamedValues.{arguments_taken}
 
 -- A procedure. Its locals are its parameters, then the names that it declares local, then those that it does not declare and that are no global. The
@@ -264,7 +264,7 @@ procedure_names [] = []
 procedure_names (procedure ∷ others) = procedure.name.text ∷ procedure_names others
 
 -- What each procedure mentions: a name that it uses and does not declare is global, where it is that of a procedure.
-abbrev pub mentioned_by : List (List ℕ) → List ProcedureTree → Mentioned
+abbrev pub mentioned_by : List (List ℕ) → List ProcedureTree → MentionLists
 mentioned_by procedures [] = []
 mentioned_by procedures (procedure ∷ others) =
     numbers_of procedures (undeclared_uses procedure) ∷ mentioned_by procedures others
@@ -347,7 +347,7 @@ program_of declarations = let globals = globals_of declarations in
       starts = starts_of (routine_names routines) (kind_names (kinds_of declarations))
           (global_names declarations) globals;
       statics = statics_in routines;
-      hidden = dropped (kept_of declarations);
+      hidden = dropped_numbers (kept_of declarations);
     }
 
 -- the program of several files, each the list of its declarations

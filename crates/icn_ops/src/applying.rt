@@ -4,6 +4,7 @@ ghost use Rattle.std.specs.List.{All};
 ghost use Rattle.icn_defs.specs.Applying.{operand, operation_on, operation_row};
 ghost use Rattle.icn_heap.specs.Extents.{Extent, IsLive};
 ghost use Rattle.icn_heap.specs.Heaps.{extent_of};
+ghost use Rattle.icn_vars.specs.Outcomes.{answer_of};
 ghost use Rattle.icn_vars.specs.Worlds.{AreLiveThree, IsLiveItem, Reach, item_in, reach_of};
 ghost use Rattle.icn_streams.specs.Answers.{call_state};
 ghost use Rattle.icn_streams.specs.Applies.{Applies};
@@ -32,7 +33,7 @@ use crate::walks::elements_row;
 use icn_streams::Streams;
 use icn_text::Op;
 use icn_value::{Item, Val};
-use icn_vars::{Halt, Locals, Outcome, World};
+use icn_vars::{Halt, Locals, Outcome, ValueOutcome, World};
 
 /// Applies an operation; an operand that is missing is null, and one that is too many does nothing. The refreshing of a co-expression
 /// is no row: it fails here.
@@ -117,7 +118,7 @@ fn apply_to_operands<L: Locals, S: Streams>(
         Op::LexicallyNotEqual => lexically_not_equal_row(w, l, x, y),
         Op::Equivalent => equivalent_row(w, l, x, y),
         Op::NotEquivalent => not_equivalent_row(w, l, x, y),
-        Op::Concatenate => concatenate_row(w, l, x, y),
+        Op::Concatenate => as_answer(concatenate_row(w, l, x, y)),
         Op::ConcatenateLists => concatenate_lists_row(w, l, x, y),
         Op::Union => union_row(w, l, x, y),
         Op::Difference => difference_row(w, l, x, y),
@@ -131,5 +132,15 @@ fn apply_to_operands<L: Locals, S: Streams>(
         Op::SectionPlus => section_plus_row(w, l, x, y, z),
         Op::SectionMinus => section_minus_row(w, l, x, y, z),
         Op::ToBy => to_by_row(w, l, x, y, z),
+    }
+}
+
+// What a row answers that gives a value at most, as an answer that could suspend.
+fn as_answer(answer: Result<ValueOutcome, Halt>) -> Result<Outcome, Halt>
+    ensures { result ≡ answer_of answer }
+{
+    match answer {
+        Ok(given) => Ok(given.outcome()),
+        Err(halt) => Err(halt),
     }
 }

@@ -1,14 +1,14 @@
 // Texts and csets that are put together.
 ghost use Rattle.icn_defs.specs.Operations.{complement_row, concatenate_row};
 ghost use Rattle.icn_heap.specs.Heaps.{extent_of};
-ghost use Rattle.icn_vars.specs.Outcomes.{IsLiveAnswer};
+ghost use Rattle.icn_vars.specs.Outcomes.{IsLiveAnswer, answer_of};
 ghost use Rattle.icn_vars.specs.Worlds.{AreLiveTwo, IsLiveOperand, KeepsLive, item_in, reach_of};
 ghost use Rattle.icn_args.specs.RowWords.{Answers};
 
 use crate::operands::two_texts;
 use icn_args::{cset_of, join};
 use icn_value::{Item, Val};
-use icn_vars::{Halt, Locals, Outcome, World, deref};
+use icn_vars::{Halt, Locals, Outcome, ValueOutcome, World, deref};
 
 /// `~c`: the bytes that are no members, or error 104.
 pub fn complement_row<L: Locals>(w: &World, l: &L, x: Item) -> Result<Outcome, Halt>
@@ -23,14 +23,20 @@ pub fn complement_row<L: Locals>(w: &World, l: &L, x: Item) -> Result<Outcome, H
 }
 
 /// `s || t`: the bytes of both, or error 103; 306 where the texts that are made for it, or it, pass their limit.
-pub fn concatenate_row<L: Locals>(w: &mut World, l: &L, x: Item, y: Item) -> Result<Outcome, Halt>
+pub fn concatenate_row<L: Locals>(
+    w: &mut World,
+    l: &L,
+    x: Item,
+    y: Item,
+) -> Result<ValueOutcome, Halt>
     requires live { AreLiveTwo w.old (L.items l.now) x y }
     ensures row { Answers w.old (L.items l.now) w.new (L.items l.now)
-        (concatenate_row (item_in (extent_of w.old.heap) x) (item_in (extent_of w.old.heap) y)) result }
-    ensures live { IsLiveAnswer (reach_of w.new (L.items l.now)) result }
+        (concatenate_row (item_in (extent_of w.old.heap) x) (item_in (extent_of w.old.heap) y))
+        (answer_of result) }
+    ensures live { IsLiveAnswer (reach_of w.new (L.items l.now)) (answer_of result) }
     ensures kept { KeepsLive w.old (L.items l.now) w.new (L.items l.now) }
 {
     let (s, t) = two_texts(w, l, x, y)?;
     let text = join(w, l, s, t)?;
-    Ok(Outcome::Gives(Item::Val(Val::Text(text))))
+    Ok(ValueOutcome::Gives(Val::Text(text)))
 }

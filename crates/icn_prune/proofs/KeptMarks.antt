@@ -10,7 +10,7 @@ use Rattle.std.proofs.lemmas.Option.{slice_get-get_or, slice_get_within}
 use Rattle.icn_code.specs.declared.instr.Instr.{Instr}
 use Rattle.icn_code.specs.Codes.{Tables}
 use Rattle.icn_prune.specs.KeptCode.{global_in, procedure_of_global}
-use Rattle.icn_defs.specs.KeptProcedures.{IsIn, Mentioned, after_rounds, with_kept}
+use Rattle.icn_defs.specs.KeptProcedures.{IsIn, MentionLists, after_rounds, with_kept}
 use Rattle.icn_prune.specs.Marks.{AddsMarks, IsMarked, missing}
 use Rattle.icn_prune.proofs.LeastSets.{Each, EachMentioned, Within, all_of, each_so, kept_least, kept_stays, long_kept, rounds_closed, rounds_keep, rounds_least, rounds_long, set_here, set_stays, slice_item}
 use Rattle.icn_prune.proofs.StandingPlaces.{at_any, get_before, get_either, slice_get_none, some_injective}
@@ -192,7 +192,7 @@ below_or (suc k) (suc n) l = more (below_or k n (omega (arith, l)))
 -- The walk over those that were met
 
 -- where the first so many were walked
-pub record Walks (mentioned : Mentioned) (first keep : List Bool) (met : List ℕ) (place : ℕ) : Type 0 where
+pub record Walks (mentioned : MentionLists) (first keep : List Bool) (met : List ℕ) (place : ℕ) : Type 0 where
   pub grown : (i : ℕ) → IsIn first i → IsIn keep i
   pub walked : (k number : ℕ) (numbers : List ℕ) → k < place → slice_get met k ≡ Some number → slice_get mentioned number ≡ Some numbers
       → Each (IsIn keep) numbers
@@ -200,7 +200,7 @@ pub record Walks (mentioned : Mentioned) (first keep : List Bool) (met : List �
   pub as_many : length keep ≡ length mentioned
   pub within : place ≤ length met
 
-module _ (mentioned : Mentioned) (first : List Bool) (many : length first ≡ length mentioned) (inside : Within (length first) mentioned) where
+module _ (mentioned : MentionLists) (first : List Bool) (many : length first ≡ length mentioned) (inside : Within (length first) mentioned) where
   pub walk_begins : (met : List ℕ) → Walks mentioned first first met 0
   walk_begins met = record {
     grown = λ i h. h;

@@ -4,7 +4,7 @@ use Rattle.std.specs.Prelude.{unwrap_or}
 use Rattle.std.specs.List.{All}
 use Rattle.std.proofs.lemmas.List.{at_drop_more}
 use Rattle.icn_prune.specs.Marks.{missing}
-use Rattle.icn_defs.specs.KeptProcedures.{IsClosed, IsIn, IsLeast, Mentioned, after_rounds, kept_from, mentioned_by_kept, with_kept}
+use Rattle.icn_defs.specs.KeptProcedures.{IsClosed, IsIn, IsLeast, MentionLists, after_rounds, kept_from, mentioned_by_kept, with_kept}
 
 -- Each of a list
 
@@ -110,11 +110,11 @@ kept_least P (n ∷ ns) keep f e i h =
 -- What those that are kept mention
 
 -- whatever a kept one mentions is so
-abbrev pub EachMentioned : (ℕ → Type 0) → Mentioned → List Bool → Type 0
+abbrev pub EachMentioned : (ℕ → Type 0) → MentionLists → List Bool → Type 0
 EachMentioned P mentioned keep = (number : ℕ) (numbers : List ℕ) → IsIn keep number → slice_get mentioned number ≡ Some numbers
     → Each P numbers
 
-mentioned_so : (P : ℕ → Type 0) (mentioned : Mentioned) (keep : List Bool) → EachMentioned P mentioned keep
+mentioned_so : (P : ℕ → Type 0) (mentioned : MentionLists) (keep : List Bool) → EachMentioned P mentioned keep
     → Each P (mentioned_by_kept mentioned keep)
 mentioned_so P [] keep f = tt
 mentioned_so P (ns ∷ others) [] f = tt
@@ -122,7 +122,7 @@ mentioned_so P (ns ∷ others) (true ∷ keep) f =
     each_join P ns (mentioned_by_kept others keep) (f 0 ns refl refl) (mentioned_so P others keep (λ k l h g. f (suc k) l h g))
 mentioned_so P (ns ∷ others) (false ∷ keep) f = mentioned_so P others keep (λ k l h g. f (suc k) l h g)
 
-so_mentioned : (P : ℕ → Type 0) (mentioned : Mentioned) (keep : List Bool) → Each P (mentioned_by_kept mentioned keep)
+so_mentioned : (P : ℕ → Type 0) (mentioned : MentionLists) (keep : List Bool) → Each P (mentioned_by_kept mentioned keep)
     → EachMentioned P mentioned keep
 so_mentioned P [] keep e number numbers h g = absurd (cc)
 so_mentioned P (ns ∷ others) [] e number numbers h g = absurd (cc)
@@ -135,17 +135,17 @@ so_mentioned P (ns ∷ others) (false ∷ keep) e (suc number) numbers h g = so_
 
 -- Rounds
 
-pub rounds_long : (n : ℕ) (mentioned : Mentioned) (keep : List Bool) → length (after_rounds n mentioned keep) ≡ length keep
+pub rounds_long : (n : ℕ) (mentioned : MentionLists) (keep : List Bool) → length (after_rounds n mentioned keep) ≡ length keep
 rounds_long zero mentioned keep = refl
 rounds_long (suc n) mentioned keep =
     rounds_long n mentioned (with_kept (mentioned_by_kept mentioned keep) keep) ∙ long_kept (mentioned_by_kept mentioned keep) keep
 
-pub rounds_keep : (n : ℕ) (mentioned : Mentioned) (keep : List Bool) (i : ℕ) → IsIn keep i → IsIn (after_rounds n mentioned keep) i
+pub rounds_keep : (n : ℕ) (mentioned : MentionLists) (keep : List Bool) (i : ℕ) → IsIn keep i → IsIn (after_rounds n mentioned keep) i
 rounds_keep zero mentioned keep i h = h
 rounds_keep (suc n) mentioned keep i h =
     rounds_keep n mentioned (with_kept (mentioned_by_kept mentioned keep) keep) i (kept_stays (mentioned_by_kept mentioned keep) keep i h)
 
-pub rounds_least : (n : ℕ) (mentioned : Mentioned) (keep other : List Bool) → IsClosed mentioned other
+pub rounds_least : (n : ℕ) (mentioned : MentionLists) (keep other : List Bool) → IsClosed mentioned other
     → ((j : ℕ) → IsIn keep j → IsIn other j) → (i : ℕ) → IsIn (after_rounds n mentioned keep) i → IsIn other i
 rounds_least zero mentioned keep other c f i h = f i h
 rounds_least (suc n) mentioned keep other c f i h =
@@ -153,7 +153,7 @@ rounds_least (suc n) mentioned keep other c f i h =
     let all = mentioned_so (IsIn other) mentioned keep (λ k l a b. each_of (IsIn other) l (c.closed k l (f k a) b)) in
     rounds_least n mentioned (with_kept more keep) other c (λ j g. kept_least (IsIn other) more keep f all j g) i h
 
-rounds_stay : (n : ℕ) (mentioned : Mentioned) (keep : List Bool) → with_kept (mentioned_by_kept mentioned keep) keep ≡ keep
+rounds_stay : (n : ℕ) (mentioned : MentionLists) (keep : List Bool) → with_kept (mentioned_by_kept mentioned keep) keep ≡ keep
     → after_rounds n mentioned keep ≡ keep
 rounds_stay zero mentioned keep e = refl
 rounds_stay (suc n) mentioned keep e = ap (after_rounds n mentioned) e ∙ rounds_stay n mentioned keep e
@@ -194,10 +194,10 @@ kept_fewer (n ∷ ns) keep = both_fewer keep (slice_set keep n true) (with_kept 
 -- Enough rounds
 
 -- only procedures are mentioned
-abbrev pub Within : ℕ → Mentioned → Type 0
+abbrev pub Within : ℕ → MentionLists → Type 0
 Within most mentioned = (number : ℕ) (numbers : List ℕ) → slice_get mentioned number ≡ Some numbers → Each (λ n. n < most) numbers
 
-pub rounds_closed : (n : ℕ) (mentioned : Mentioned) (keep : List Bool) → missing keep ≤ n → Within (length keep) mentioned
+pub rounds_closed : (n : ℕ) (mentioned : MentionLists) (keep : List Bool) → missing keep ≤ n → Within (length keep) mentioned
     → EachMentioned (IsIn (after_rounds n mentioned keep)) mentioned (after_rounds n mentioned keep)
 rounds_closed zero mentioned keep h w = λ number numbers a b.
     each_so (λ m. m < length keep) (IsIn keep) (λ m l. none_missing keep m h l) numbers (w number numbers b)
@@ -240,7 +240,7 @@ fewer_missing : (keep all : List Bool) → (all ≡ keep) ⊎ (missing all < mis
 fewer_missing keep all (inl e) = let same = ap missing e in omega (arith, same)
 fewer_missing keep all (inr l) = omega (arith, l)
 
-pub least_set : (mentioned : Mentioned) (own : List ℕ) → All (λ number. number < length mentioned) own
+pub least_set : (mentioned : MentionLists) (own : List ℕ) → All (λ number. number < length mentioned) own
     → ((number : ℕ) (numbers : List ℕ) → slice_get mentioned number ≡ Some numbers → All (λ n. n < length mentioned) numbers)
     → IsLeast mentioned own (kept_from mentioned own)
 least_set mentioned own o w =

@@ -18,7 +18,7 @@ use Rattle.icn_code.specs.MainProcedure.{procedure_at}
 use Rattle.icn_code.specs.Rules.{are_counts, are_procs, is_cset, is_global, is_head, is_instr, is_integer, is_proc, is_record, is_start, is_string_below, keeps_rules, name_of, names_differ}
 use Rattle.icn_defs.specs.KeptProcedures.{IsIn}
 use Rattle.icn_prune.specs.KeptCode.{MayBeKept, global_in, globals_in, mentioned_in, number_in, procedure_of_global}
-use Rattle.icn_prune.specs.PrunedCode.{Survivors, cset_in, field_in, global_at, global_left, instr_left, integer_in, kept_from_place, kept_procs, new_place, no_cset, proc_left, pruned, record_left, start_left, start_stays, string_in, survivors, taken_by, with_places}
+use Rattle.icn_prune.specs.PrunedCode.{Survivors, cset_in, field_in, global_at, global_left, instr_left, integer_in, kept_from_place, kept_procs, new_place, no_cset, proc_left, pruned_tables, record_left, start_left, start_stays, string_in, survivors, taken_by, with_places}
 use Rattle.icn_prune.proofs.LeastSets.{Each, each_first, each_join, each_of, each_second, each_so}
 use Rattle.icn_prune.proofs.StandingPlaces.{slice_get_none, some_injective}
 use Rattle.icn_prune.proofs.PlacedEntries.{Finds, IsAmong, all_found, all_indexed, ascending_found, each_among, each_both, each_mapped, each_passing, each_unmapped, each_with, few_left, kept_found, passes_at}
@@ -309,38 +309,38 @@ module _ (T : Tables) (keep : List Bool) (r : AreRuled T) (k : MayBeKept T keep)
 
   -- Numbers below the counts of what is left
 
-  in_strings : (p : ℕ) → Finds S.strings p → nat_lt (new_place S.strings p) (length (pruned keep T).strings) ≡ true
+  in_strings : (p : ℕ) → Finds S.strings p → nat_lt (new_place S.strings p) (length (pruned_tables keep T).strings) ≡ true
   in_strings p f = let same = length-map S.strings (λ place. slice_index_or T.strings place []) in let l = f.below in
-      lt-ltb (new_place S.strings p) (length (pruned keep T).strings) (omega (arith, same, l))
+      lt-ltb (new_place S.strings p) (length (pruned_tables keep T).strings) (omega (arith, same, l))
 
-  in_csets : (p : ℕ) → Finds S.csets p → nat_lt (new_place S.csets p) (length (pruned keep T).csets) ≡ true
+  in_csets : (p : ℕ) → Finds S.csets p → nat_lt (new_place S.csets p) (length (pruned_tables keep T).csets) ≡ true
   in_csets p f = let same = length-map S.csets (λ place. slice_index_or T.csets place no_cset) in let l = f.below in
-      lt-ltb (new_place S.csets p) (length (pruned keep T).csets) (omega (arith, same, l))
+      lt-ltb (new_place S.csets p) (length (pruned_tables keep T).csets) (omega (arith, same, l))
 
-  in_integers : (p : ℕ) → Finds S.integers p → nat_lt (new_place S.integers p) (length (pruned keep T).integers) ≡ true
+  in_integers : (p : ℕ) → Finds S.integers p → nat_lt (new_place S.integers p) (length (pruned_tables keep T).integers) ≡ true
   in_integers p f = let same = length-map S.integers (λ place. slice_index_or T.integers place (pos 0)) in let l = f.below in
-      lt-ltb (new_place S.integers p) (length (pruned keep T).integers) (omega (arith, same, l))
+      lt-ltb (new_place S.integers p) (length (pruned_tables keep T).integers) (omega (arith, same, l))
 
-  in_fields : (p : ℕ) → Finds S.fields p → nat_lt (new_place S.fields p) (length (pruned keep T).fields) ≡ true
+  in_fields : (p : ℕ) → Finds S.fields p → nat_lt (new_place S.fields p) (length (pruned_tables keep T).fields) ≡ true
   in_fields p f = let same = length-map S.fields (λ place. new_place S.strings (slice_index_or T.fields place 0)) in let l = f.below in
-      lt-ltb (new_place S.fields p) (length (pruned keep T).fields) (omega (arith, same, l))
+      lt-ltb (new_place S.fields p) (length (pruned_tables keep T).fields) (omega (arith, same, l))
 
-  in_globals : (p : ℕ) → Finds S.globals p → nat_lt (new_place S.globals p) (length (pruned keep T).globals) ≡ true
+  in_globals : (p : ℕ) → Finds S.globals p → nat_lt (new_place S.globals p) (length (pruned_tables keep T).globals) ≡ true
   in_globals p f = let same = length-map S.globals (λ place. global_left S (global_at T place)) in let l = f.below in
-      lt-ltb (new_place S.globals p) (length (pruned keep T).globals) (omega (arith, same, l))
+      lt-ltb (new_place S.globals p) (length (pruned_tables keep T).globals) (omega (arith, same, l))
 
-  in_procs : (p : ℕ) → Finds S.procs p → nat_lt (new_place S.procs p) (length (pruned keep T).procs) ≡ true
+  in_procs : (p : ℕ) → Finds S.procs p → nat_lt (new_place S.procs p) (length (pruned_tables keep T).procs) ≡ true
   in_procs p f =
       let same = length-map procs (proc_left S) in
       let many = as_many_kept 0 keep T.procs k.as_many in
       let l = f.below in
-      lt-ltb (new_place S.procs p) (length (pruned keep T).procs) (omega (arith, same, many, l))
+      lt-ltb (new_place S.procs p) (length (pruned_tables keep T).procs) (omega (arith, same, many, l))
 
   -- Each table
 
   records_kept : (ks : List RecordType) → list_all (is_record (length T.strings) (length T.fields)) ks ≡ true
       → Each (Finds S.strings) (map (λ (kind : RecordType). kind.name) ks) → Each (Finds S.fields) (flat_map (λ (kind : RecordType). kind.fields) ks)
-      → list_all (is_record (length (pruned keep T).strings) (length (pruned keep T).fields)) (map (record_left S) ks) ≡ true
+      → list_all (is_record (length (pruned_tables keep T).strings) (length (pruned_tables keep T).fields)) (map (record_left S) ks) ≡ true
   records_kept [] h n f = refl
   records_kept (kind ∷ ks) h n f =
       let t = and_parts (is_record (length T.strings) (length T.fields) kind) (list_all (is_record (length T.strings) (length T.fields)) ks) h in
@@ -349,17 +349,17 @@ module _ (T : Tables) (keep : List Bool) (r : AreRuled T) (k : MayBeKept T keep)
       (and_from _ _ (and_from _ _ (in_strings kind.name n.0)
       (within_most (length (map (new_place S.fields) kind.fields)) (length kind.fields) most_fields
       (mapped_few (new_place S.fields) kind.fields (length kind.fields) (omega arith)) (and_parts _ _ u.0).1))
-      (all_indexed (λ field. nat_lt field (length (pruned keep T).fields)) (new_place S.fields) (Finds S.fields) in_fields kind.fields
+      (all_indexed (λ field. nat_lt field (length (pruned_tables keep T).fields)) (new_place S.fields) (Finds S.fields) in_fields kind.fields
       (each_first (Finds S.fields) kind.fields (flat_map (λ (kind : RecordType). kind.fields) ks) f)))
       (records_kept ks t.1 n.1 (each_second (Finds S.fields) kind.fields (flat_map (λ (kind : RecordType). kind.fields) ks) f))
 
   start_kept : (held : Bool) (start : Start) → is_start (length T.records) (length T.procs) start ≡ true → start_stays keep held start ≡ true
-      → is_start (length (pruned keep T).records) (length (pruned keep T).procs) (start_left S start) ≡ true
+      → is_start (length (pruned_tables keep T).records) (length (pruned_tables keep T).procs) (start_left S start) ≡ true
   start_kept held Null h s = refl
   start_kept held (Function func) h s = refl
   start_kept held (Record number) h s =
       let same = length-map T.records (record_left S) in let l = ltb-true number (length T.records) h in
-      lt-ltb number (length (pruned keep T).records) (omega (arith, same, l))
+      lt-ltb number (length (pruned_tables keep T).records) (omega (arith, same, l))
   start_kept held (Procedure number) h s = in_procs number (kept_found keep number procs_few s)
 
   abbrev pub BeginsSo : ℕ → Type 0
@@ -372,10 +372,10 @@ module _ (T : Tables) (keep : List Bool) (r : AreRuled T) (k : MayBeKept T keep)
   global_names_found = each_unmapped (Finds S.strings) (λ place. Finds S.strings (global_at T place).name) (λ place. (global_at T place).name) (λ place h. h)
       S.globals (each_first (Finds S.strings) (map (λ place. (global_at T place).name) S.globals) behind_globals found_behind_records)
 
-  globals_kept : list_all (is_global (length (pruned keep T).strings) (length (pruned keep T).records) (length (pruned keep T).procs))
-      (pruned keep T).globals ≡ true
+  globals_kept : list_all (is_global (length (pruned_tables keep T).strings) (length (pruned_tables keep T).records) (length (pruned_tables keep T).procs))
+      (pruned_tables keep T).globals ≡ true
   globals_kept =
-      all_indexed (is_global (length (pruned keep T).strings) (length (pruned keep T).records) (length (pruned keep T).procs))
+      all_indexed (is_global (length (pruned_tables keep T).strings) (length (pruned_tables keep T).records) (length (pruned_tables keep T).procs))
       (λ place. global_left S (global_at T place))
       (λ place. ((place < length T.globals) × Finds S.strings (global_at T place).name) × BeginsSo place)
       (λ place h. and_from _ _ (in_strings (global_at T place).name h.0.1)
@@ -387,14 +387,14 @@ module _ (T : Tables) (keep : List Bool) (r : AreRuled T) (k : MayBeKept T keep)
       globals_begin)
 
   same_names : (l : List ℕ) → Each (λ place. Finds S.strings (global_at T place).name) l
-      → map (name_of (pruned keep T).strings) (map (λ place. global_left S (global_at T place)) l) ≡ map (λ place. name_of T.strings (global_at T place)) l
+      → map (name_of (pruned_tables keep T).strings) (map (λ place. global_left S (global_at T place)) l) ≡ map (λ place. name_of T.strings (global_at T place)) l
   same_names [] e = refl
   same_names (place ∷ l) e =
-      ap (λ name. name ∷ map (name_of (pruned keep T).strings) (map (λ other. global_left S (global_at T other)) l))
+      ap (λ name. name ∷ map (name_of (pruned_tables keep T).strings) (map (λ other. global_left S (global_at T other)) l))
       (looked_up (λ other. slice_index_or T.strings other []) S.strings [] (global_at T place).name e.0)
       ∙ ap (λ names. name_of T.strings (global_at T place) ∷ names) (same_names l e.1)
 
-  names_kept : names_differ (map (name_of (pruned keep T).strings) (pruned keep T).globals) ≡ true
+  names_kept : names_differ (map (name_of (pruned_tables keep T).strings) (pruned_tables keep T).globals) ≡ true
   names_kept = ap names_differ (same_names S.globals global_names_found)
       ∙ still_differ keep mentioned (global_at T) (name_of T.strings) 0 T.globals looks r.names
 
@@ -407,7 +407,7 @@ module _ (T : Tables) (keep : List Bool) (r : AreRuled T) (k : MayBeKept T keep)
 
   instr_kept : (p : Proc) (i : Instr) → is_instr T p i ≡ true → Each (Finds S.strings) (string_in i) → Each (Finds S.csets) (cset_in i)
       → Each (Finds S.integers) (integer_in i) → Each (Finds S.fields) (field_in i) → Each (Finds S.globals) (global_in i)
-      → is_instr (pruned keep T) (proc_left S p) (instr_left S i) ≡ true
+      → is_instr (pruned_tables keep T) (proc_left S p) (instr_left S i) ≡ true
   instr_kept p (I.Int place) h s c n f g = in_integers place n.0
   instr_kept p (I.Str place) h s c n f g = in_strings place s.0
   instr_kept p (I.Cset place) h s c n f g = in_csets place c.0
@@ -427,7 +427,7 @@ module _ (T : Tables) (keep : List Bool) (r : AreRuled T) (k : MayBeKept T keep)
 
   instrs_kept : (p : Proc) (is : List Instr) → list_all (is_instr T p) is ≡ true → Each (Finds S.strings) (flat_map string_in is)
       → Each (Finds S.csets) (flat_map cset_in is) → Each (Finds S.integers) (flat_map integer_in is) → Each (Finds S.fields) (flat_map field_in is)
-      → Each (Finds S.globals) (flat_map global_in is) → list_all (is_instr (pruned keep T) (proc_left S p)) (map (instr_left S) is) ≡ true
+      → Each (Finds S.globals) (flat_map global_in is) → list_all (is_instr (pruned_tables keep T) (proc_left S p)) (map (instr_left S) is) ≡ true
   instrs_kept p [] h s c n f g = refl
   instrs_kept p (i ∷ is) h s c n f g =
       let t = and_parts (is_instr T p i) (list_all (is_instr T p) is) h in
@@ -440,7 +440,7 @@ module _ (T : Tables) (keep : List Bool) (r : AreRuled T) (k : MayBeKept T keep)
       (each_second (Finds S.csets) (cset_in i) (flat_map cset_in is) c) (each_second (Finds S.integers) (integer_in i) (flat_map integer_in is) n)
       (each_second (Finds S.fields) (field_in i) (flat_map field_in is) f) (each_second (Finds S.globals) (global_in i) (flat_map global_in is) g))
 
-  head_kept : (p : Proc) → is_head (length T.strings) p ≡ true → Finds S.strings p.name → is_head (length (pruned keep T).strings) (proc_left S p) ≡ true
+  head_kept : (p : Proc) → is_head (length T.strings) p ≡ true → Finds S.strings p.name → is_head (length (pruned_tables keep T).strings) (proc_left S p) ≡ true
   head_kept p h f =
       let a = and_parts _ _ h in
       let b = and_parts _ _ a.0 in
@@ -452,7 +452,7 @@ module _ (T : Tables) (keep : List Bool) (r : AreRuled T) (k : MayBeKept T keep)
   procs_kept : (ps : List Proc) → list_all (is_proc T) ps ≡ true → Each (Finds S.strings) (map (λ (entry : Proc). entry.name) ps)
       → Each (Finds S.strings) (taken_by string_in ps) → Each (Finds S.csets) (taken_by cset_in ps) → Each (Finds S.integers) (taken_by integer_in ps)
       → Each (Finds S.fields) (taken_by field_in ps) → Each (Finds S.globals) (taken_by global_in ps)
-      → list_all (is_proc (pruned keep T)) (map (proc_left S) ps) ≡ true
+      → list_all (is_proc (pruned_tables keep T)) (map (proc_left S) ps) ≡ true
   procs_kept [] h m s c n f g = refl
   procs_kept (p ∷ ps) h m s c n f g =
       let t = and_parts (is_proc T p) (list_all (is_proc T) ps) h in
@@ -472,35 +472,35 @@ module _ (T : Tables) (keep : List Bool) (r : AreRuled T) (k : MayBeKept T keep)
 
   -- All rules
 
-  counts_kept : are_counts number_limit (pruned keep T) ≡ true
+  counts_kept : are_counts number_limit (pruned_tables keep T) ≡ true
   counts_kept =
       let t = and_parts _ _ are_few.6 in
       let u = and_parts _ _ t.0 in
-      let many : length (pruned keep T).procs ≤ length T.procs = mapped_few (proc_left S) procs (length T.procs) (fewer_kept keep T.procs) in
+      let many : length (pruned_tables keep T).procs ≤ length T.procs = mapped_few (proc_left S) procs (length T.procs) (fewer_kept keep T.procs) in
       and_from _ _ (and_from _ _ (and_from _ _ (and_from _ _ (and_from _ _ (and_from _ _
-      (below_limit (length (pruned keep T).strings) (length T.strings) number_limit
+      (below_limit (length (pruned_tables keep T).strings) (length T.strings) number_limit
       (mapped_few (λ place. slice_index_or T.strings place []) S.strings (length T.strings)
       (few_left (length T.strings) string_mentions strings_few string_mentions_there)) are_few.0)
-      (below_limit (length (pruned keep T).csets) (length T.csets) number_limit
+      (below_limit (length (pruned_tables keep T).csets) (length T.csets) number_limit
       (mapped_few (λ place. slice_index_or T.csets place no_cset) S.csets (length T.csets)
       (few_left (length T.csets) (taken_by cset_in procs) csets_few (csets_there T procs ruled))) are_few.1))
-      (below_limit (length (pruned keep T).integers) (length T.integers) number_limit
+      (below_limit (length (pruned_tables keep T).integers) (length T.integers) number_limit
       (mapped_few (λ place. slice_index_or T.integers place (pos 0)) S.integers (length T.integers)
       (few_left (length T.integers) (taken_by integer_in procs) integers_few (integers_there T procs ruled))) are_few.2))
-      (within_most (length (pruned keep T).fields) (length T.fields) most_fields
+      (within_most (length (pruned_tables keep T).fields) (length T.fields) most_fields
       (mapped_few (λ place. new_place S.strings (slice_index_or T.fields place 0)) S.fields (length T.fields)
       (few_left (length T.fields) field_mentions fields_few field_mentions_there)) are_few.3))
-      (within_most (length (pruned keep T).records) (length T.records) most_fields
+      (within_most (length (pruned_tables keep T).records) (length T.records) most_fields
       (mapped_few (record_left S) T.records (length T.records) (omega arith)) are_few.4))
-      (below_limit (length (pruned keep T).globals) (length T.globals) number_limit
+      (below_limit (length (pruned_tables keep T).globals) (length T.globals) number_limit
       (mapped_few (λ place. global_left S (global_at T place)) S.globals (length T.globals)
       (subst (λ l. length l ≤ length T.globals) globals_once (few_left (length T.globals) S.globals globals_few staying_within))) are_few.5))
-      (and_from _ _ (and_from _ _ (below_limit (length (pruned keep T).procs) (length T.procs) number_limit many u.0)
-      (within_most (length (pruned keep T).procs) (length T.procs) most_procedures many u.1))
-      (within_most (sum_by (λ (p : Proc). p.statics) (pruned keep T).procs) (sum_by (λ (p : Proc). p.statics) T.procs) most_statics
+      (and_from _ _ (and_from _ _ (below_limit (length (pruned_tables keep T).procs) (length T.procs) number_limit many u.0)
+      (within_most (length (pruned_tables keep T).procs) (length T.procs) most_procedures many u.1))
+      (within_most (sum_by (λ (p : Proc). p.statics) (pruned_tables keep T).procs) (sum_by (λ (p : Proc). p.statics) T.procs) most_statics
       (fewer_statics S keep T.procs) t.1))
 
-  pub pruned_ruled : AreRuled (pruned keep T)
+  pub pruned_ruled : AreRuled (pruned_tables keep T)
   pruned_ruled = record {
     counts = counts_kept;
     strings = all_indexed (is_string_below number_limit) (λ place. slice_index_or T.strings place []) (λ n. n < length T.strings)
@@ -509,7 +509,7 @@ module _ (T : Tables) (keep : List Bool) (r : AreRuled T) (k : MayBeKept T keep)
         (λ place l. passes_at is_cset T.csets no_cset place r.csets l) S.csets csets_within;
     integers = all_indexed is_integer (λ place. slice_index_or T.integers place (pos 0)) (λ n. n < length T.integers)
         (λ place l. passes_at is_integer T.integers (pos 0) place r.integers l) S.integers integers_within;
-    fields = all_indexed (λ name. nat_lt name (length (pruned keep T).strings)) (λ place. new_place S.strings (slice_index_or T.fields place 0))
+    fields = all_indexed (λ name. nat_lt name (length (pruned_tables keep T).strings)) (λ place. new_place S.strings (slice_index_or T.fields place 0))
         (λ place. Finds S.strings (slice_index_or T.fields place 0)) (λ place h. in_strings (slice_index_or T.fields place 0) h) S.fields
         (each_unmapped (Finds S.strings) (λ place. Finds S.strings (slice_index_or T.fields place 0)) (λ place. slice_index_or T.fields place 0) (λ place h. h)
         S.fields (each_first (Finds S.strings) (map (λ place. slice_index_or T.fields place 0) S.fields) behind_fields strings_found));
@@ -523,5 +523,5 @@ module _ (T : Tables) (keep : List Bool) (r : AreRuled T) (k : MayBeKept T keep)
         (each_second (Finds S.fields) (flat_map (λ (kind : RecordType). kind.fields) T.records) (taken_by field_in procs) fields_found) mentions_found;
   }
 
-pub pruned_keeps_rules : (T : Tables) (keep : List Bool) → keeps_rules T ≡ true → MayBeKept T keep → keeps_rules (pruned keep T) ≡ true
-pruned_keeps_rules T keep h k = all_rules (pruned keep T) (pruned_ruled T keep (each_rule T h) k)
+pub pruned_keeps_rules : (T : Tables) (keep : List Bool) → keeps_rules T ≡ true → MayBeKept T keep → keeps_rules (pruned_tables keep T) ≡ true
+pruned_keeps_rules T keep h k = all_rules (pruned_tables keep T) (pruned_ruled T keep (each_rule T h) k)

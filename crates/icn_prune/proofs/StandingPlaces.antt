@@ -7,7 +7,7 @@ use Rattle.std.proofs.lemmas.Bool.Decides.{eqb_tells}
 use Rattle.std.proofs.lemmas.List.Sums.{position_or_len_is}
 use Rattle.std.proofs.lemmas.Option.{get_or_from_slice_get, none-some, slice_get-get_or, slice_get_past, slice_get_within}
 use Rattle.icn_prune.specs.PrunedCode.{new_place, with_place}
-use Rattle.icn_prune.specs.Renumbering.{ArePlaces, unset}
+use Rattle.icn_prune.specs.Renumbering.{ArePlaces, unset_count}
 
 -- Items at places
 
@@ -97,7 +97,7 @@ set_long (x ∷ new) zero o = refl
 set_long (x ∷ new) (suc p) o = ap suc (set_long new p o)
 
 -- one that had no new place has one
-unset_fewer : (new : List (Option ℕ)) (p m : ℕ) → slice_get new p ≡ Some None → suc (unset (slice_set new p (Some m))) ≡ unset new
+unset_fewer : (new : List (Option ℕ)) (p m : ℕ) → slice_get new p ≡ Some None → suc (unset_count (slice_set new p (Some m))) ≡ unset_count new
 unset_fewer [] p m g = absurd (cc)
 unset_fewer (None ∷ new) zero m g = refl
 unset_fewer (Some x ∷ new) zero m g = absurd (cc)
@@ -109,7 +109,7 @@ none_at zero p at g = cc
 none_at (suc n) zero at g = cc
 none_at (suc n) (suc p) at g = none_at n p at g
 
-none_unset : (n : ℕ) → unset (replicate n None) ≡ n
+none_unset : (n : ℕ) → unset_count (replicate n None) ≡ n
 none_unset zero = refl
 none_unset (suc n) = ap suc (none_unset n)
 

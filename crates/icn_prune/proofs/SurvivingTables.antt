@@ -11,7 +11,7 @@ use Rattle.icn_code.specs.Codes.{Proc, RecordType, Tables}
 use Rattle.icn_code.specs.Rules.{is_global, is_proc, keeps_rules}
 use Rattle.icn_prune.specs.declared.places.Places.{Places}
 use Rattle.icn_prune.specs.KeptCode.{MayBeKept, globals_in}
-use Rattle.icn_prune.specs.PrunedCode.{Survivors, cset_in, field_in, fields_left, global_at, global_left, globals_from, instr_left, integer_in, kept_from_place, kept_procs, new_place, no_cset, proc_left, pruned, record_left, start_stays, string_in, strings_left, survivors, tables_left, taken_by, with_places}
+use Rattle.icn_prune.specs.PrunedCode.{Survivors, cset_in, field_in, fields_left, global_at, global_left, globals_from, instr_left, integer_in, kept_from_place, kept_procs, new_place, no_cset, proc_left, pruned_tables, record_left, start_stays, string_in, strings_left, survivors, tables_left, taken_by, with_places}
 use Rattle.icn_prune.proofs.AscendingPlaces.{globals_ascend, globals_within, kept_within, with_ascending}
 use Rattle.icn_prune.proofs.KeptEntries.{fields_there, kept_ruled, names_there, strings_there}
 use Rattle.icn_prune.proofs.LeastSets.{Each, all_of, each_join, each_of, each_so, item_and_rest, slice_item}
@@ -244,7 +244,7 @@ pub record Left (T : Tables) (keep : List Bool) (S : Survivors) (L : Tables) : T
   pub globals : L.globals ≡ map (λ place. global_left S (global_at T place)) S.globals
   pub procs : L.procs ≡ map (proc_left S) (kept_procs keep T.procs)
 
-pub left_is : (T : Tables) (keep : List Bool) (S : Survivors) (L : Tables) → Left T keep S L → S ≡ survivors T keep → L ≡ pruned keep T
+pub left_is : (T : Tables) (keep : List Bool) (S : Survivors) (L : Tables) → Left T keep S L → S ≡ survivors T keep → L ≡ pruned_tables keep T
 left_is T keep S L l e =
     (λ i. record {
       strings = l.strings i;

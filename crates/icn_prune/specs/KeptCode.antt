@@ -7,7 +7,7 @@ use Rattle.icn_code.specs.declared.instr.Instr.{Instr}
 use Rattle.icn_code.specs.declared.instr.Instr.TheVariants.{Global as GlobalAt}
 use Rattle.icn_code.specs.Codes.{Proc, Tables}
 use Rattle.icn_code.specs.MainProcedure.{procedure_at, main_of}
-use Rattle.icn_defs.specs.KeptProcedures.{Mentioned, IsClosed, IsIn, kept_from}
+use Rattle.icn_defs.specs.KeptProcedures.{MentionLists, IsClosed, IsIn, kept_from}
 
 -- the global that an instruction pushes, if it pushes one
 abbrev pub global_in : Instr → List ℕ
@@ -33,7 +33,7 @@ abbrev pub mentioned_in : Tables → Proc → List ℕ
 mentioned_in tables entry = flat_map (procedure_of_global tables) (globals_in entry)
 
 -- what each procedure of a code mentions
-abbrev pub mentioned_by : Tables → Mentioned
+abbrev pub mentioned_by : Tables → MentionLists
 mentioned_by tables = map (mentioned_in tables) tables.procs
 
 -- the procedures that are kept for their own sake: `main` and those that are named, or all of them

@@ -211,5 +211,5 @@ tables_left tables keep S = record {
 
 -- The pruned code: it has the kept procedures and all constructors; of the globals, in their order, those that stay; and of the other
 -- tables what these mention, by first mention.
-abbrev pub pruned : List Bool → Tables → Tables
-pruned keep tables = tables_left tables keep (survivors tables keep)
+abbrev pub pruned_tables : List Bool → Tables → Tables
+pruned_tables keep tables = tables_left tables keep (survivors tables keep)

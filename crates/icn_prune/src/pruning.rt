@@ -2,7 +2,7 @@
 ghost use Rattle.std.specs.Prelude.{◌≡◌, IfOk};
 ghost use Rattle.icn_code.specs.CodeTables.{tables_of};
 ghost use Rattle.icn_prune.specs.KeptCode.{MayBeKept};
-ghost use Rattle.icn_prune.specs.PrunedCode.{pruned, survivors};
+ghost use Rattle.icn_prune.specs.PrunedCode.{pruned_tables, survivors};
 ghost use Rattle.icn_prune.specs.PlaceViews.{survivors_seen};
 
 use crate::entries::kept_procs;
@@ -20,7 +20,7 @@ use std::alloc::{AllocError, Global};
 /// code is dropped then.
 pub fn prune(alloc: Global, code: Code, keep: &[bool]) -> Result<Code, AllocError>
     requires kept { MayBeKept (tables_of code) keep.now }
-    ensures { IfOk result (λ left. tables_of left ≡ pruned keep.now (tables_of code)) }
+    ensures { IfOk result (λ left. tables_of left ≡ pruned_tables keep.now (tables_of code)) }
 {
     let left = survivors(alloc, &code, keep)?;
     prune_with(alloc, &code, keep, &left)
@@ -35,7 +35,7 @@ fn prune_with(
 ) -> Result<Code, AllocError>
     requires kept { MayBeKept (tables_of code.now) keep.now }
     requires left { survivors_seen left.now ≡ survivors (tables_of code.now) keep.now }
-    ensures { IfOk result (λ pruned_code. tables_of pruned_code ≡ pruned keep.now (tables_of code.now)) }
+    ensures { IfOk result (λ pruned_code. tables_of pruned_code ≡ pruned_tables keep.now (tables_of code.now)) }
 {
     pruned_code_fits();
     let strings = strings_left(alloc, code, left)?;

@@ -5,7 +5,6 @@ mod WorkLeft
 mod LoopSteps
 mod NamedOrNot
 mod Observations
-mod RecordCounts
 mod RecordNumbers
 mod RunAnswers
 mod Starts

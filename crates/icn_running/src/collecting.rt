@@ -6,8 +6,11 @@ ghost use Rattle.icn_running.specs.SameMachines.{StandsForSame};
 use icn_control::Machine;
 use icn_frames::{Cell, Stack};
 
-/// How many bytes of texts may be held before memory is given back, at least and as a run begins.
-pub const FIRST_BOUND: u64 = 262144;
+// How many bytes of texts may be held before memory is given back, at least and as a run begins.
+const FIRST_BYTES: u64 = 262144;
+
+// How many cells may be charged before memory is given back, at least and as a run begins.
+const FIRST_CELLS: u64 = 16384;
 
 // How many bytes may be built for each text that stayed, and for each value that was looked at: so finding them takes no more than a part of the time in
 // which the bytes are built.
@@ -15,19 +18,46 @@ const BYTES_FOR_TEXT: u64 = 64;
 
 const BYTES_FOR_VALUE: u64 = 8;
 
+/// When memory is to be given back again.
+#[derive(Clone, Copy, Debug)]
+pub struct CollectionBounds {
+    /// Once so many bytes of texts are held.
+    bytes: u64,
+    /// Once so many cells are charged.
+    cells: u64,
+}
+
+impl CollectionBounds {
+    /// As a run begins.
+    pub fn first() -> CollectionBounds {
+        CollectionBounds {
+            bytes: FIRST_BYTES,
+            cells: FIRST_CELLS,
+        }
+    }
+}
+
 // How many bytes of texts may be held, where so many were, so many texts stayed and so many values were looked at.
-fn next_bound(held: u64, texts: u64, values: u64) -> u64 {
+fn next_bytes(held: u64, texts: u64, values: u64) -> u64 {
     let looked = texts
         .saturating_mul(BYTES_FOR_TEXT)
         .saturating_add(values.saturating_mul(BYTES_FOR_VALUE));
     let bound = held.saturating_mul(2).saturating_add(looked);
-    if bound < FIRST_BOUND {
-        return FIRST_BOUND;
+    if bound < FIRST_BYTES {
+        return FIRST_BYTES;
     }
     bound
 }
 
-// Gives back the memory of texts that nothing reaches, and gives how many stay; where memory is wanting for it, nothing is given back.
+// How many cells may be charged, where so many were, and so many values were looked at.
+fn next_cells(charged: u64, values: u64) -> u64 {
+    if values < FIRST_CELLS {
+        return charged.saturating_add(FIRST_CELLS);
+    }
+    charged.saturating_add(values)
+}
+
+// Gives back the memory of what nothing reaches, and gives how many texts stay. Where memory is wanting for it, texts stay.
 fn give_back<K: Stack<Cell> + Drop>(m: &mut Machine<K>) -> u64
     requires { (tables : Tables) × IsSoundMachine tables m.old }
     ensures { StandsForSame m.old m.new }
@@ -40,22 +70,26 @@ fn give_back<K: Stack<Cell> + Drop>(m: &mut Machine<K>) -> u64
 
 // Gives it back, and sets the next bound.
 #[inline(never)]
-fn collect<K: Stack<Cell> + Drop>(m: &mut Machine<K>, bound: &mut u64)
+fn collect<K: Stack<Cell> + Drop>(m: &mut Machine<K>, due: &mut CollectionBounds)
     requires { (tables : Tables) × IsSoundMachine tables m.old }
     ensures { StandsForSame m.old m.new }
 {
     let texts = give_back(m);
-    *bound = next_bound(m.world.heap.held_bytes(), texts, m.held_values());
+    let values = m.held_values();
+    *due = CollectionBounds {
+        bytes: next_bytes(m.world.heap.held_bytes(), texts, values),
+        cells: next_cells(m.world.heap.charged_cells(), values),
+    };
 }
 
-/// Gives back the memory of texts that nothing reaches, where as many bytes are held as the bound says, and sets the next bound. Where memory is wanting
-/// for it, nothing is given back.
+/// Gives back the memory of what nothing reaches, where as many bytes are held or cells charged as `due` says, and sets when it
+/// is due again. Where memory is wanting for it, texts stay.
 #[inline(always)]
-pub fn collect_if_due<K: Stack<Cell> + Drop>(m: &mut Machine<K>, bound: &mut u64)
+pub fn collect_if_due<K: Stack<Cell> + Drop>(m: &mut Machine<K>, due: &mut CollectionBounds)
     requires { (tables : Tables) × IsSoundMachine tables m.old }
     ensures { StandsForSame m.old m.new }
 {
-    if m.world.heap.held_bytes() >= *bound {
-        collect(m, bound);
+    if m.world.heap.held_bytes() >= due.bytes || m.world.heap.charged_cells() >= due.cells {
+        collect(m, due);
     }
 }

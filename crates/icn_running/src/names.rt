@@ -2,7 +2,7 @@
 ghost use Rattle.std.specs.Prelude.{◌≡◌, nat_lt, slice_get, slice_index_or, unwrap_or, []};
 ghost use Rattle.icn_code.specs.CodeTables.{tables_of};
 ghost use Rattle.icn_defs.specs.Images.{record_name};
-ghost use Rattle.icn_heap.specs.Extents.{IsLive};
+ghost use Rattle.icn_heap.specs.Extents.{IsLive, IsMade};
 ghost use Rattle.icn_heap.specs.Heaps.{extent_of, heap_of};
 ghost use Rattle.icn_value.specs.declared.val.Val.TheVariants.{Rec};
 ghost use Rattle.icn_convert.specs.ProgramNames.{name_count};
@@ -32,6 +32,14 @@ fn kind_name(code: &Code, kind: u16) -> &[u8]
     } else {
         &[]
     }
+}
+
+/// The name of a record, whether it is there still or not.
+pub fn made_name<'a>(code: &'a Code, heap: &Heap, id: u32) -> &'a [u8]
+    requires { IsMade (extent_of heap.now) (Rec id) }
+    ensures { result.now ≡ record_name (all_names (tables_of code.now)) (heap_of heap.now) id }
+{
+    kind_name(code, heap.kind_made(id))
 }
 
 /// The name of a record.

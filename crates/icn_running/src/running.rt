@@ -9,10 +9,10 @@ ghost use Rattle.icn_machine.specs.AfterInstruction.{stage_of, stage_result};
 ghost use Rattle.icn_running.specs.WorkLeft.{Lasts, MadeTurn};
 ghost use Rattle.icn_running.specs.DueInstructions.{is_on, is_within};
 
-use crate::collecting::{FIRST_BOUND, collect_if_due};
+use crate::collecting::{CollectionBounds, collect_if_due};
 use icn_control::Machine;
 use icn_frames::{Cell, Stack};
-use icn_machine::{AfterStep, Rooms, step};
+use icn_machine::{AfterStep, Rooms, finish_step, is_unfinished, step_at_once};
 use icn_streams::Streams;
 use icn_vars::Halt;
 use icn_verify::Verified;
@@ -57,9 +57,9 @@ pub fn run_on<K: Stack<Cell> + Drop, S: Streams>(
     ensures limits { m.new.limits ≡ m.old.limits }
 {
     let mut stepped = AfterStep::Running;
-    let mut bound = FIRST_BOUND;
+    let mut due = CollectionBounds::first();
     while is_on(stepped) {
-        collect_if_due(m, &mut bound);
+        collect_if_due(m, &mut due);
         stepped = run_to_turn(m, code, rooms, streams)?;
     }
     Ok(stepped)
@@ -87,7 +87,10 @@ fn run_to_turn<K: Stack<Cell> + Drop, S: Streams>(
     let turns = m.turns;
     let mut stepped = AfterStep::Running;
     while is_within(stepped, m.turns, turns) {
-        stepped = step(m, code, rooms, streams)?;
+        let done = step_at_once(m, code);
+        if is_unfinished(done) {
+            stepped = finish_step(m, done, code, rooms, streams)?;
+        }
     }
     Ok(stepped)
 }

@@ -13,7 +13,7 @@ ghost use Rattle.icn_convert.specs.ProgramNames.{AreRecordsNamed, name_count};
 ghost use Rattle.icn_run.specs.Step.{all_names};
 ghost use Rattle.icn_running.specs.PlainValues.{IsPlain};
 
-use crate::names::{has_name, record_name};
+use crate::names::{has_name, made_name, record_name};
 use icn_apply::CodeNames;
 use icn_code::Code;
 use icn_convert::{image, push_file};
@@ -162,7 +162,7 @@ fn record_number(code: &Code, heap: &Heap, id: u32) -> u64
     let name = record_name(code, heap, id);
     let mut number = 1;
     for other in 0..id {
-        if record_name(code, heap, other) == name {
+        if made_name(code, heap, other) == name {
             number += 1;
         }
     }

@@ -10,3 +10,4 @@ pub mod ReadableFiles
 pub mod RowAnswers
 pub mod SettledRows
 pub mod InputCounts
+pub mod FirstNewline

@@ -1,8 +1,8 @@
 -- What the part of a row comes to that reads an opened file.
-use Rattle.std.proofs.Common.{◌≡◌, ◌∙◌, sym, ap, subst, ℕ, ◌+◌, ◌≤◌, true, false, List, Option, Result, Ok, Err, length, take, arith, take_while, length-drop, length-take, le-ltb, lt-ltb}
-use Rattle.std.specs.Prelude.{◌==◌, min, not, IsErrAnd}
+use Rattle.std.proofs.Common.{◌≡◌, ◌∙◌, refl, sym, ap, subst, ℕ, zero, suc, ◌+◌, ◌≤◌, true, false, List, [], ◌∷◌, Option, Result, Ok, Err, drop, length, take, arith, take_while, length-drop, length-take, le-ltb, lt-ltb}
+use Rattle.std.specs.Prelude.{◌==◌, min, not, slice_get, slice_set, unwrap_or, IsErrAnd}
 use Rattle.icn_value.specs.declared.val.Span.{Span}
-use Rattle.icn_value.specs.Store.{Request, ALine, SomeBytes, OpenedFile, Setting, file_at, having_heap, with_opened}
+use Rattle.icn_value.specs.Store.{Request, ALine, SomeBytes, OpenedFile, Setting, file_at, having_heap, no_file, with_opened}
 use Rattle.icn_defs.specs.Calls.{Passes}
 use Rattle.icn_defs.specs.Interruptions.{asked_of}
 use Rattle.icn_defs.specs.Lines.{takes_opened}
@@ -119,6 +119,26 @@ pub moved_so : (asked : Request) (number : ℕ) (before moved : Setting) (file :
 moved_so asked number before moved file at place same goes =
     goes ∙ ap (λ (f : OpenedFile). having_heap (with_opened number (read_up_to place f)) before) (sym at)
     ∙ ap (λ (p : ℕ). having_heap (with_opened number (read_up_to p file)) before) same
+
+-- what a file holds stays, wherever its place is moved to
+pub content_stays : (files : List OpenedFile) (number place : ℕ)
+    → (unwrap_or (slice_get (slice_set files number (record (unwrap_or (slice_get files number) no_file) { place = place })) number) no_file).content
+    ≡ (unwrap_or (slice_get files number) no_file).content
+content_stays [] number place = refl
+content_stays (file ∷ files) zero place = refl
+content_stays (file ∷ files) (suc number) place = content_stays files number place
+
+-- a first part of what is left is a part of what the file holds, and so many bytes
+pub part_within : (file : OpenedFile) (content : List ℕ) (from len : ℕ) → content ≡ file.content → file.place ≤ length file.content → from ≡ file.place
+    → len ≤ length (left_in file) → from + len ≤ length content
+part_within file content from len same within at few = omega (arith, within, length-drop file.place file.content, ap length same, at, few)
+
+pub part_read : (file : OpenedFile) (content : List ℕ) (from len : ℕ) → content ≡ file.content → from ≡ file.place
+    → take len (drop from content) ≡ take len (left_in file)
+part_read file content from len same at = ap (λ (bytes : List ℕ). take len (drop from bytes)) same ∙ ap (λ (place : ℕ). take len (drop place file.content)) at
+
+pub part_length : (left read : List ℕ) (len : ℕ) → len ≤ length left → take len left ≡ read → len ≡ length read
+part_length left read len few same = omega (arith, few, length-take len left, ap length same)
 
 -- whether there is something, by how much is taken
 

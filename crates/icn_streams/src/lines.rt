@@ -53,7 +53,7 @@ pub fn lines_row<L: Locals, I: Source, O: Sink, E: Sink>(
 {
     match readable(&w.heap, file) {
         Some(ReadFrom::Input) => input_lines(w, l, buffer, input, out, err),
-        Some(ReadFrom::Opened(number)) => opened_lines(number, w, l, buffer),
+        Some(ReadFrom::Opened(number)) => opened_lines(number, w, l),
         None => Err(Halt::Error(212, Some(Val::Std(file)))),
     }
 }
@@ -103,18 +103,13 @@ fn next_line<L: Locals, I: Source>(
 }
 
 // The next line of an opened file that may be read.
-fn opened_lines<L: Locals>(
-    number: u32,
-    w: &mut World,
-    l: &L,
-    buffer: &mut Vec<u8>,
-) -> Result<Outcome, Halt>
+fn opened_lines<L: Locals>(number: u32, w: &mut World, l: &L) -> Result<Outcome, Halt>
     requires locals { All (IsLive (extent_of w.old.heap)) (L.items l.now) }
     requires file { IsLive (extent_of w.old.heap) (Std (Opened number)) }
     ensures { (handed : CallStreams) → Applies (lines_from number) (call_state w.old (L.items l.now) handed)
         (call_state w.new (L.items l.now) handed) result }
 {
-    match read_opened(Ask::Line, number, w, l, buffer)? {
+    match read_opened(Ask::Line, number, w, l)? {
         Some(line) => Ok(Outcome::Suspends(
             Item::Val(Val::Text(line)),
             Residual::FileLines {

@@ -1,27 +1,28 @@
 // Reading a text from a file that the program opened.
-ghost use Rattle.std.specs.Prelude.{◌≡◌, ◌≤◌, ◌+◌, drop, length, min, IfErr, IfOk, IfSome};
-ghost use Rattle.std.specs.List.{All, position, position_or_len};
+ghost use Rattle.std.specs.Prelude.{◌≡◌, ◌≤◌, ◌+◌, drop, length, min, take, IfErr, IfOk, IfSome, MatchResult};
+ghost use Rattle.std.specs.List.{All, position_or_len};
 ghost use Rattle.icn_host.specs.Sources.{is_newline};
 ghost use Rattle.icn_value.specs.Store.{Outside, file_at, having_heap, with_opened};
 ghost use Rattle.icn_value.specs.declared.val.File.TheVariants.{Opened};
 ghost use Rattle.icn_value.specs.declared.val.Val.TheVariants.{Std};
+ghost use Rattle.icn_defs.specs.Calls.{Passes};
 ghost use Rattle.icn_defs.specs.Interruptions.{asked_of};
 ghost use Rattle.icn_defs.specs.OpenFiles.{left_in};
-ghost use Rattle.icn_heap.specs.Extents.{IsLive, IsText};
+ghost use Rattle.icn_defs.specs.Rows.{costs_bytes};
+ghost use Rattle.icn_heap.specs.Extents.{IsLive, IsText, text_in};
 ghost use Rattle.icn_heap.specs.Heaps.{extent_of, heap_of};
-ghost use Rattle.icn_vars.specs.Stops.{IsLiveStop};
+ghost use Rattle.icn_vars.specs.Stops.{IsLiveStop, StopsPassing};
 ghost use Rattle.icn_vars.specs.Worlds.{KeepsLive, setting_of};
 ghost use Rattle.icn_streams.specs.Readings.{ReadsOpened, asked_in, read_of};
 
 use crate::ask::Ask;
-use crate::reading::text_of;
 use icn_heap::FileEntry;
 use icn_value::Span;
 use icn_vars::{Locals, Stop, World};
-use std::alloc::AllocError;
+use memchr::memchr;
 
-/// Reads a text from an opened file, which is charged once it is taken; `None` comes where there is none. The buffer is room for
-/// it. What is left is not copied: a line costs its length.
+/// Reads a text from an opened file, which is charged once it is taken; `None` comes where there is none. What is left is not copied: a
+/// line costs its length.
 ///
 /// # Errors
 ///
@@ -31,7 +32,6 @@ pub fn read_opened<L: Locals>(
     number: u32,
     w: &mut World,
     l: &L,
-    buffer: &mut Vec<u8>,
 ) -> Result<Option<Span>, Stop>
     requires locals { All (IsLive (extent_of w.old.heap)) (L.items l.now) }
     requires file { IsLive (extent_of w.old.heap) (Std (Opened number)) }
@@ -43,13 +43,13 @@ pub fn read_opened<L: Locals>(
 {
     let file = w.heap.file(number);
     let from = file.place();
-    let taken = fill_opened(ask, file, buffer)?;
-    if taken == 0 {
+    let part = first_of_file(ask, file);
+    if part.taken == 0 {
         return Ok(None);
     }
-    let place = place_behind(file.content(), from, taken);
+    let place = place_behind(file.content(), from, part.taken);
     move_to(number, place, w, l);
-    Ok(Some(text_of(w, l, buffer)?))
+    Ok(Some(text_in_file(number, from, part.len, w, l)?))
 }
 
 // Has so many bytes of an opened file read.
@@ -61,19 +61,54 @@ fn move_to<L: Locals>(number: u32, place: u64, w: &mut World, l: &L)
     ensures step { (outside : Outside) → setting_of outside w.new (L.items l.now) ≡ having_heap
         (with_opened number (record (file_at (heap_of w.old.heap) number) { place = place }))
         (setting_of outside w.old (L.items l.now)) }
+    ensures content { (file_at (heap_of w.new.heap) number).content
+        ≡ (file_at (heap_of w.old.heap) number).content }
     ensures kept { KeepsLive w.old (L.items l.now) w.new (L.items l.now) }
 {
     w.heap.read_to(number, place);
 }
 
-// Fills the buffer with what is asked for of what is left of an opened file, and answers how many of its bytes that takes.
-fn fill_opened(ask: Ask, file: &FileEntry, buffer: &mut Vec<u8>) -> Result<u64, AllocError>
-    requires { file.now.place ≤ length file.now.content }
-    ensures read { IfOk result (λ taken. buffer.new.items ≡ read_of (asked_in ask) (left_in file.now)) }
-    ensures taken { IfOk result (λ taken.
-        taken ≡ min (asked_of (asked_in ask) (left_in file.now)) (length (left_in file.now))) }
+// A text of a part of what an opened file holds, from a place on, which is charged.
+#[tactic(auto, using(icn_vars::proofs::GrowingWorlds::grows, icn_vars::proofs::GrowingWorlds::locals_grow))]
+fn text_in_file<L: Locals>(
+    number: u32,
+    from: u64,
+    len: u64,
+    w: &mut World,
+    l: &L,
+) -> Result<Span, Stop>
+    requires locals { All (IsLive (extent_of w.old.heap)) (L.items l.now) }
+    requires file { IsLive (extent_of w.old.heap) (Std (Opened number)) }
+    requires within { from + len ≤ length (file_at (heap_of w.old.heap) number).content }
+    ensures live { IfOk result (IsText (extent_of w.new.heap)) }
+    ensures text { IfOk result (λ span. text_in (extent_of w.new.heap) span
+        ≡ take len (drop from (file_at (heap_of w.old.heap) number).content)) }
+    ensures stops { IfErr result (IsLiveStop (extent_of w.new.heap)) }
+    ensures step { (outside : Outside) → MatchResult result (λ _. Passes (costs_bytes len)
+        (setting_of outside w.old (L.items l.now)) (setting_of outside w.new (L.items l.now)))
+        (StopsPassing (extent_of w.new.heap) (costs_bytes len)
+        (setting_of outside w.old (L.items l.now)) (setting_of outside w.new (L.items l.now))) }
+    ensures kept { KeepsLive w.old (L.items l.now) w.new (L.items l.now) }
 {
-    fill_from(ask, left_of(file), buffer)
+    Ok(w.heap.build_of_file(number, from, len)?)
+}
+
+// A first part of bytes that is read: how many bytes of it are given, and how many it takes.
+#[derive(Clone, Copy)]
+struct FirstPart {
+    len: u64,
+    taken: u64,
+}
+
+// The part that is asked for of what is left of an opened file.
+fn first_of_file(ask: Ask, file: &FileEntry) -> FirstPart
+    requires { file.now.place ≤ length file.now.content }
+    ensures within { result.len ≤ length (left_in file.now) }
+    ensures read { take result.len (left_in file.now) ≡ read_of (asked_in ask) (left_in file.now) }
+    ensures taken { result.taken
+        ≡ min (asked_of (asked_in ask) (left_in file.now)) (length (left_in file.now)) }
+{
+    first_part(ask, left_of(file))
 }
 
 // What is left to be read of an opened file.
@@ -100,40 +135,34 @@ fn place_behind(bytes: &[u8], place: u64, count: u64) -> u64
     place + count
 }
 
-// Fills the buffer with what is asked for of these bytes, and answers how many of them that takes: a line takes its newline too.
-fn fill_from(ask: Ask, bytes: &[u8], buffer: &mut Vec<u8>) -> Result<u64, AllocError>
-    ensures read { IfOk result (λ taken. buffer.new.items ≡ read_of (asked_in ask) bytes.now) }
-    ensures taken { IfOk result (λ taken.
-        taken ≡ min (asked_of (asked_in ask) bytes.now) (length bytes.now)) }
+// The part that is asked for of these bytes: a line takes its newline too.
+fn first_part(ask: Ask, bytes: &[u8]) -> FirstPart
+    ensures within { result.len ≤ length bytes.now }
+    ensures read { take result.len bytes.now ≡ read_of (asked_in ask) bytes.now }
+    ensures taken { result.taken ≡ min (asked_of (asked_in ask) bytes.now) (length bytes.now) }
 {
-    buffer.clear();
     match ask {
         Ask::Line => {
             let len = line_length(bytes);
-            buffer.extend_from_slice(&bytes[..len])?;
-            Ok((len as u64 + 1).min(bytes.len() as u64))
+            FirstPart {
+                len,
+                taken: (len + 1).min(bytes.len() as u64),
+            }
         }
         Ask::Bytes(count) => {
             let len = count.min(bytes.len() as u64);
-            buffer.extend_from_slice(&bytes[..len as usize])?;
-            Ok(len)
+            FirstPart { len, taken: len }
         }
     }
 }
 
 // How many bytes stand before the next newline, or how many there are.
-fn line_length(bytes: &[u8]) -> usize
-    ensures { result ≡ position_or_len is_newline bytes.now }
+fn line_length(bytes: &[u8]) -> u64
+    ensures length { result ≡ position_or_len is_newline bytes.now }
+    ensures within { result ≤ length bytes.now }
 {
-    match find_newline(bytes) {
-        Some(place) => place,
-        None => bytes.len(),
+    match memchr(b'\n', bytes) {
+        Some(place) => place as u64,
+        None => bytes.len() as u64,
     }
-}
-
-// Where the next newline stands.
-fn find_newline(bytes: &[u8]) -> Option<usize>
-    ensures { result ≡ position is_newline bytes.now }
-{
-    bytes.iter().position(|byte| *byte == b'\n')
 }

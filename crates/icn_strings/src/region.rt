@@ -1,5 +1,6 @@
 // The region of strings.
-ghost use Rattle.std.specs.Prelude.{◌≡◌, ◌+◌, ◌-◌, ◌^◌, ◌<◌, ◌≤◌, ◌↔◌, ◌++◌, length, OnOk, OnErr, IfOk, SomeIff};
+ghost use Rattle.std.specs.Prelude.{[], ◌≡◌, ◌+◌, ◌-◌, ◌^◌, ◌<◌, ◌≤◌, ◌↔◌, ◌++◌, length, vec_len, OnOk, OnErr, IfOk, SomeIff};
+ghost use Rattle.std.specs.Vec.{vec_capacity};
 ghost use Rattle.std.specs.List.{All};
 ghost use Rattle.icn_strings.specs.Chunks.{end_of, sizes, HasRoom, AreSoundChunks, AreSoundChunks-prop, IsSize-prop};
 
@@ -16,7 +17,7 @@ use std::mem;
 // A region has fewer bytes, so that every position in a string is an `i64`, the one behind its last byte too.
 const MOST: u64 = i64::MAX as u64;
 
-// How many bytes a chunk has room for, unless the string that opens it is longer.
+// How many bytes a chunk has room for, unless the string that opens it is more than half as long.
 const ROOM: usize = 65536;
 
 /// The strings of a program's heap.
@@ -234,7 +235,7 @@ impl Region {
         ensures err { OnErr result (IsUnchanged self.old self.new) }
     {
         let first = self.end();
-        let bytes = Vec::with_capacity(self.alloc, ROOM.max(len as usize))?;
+        let bytes = room_for(self.alloc, len)?;
         self.closed.reserve(1)?;
         let before = mem::replace(&mut self.last, Chunk { first, bytes });
         self.closed_size += before.bytes.len() as u64;
@@ -391,5 +392,18 @@ impl Region {
         ensures kept { KeepsRanges self.old self.new }
     {
         self.sum += len;
+    }
+}
+
+// Room for so many bytes or more. Where there is memory it is for as many again, so that a long string that grows byte by byte is
+// copied seldom.
+fn room_for(alloc: Global, len: u64) -> Result<Vec<u8>, AllocError>
+    ensures empty { IfOk result (λ bytes. bytes.items ≡ []) }
+    ensures room { IfOk result (λ bytes. vec_len bytes + len ≤ vec_capacity bytes) }
+{
+    let least = len as usize;
+    match Vec::with_capacity(alloc, ROOM.max(least.saturating_mul(2))) {
+        Ok(bytes) => Ok(bytes),
+        Err(_) => Vec::with_capacity(alloc, ROOM.max(least)),
     }
 }

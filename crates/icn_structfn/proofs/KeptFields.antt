@@ -1,17 +1,16 @@
 -- Worlds whose heap changed while its records kept their fields.
 use Rattle.std.proofs.Common.{◌≡◌, refl, ℕ, ◌<◌, length, None}
-use Rattle.std.proofs.lemmas.List.{length-map}
 use Rattle.icn_value.specs.declared.val.Val.{Val}
 use Rattle.icn_value.specs.declared.val.Val.TheVariants.{Null as NullVal, Integer as IntegerVal, Text as TextVal, Chars as CharsVal, Std as StdVal, Proc as ProcVal, Rec as RecVal, List as ListVal, Set as SetVal, Table as TableVal, Coexp as CoexpVal}
 use Rattle.icn_defs.specs.Arguments.{list_of, table_of}
 use Rattle.icn_heap.specs.declared.heap.Heap.{Heap as HeldHeap}
 use Rattle.icn_heap.specs.Extents.{Extent, IsLive, value_in}
 use Rattle.icn_heap.specs.Heaps.{extent_of, heap_of}
+use Rattle.icn_heap.proofs.StructureNumbers.{list_below}
 
 -- a list of a heap is there
 pub list_there : (heap : HeldHeap) (id : ℕ) → IsLive (extent_of heap) (ListVal id) → id < length (heap_of heap).lists
-unfolding extent_of heap_of
-list_there heap id is = rw length-map is.live
+list_there heap id is = list_below heap id is
 
 -- a value that is no list
 pub no_list : (all : Extent) (val : Val) → ((id : ℕ) → val ≡ ListVal id → ⊥) → list_of (value_in all val) ≡ None

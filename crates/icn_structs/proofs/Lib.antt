@@ -8,3 +8,8 @@ pub mod MovedNumbers
 pub mod OrderedPairs
 pub mod ChangedPairs
 pub mod PairedSteps
+pub mod ShelvedThings
+mod PlacedSteps
+mod GivenPlaces
+pub mod FlatRows
+mod ShelfRows

@@ -4,3 +4,7 @@ pub mod Counts
 pub mod GapLists
 pub mod Turns
 pub mod TurnedPairs
+pub mod Shelves
+pub mod PlacedThings
+pub mod LentThings
+pub mod LentPlaces

@@ -1,7 +1,7 @@
 -- What each rule says.
 use Rattle.std.specs.Prelude.{ℕ, List, codes}
 use Rattle.icn_tree.specs.declared.rule.Rule.{Rule}
-use Rattle.icn_tree.specs.declared.rule.Rule.TheVariants.{P1, P2, P3, P4, P5, P6, P7, P8, P9, L1, L2, L3, L4, L5, L6, L7, S1, S2, S3, C1, C2, C3, C4, C5, C6, C7, C8, K1, K2, K3, K4, U1, U2, U3, U4, U5, U6, U7, U8, I1, I2, I3, I4, I5, I6, I7, V1, V2, V3, V4, V5}
+use Rattle.icn_tree.specs.declared.rule.Rule.TheVariants.{P1, P2, P3, P4, P5, P6, P7, P8, P9, L1, L2, L3, L4, L5, L6, L7, S1, S2, S3, C1, C2, C3, C4, C5, C6, C7, C8, K1, K2, K3, K4, U1, U2, U3, U4, U5, U6, U7, U8, I1, I2, I3, I4, I5, I6, I7, V1, V2, V3, V4, V5, G1, G2, G3, G4, G5, G6, G7}
 
 -- what a message says of a broken rule: its code and a few words
 abbrev pub rule_text : Rule → List ℕ
@@ -56,3 +56,10 @@ rule_text V2 = codes "V2"
 rule_text V3 = codes "V3"
 rule_text V4 = codes "V4"
 rule_text V5 = codes "V5"
+rule_text G1 = codes "G1"
+rule_text G2 = codes "G2"
+rule_text G3 = codes "G3"
+rule_text G4 = codes "G4"
+rule_text G5 = codes "G5"
+rule_text G6 = codes "G6"
+rule_text G7 = codes "G7"

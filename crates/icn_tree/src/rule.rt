@@ -1,7 +1,7 @@
-// The rules that can refuse a program text, a unit of code or an image.
+// The rules that can refuse a program text, a unit of code, an image or a save.
 ghost use Rattle.std.specs.Prelude.{◌≡◌};
 
-/// A rule that refuses a program text, a unit of code or an image. Its name is the code that a refusal prints.
+/// A rule that refuses a program text, a unit of code, an image or a save. Its name is the code that a refusal prints.
 #[derive(Clone, Copy, Debug, PartialEq, Eq)]
 pub enum Rule {
     /// A directive has no name, or one that is none.
@@ -106,6 +106,20 @@ pub enum Rule {
     V4,
     /// The end of a procedure's code is reached.
     V5,
+    /// The first bytes of a save are not its head.
+    G1,
+    /// The bytes of a save end too early.
+    G2,
+    /// A kind or flag byte of a save is none, a limit is out of its range, or a word or the name of a file is no text.
+    G3,
+    /// Bytes stand behind the end of a save.
+    G4,
+    /// The image in a save is none, or its code is not verified.
+    G5,
+    /// The run of a save's code does not come to what the save tells.
+    G6,
+    /// A save is too long.
+    G7,
 }
 
 impl Rule {
@@ -167,6 +181,13 @@ impl Rule {
             Rule::V3 => b"V3",
             Rule::V4 => b"V4",
             Rule::V5 => b"V5",
+            Rule::G1 => b"G1",
+            Rule::G2 => b"G2",
+            Rule::G3 => b"G3",
+            Rule::G4 => b"G4",
+            Rule::G5 => b"G5",
+            Rule::G6 => b"G6",
+            Rule::G7 => b"G7",
         }
     }
 }

@@ -16,13 +16,13 @@ use Rattle.icn_value.specs.declared.item.Item.TheVariants.{Val as HeldVal, Var a
 use Rattle.icn_value.specs.Values.{Value, Key, Whole, Part, Val as ItemVal, Var as ItemVar}
 use Rattle.icn_value.specs.Store.{Heap, KeptError, World as StoreWorld}
 use Rattle.icn_heap.specs.declared.heap.Heap.{Heap as HeldHeap}
-use Rattle.icn_heap.specs.declared.needed_texts.NeededTexts.{NeededTexts}
+use Rattle.icn_heap.specs.declared.needed_values.NeededValues.{NeededValues}
 use Rattle.icn_heap.specs.Extents.{Extent, IsLive, KeepsMeaning, text_in, value_in}
 use Rattle.icn_heap.specs.Heaps.{extent_of, heap_of}
 use Rattle.icn_heap.specs.NeededValues.{IsNeeded}
 use Rattle.icn_heap.proofs.GrowingHeaps.{values_same}
 use Rattle.icn_heap.proofs.NeededSteps.{all_behind, all_front}
-use Rattle.icn_heap.proofs.SweptTexts.{text_made, value_made}
+use Rattle.icn_heap.proofs.HeldElements.{text_made, value_made}
 use Rattle.icn_vars.specs.declared.words.HeldError.{HeldError}
 use Rattle.icn_vars.specs.declared.words.Words.{Words}
 use Rattle.icn_vars.specs.NeededItems.{item_vals, kept_vals, root_vals, variable_vals}
@@ -35,20 +35,22 @@ no_vals P = λ k d within. absurd (omega (arith, within))
 
 -- Which items are of a world still: those whose values are needed
 
-module _ (old new : Reach) (texts : NeededTexts) (live : (val : Val) → IsLive old.extent val → IsNeeded texts val → IsLive new.extent val)
+module _ (old new : Reach) (texts : NeededValues) (live : (val : Val) → IsLive old.extent val → IsNeeded texts val → IsLive new.extent val)
     (same : new ≡ (let reach : Reach = record old { extent = new.extent } in reach)) where
   root_by : (root : HeldRoot) → RootBy old root → All (IsNeeded texts) (root_vals root) → RootBy new root
   root_by (HeldGlobal place) is needed = (let count : new.globals ≡ old.globals = ap (λ (r : Reach). r.globals) same in omega arith)
   root_by (HeldStatic place) is needed = (let count : new.statics ≡ old.statics = ap (λ (r : Reach). r.statics) same in omega arith)
   root_by (HeldLocal place) is needed = (let count : new.locals ≡ old.locals = ap (λ (r : Reach). r.locals) same in omega arith)
-  root_by (HeldElement list number) is needed = live (ListVal list) is (record { needed = tt })
+  root_by (HeldElement list number) is needed = live (ListVal list) is (All-head (IsNeeded texts) (ListVal list) [] needed)
   root_by (HeldField rec place) is needed = (
-    live (RecVal rec) is.0 (record { needed = tt }),
+    live (RecVal rec) is.0 (All-head (IsNeeded texts) (RecVal rec) [] needed),
     (let count : slice_index new.fields rec ≡ slice_index old.fields rec = ap (λ (r : Reach). slice_index r.fields rec) same in
         let there = is.1 in omega arith),
   )
-  root_by (HeldKey table key) is needed =
-      (live (TableVal table) is.0 (record { needed = tt }), live key is.1 (All-head (IsNeeded texts) key [] needed))
+  root_by (HeldKey table key) is needed = (
+    live (TableVal table) is.0 (All-head (IsNeeded texts) (TableVal table) (key ∷ []) needed),
+    live key is.1 (All-head (IsNeeded texts) key [] (All-tail (IsNeeded texts) (TableVal table) (key ∷ []) needed)),
+  )
   root_by (HeldKeyword word) is needed = tt
 
   root_lives : (root : HeldRoot) → IsLiveRoot old root → All (IsNeeded texts) (root_vals root) → IsLiveRoot new root
@@ -119,7 +121,7 @@ world_live all pair words globals statics sound =
     (All-append (IsLive all) (kept_vals words.kept) (globals ++ statics) (kept_are (IsLive all) words.kept sound.kept)
     (All-append (IsLive all) globals statics sound.live_globals sound.live_statics))
 
-module _ (a b : Extent) (texts : NeededTexts) (means : KeepsMeaning a b) (live : (val : Val) → IsLive a val → IsNeeded texts val → IsLive b val) where
+module _ (a b : Extent) (texts : NeededValues) (means : KeepsMeaning a b) (live : (val : Val) → IsLive a val → IsNeeded texts val → IsLive b val) where
   all_live : (vals : List Val) → All (IsLive a) vals → All (IsNeeded texts) vals → All (IsLive b) vals
   all_live vals are needed = λ k d within. live (get_or vals k d) (are k d within) (needed k d within)
 

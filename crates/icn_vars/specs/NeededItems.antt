@@ -1,8 +1,8 @@
--- The values that items and a world have, whose texts are to stay as memory is given back.
+-- The values that items and a world have, which are to stay as memory is given back.
 use Rattle.std.specs.Prelude.{ℕ, ◌+◌, List, [], ◌∷◌, ◌++◌, Option, Some, None}
 use Rattle.std.specs.Option.{option_to_list}
 use Rattle.icn_value.specs.declared.val.Val.{Val}
-use Rattle.icn_value.specs.declared.val.Val.TheVariants.{Text as TextVal}
+use Rattle.icn_value.specs.declared.val.Val.TheVariants.{Text as TextVal, Rec as RecVal, List as ListVal, Table as TableVal}
 use Rattle.icn_value.specs.declared.item.Root.{Root as HeldRoot}
 use Rattle.icn_value.specs.declared.item.Root.TheVariants.{Global as HeldGlobal, Static as HeldStatic, Local as HeldLocal, Element as HeldElement, Field as HeldField, Key as HeldKey, Keyword as HeldKeyword}
 use Rattle.icn_value.specs.declared.item.VarRef.{VarRef}
@@ -14,14 +14,14 @@ use Rattle.icn_heap.specs.NeededValues.{held_vals, length_of_vals}
 use Rattle.icn_vars.specs.declared.words.HeldError.{HeldError}
 use Rattle.icn_vars.specs.declared.world.World.{World}
 
--- the key of a table; no other root has a value
+-- the structure that an element, a field or a key is of, and the key; no other root has a value
 abbrev pub root_vals : HeldRoot → List Val
 root_vals (HeldGlobal place) = []
 root_vals (HeldStatic place) = []
 root_vals (HeldLocal place) = []
-root_vals (HeldElement list number) = []
-root_vals (HeldField rec place) = []
-root_vals (HeldKey table key) = key ∷ []
+root_vals (HeldElement list number) = ListVal list ∷ []
+root_vals (HeldField rec place) = RecVal rec ∷ []
+root_vals (HeldKey table key) = TableVal table ∷ key ∷ []
 root_vals (HeldKeyword word) = []
 
 -- the values of its root
@@ -44,6 +44,6 @@ abbrev pub world_vals : World → List Val
 world_vals world = TextVal world.pair.subject
     ∷ (kept_vals world.words.kept ++ (world.globals.items ++ world.statics.items))
 
--- how many bytes the texts have together that a world reaches, by what it has and by what its structures hold
+-- how many bytes the texts have together that a world reaches, by what it has and by what its structures hold that are there
 abbrev pub reached_length : World → ℕ
 reached_length world = length_of_vals (world_vals world) + length_of_vals (held_vals (parts_of world.heap))

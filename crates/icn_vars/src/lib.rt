@@ -24,7 +24,7 @@ pub use assignment::{Assignment, Exchange};
 pub use change_laws::{
     coexpressions_are_made, fields_are_assigned, results_are_counted, settings_stay,
 };
-pub use collecting::{add_texts_of_item, add_texts_of_variable};
+pub use collecting::{add_item, add_variable};
 pub use errors::ends_by;
 pub use exchanging::exchange;
 pub use keywords::position_of;

@@ -11,7 +11,7 @@ use Rattle.icont_units.specs.declared.members.Members.{Members}
 use Rattle.icont_units.specs.Generated.{GeneratedComes, generated_base}
 use Rattle.icont_units.specs.FetchedFiles.{IsOfLoading}
 use Rattle.icont_units.specs.Files.{first_name}
-use Rattle.icont_units.specs.Loading.{AreSought, AreSoundMembers, HoldsMembers, kept_of}
+use Rattle.icont_units.specs.Loading.{AreSought, AreSoundMembers, HoldsMembers, kept_units}
 use Rattle.icont_units.specs.Units.{FromSource, Member, units_of}
 use Rattle.icont_units.proofs.EqualResults.{err_injective, ok_injective, ok_is_not_err}
 use Rattle.icont_top.specs.declared.loading.LoadedProgram.{LoadedProgram}
@@ -21,7 +21,7 @@ use Rattle.icont_top.specs.Job.{first_base}
 use Rattle.icont_top.specs.Programs.{Links, is_program, link_refusal, linked_code, not_linked, unverified}
 
 -- where the first linked file is not there, the count tells so, or its name is no text
-pub told_of : {before now : ℕ} (held : Members) (members : List Member) → HoldsMembers held members → AreSought before now (kept_of held).units
+pub told_of : {before now : ℕ} (held : Members) (members : List Member) → HoldsMembers held members → AreSought before now (kept_units held).units
     → IsTold (Rose before now) members
 told_of held members stands sought unit name e = sought.missed unit name (subst (λ units. missing_unit units ≡ Some (K2 unit name)) (sym stands.units) e)
 
@@ -60,7 +60,7 @@ misses_link members answer (inr links) sought =
     λ file line is. record { members = members; refused = refused_by (Err answer) links answer refl file line is; sought = sought }
 
 -- units that were loaded and come to no program
-pub tells_link : {before now : ℕ} (held : Members) (answer : Answer) → AreSoundMembers held → AreSought before now (kept_of held).units
+pub tells_link : {before now : ℕ} (held : Members) (answer : Answer) → AreSoundMembers held → AreSought before now (kept_units held).units
     → ((members : List Member) → HoldsMembers held members → (answer ≡ NoMemory) ⊎ Links members (Err answer)) → TellsLink answer before now
 tells_link {before = before} {now} held answer sound sought makes =
     misses_link sound.members answer (makes sound.members sound.stands) (subst (λ units. AreSought before now units) sound.stands.units sought)

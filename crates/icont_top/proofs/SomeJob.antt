@@ -17,7 +17,7 @@ use Rattle.icn_link.specs.declared.fault.LinkFault.TheVariants.{K1, K2, K3, K4, 
 use Rattle.icn_link.specs.Joined.{joined_code, named_procs, names_all}
 use Rattle.icn_link.specs.LinkFaults.{first_fault}
 use Rattle.icn_prune.specs.KeptCode.{MayBeKept, kept_of}
-use Rattle.icn_prune.specs.PrunedCode.{pruned}
+use Rattle.icn_prune.specs.PrunedCode.{pruned_tables}
 use Rattle.icn_verify.specs.Faults.{IsVerified}
 use Rattle.icn_verify.specs.ShapeLaws.{IsSoundOrBroken, AreSoundOrBroken, HaveNoFault}
 use Rattle.law_safe.specs.Ended.{AreOver}
@@ -35,7 +35,7 @@ use Rattle.icont_units.proofs.ShortTexts.{and_intro}
 use Rattle.icont_units.proofs.SomeLoading.{AreSpelled, KeepRules, some_come, some_generated, some_load}
 use Rattle.icont_units.proofs.SoundMembers.{Each, OfAll}
 use Rattle.icont_top.specs.Job.{Job, Plan, Plans, IsPlanned, RefusesCommand, IsJob, run_launch, image_file, with_image}
-use Rattle.icont_top.specs.Programs.{Links, kept_procs, linked_code, whole_code, first_ucode, files_of, with_file, RunsBy, Behaves}
+use Rattle.icont_top.specs.Programs.{Links, kept_flags, linked_code, whole_code, first_ucode, files_of, with_file, RunsBy, Behaves}
 use Rattle.icont_top.proofs.LinkingRules.{faults_are_rules}
 
 -- Members that are sources alone
@@ -73,8 +73,8 @@ pub record Laws (is_joinable : UnitRead → Bool) : Type 0 where
   pub verified : (files : List (List Declaration)) (tables : Tables) → IsLinked files tables → IsVerified tables
   pub least : (tables : Tables) (named : List ℕ) (all : Bool) → keeps_rules tables ≡ true → All (λ number. number < length tables.procs) named
       → MayBeKept tables (kept_of tables named all)
-  pub pruned_rules : (tables : Tables) (keep : List Bool) → keeps_rules tables ≡ true → MayBeKept tables keep → keeps_rules (pruned keep tables) ≡ true
-  pub pruned_verified : (tables : Tables) (keep : List Bool) → MayBeKept tables keep → IsVerified tables → IsVerified (pruned keep tables)
+  pub pruned_rules : (tables : Tables) (keep : List Bool) → keeps_rules tables ≡ true → MayBeKept tables keep → keeps_rules (pruned_tables keep tables) ≡ true
+  pub pruned_verified : (tables : Tables) (keep : List Bool) → MayBeKept tables keep → IsVerified tables → IsVerified (pruned_tables keep tables)
   pub no_fault : HaveNoFault
   pub judged : AreSoundOrBroken
   pub means : (files : List (List Declaration)) (tables : Tables) (launch : Launch) → IsLinked files tables → keeps_rules tables ≡ true
@@ -131,13 +131,13 @@ module _ (is_joinable : UnitRead → Bool) (laws : Laws is_joinable) where
   by_fault members (K4 unit name) e = breaks _ (Links.not_linked _ (ap (option_and_then (link_answer (units_of members))) e))
   by_fault members NoMemory e = absurd (faults_are_rules (units_of members) e)
 
-  may_be_kept : (members : List Member) → keeps_rules (whole_code members) ≡ true → MayBeKept (whole_code members) (kept_procs members)
+  may_be_kept : (members : List Member) → keeps_rules (whole_code members) ≡ true → MayBeKept (whole_code members) (kept_flags members)
   may_be_kept members rules =
       laws.least (whole_code members) (named_procs (units_of members)) (names_all (units_of members)) rules (named_below (units_of members))
 
   -- what is pruned keeps the rules too
   linked_keeps : (members : List Member) → keeps_rules (whole_code members) ≡ true → keeps_rules (linked_code members) ≡ true
-  linked_keeps members rules = laws.pruned_rules (whole_code members) (kept_procs members) rules (may_be_kept members rules)
+  linked_keeps members rules = laws.pruned_rules (whole_code members) (kept_flags members) rules (may_be_kept members rules)
 
   module _ (members : List Member) (sound : Each (IsSound is_joinable) members) (fits : first_fault (units_of members) ≡ None) where
     keeps : keeps_rules (whole_code members) ≡ true
@@ -147,7 +147,7 @@ module _ (is_joinable : UnitRead → Bool) (laws : Laws is_joinable) where
     by_sources e =
         let sources = all_sources members e in
         let whole = laws.verified sources.0 (whole_code members) (sources_linked members sources.0 sound sources.1) in
-        runs_as fits keeps (laws.pruned_verified (whole_code members) (kept_procs members) (may_be_kept members keeps) whole)
+        runs_as fits keeps (laws.pruned_verified (whole_code members) (kept_flags members) (may_be_kept members keeps) whole)
 
     by_ucode : (first : Option (List ℕ)) → first_ucode members ≡ first → IsSoundOrBroken (linked_code members).procs → Linking members
     by_ucode first e (inl verified) = runs_as fits keeps verified

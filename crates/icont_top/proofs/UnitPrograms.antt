@@ -13,7 +13,7 @@ use Rattle.icn_link.specs.Joined.{joined_code, named_procs, names_all}
 use Rattle.icn_link.specs.LinkFaults.{first_fault}
 use Rattle.icn_link.specs.Units.{units_seen}
 use Rattle.icn_prune.specs.KeptCode.{MayBeKept, kept_of}
-use Rattle.icn_prune.specs.PrunedCode.{pruned}
+use Rattle.icn_prune.specs.PrunedCode.{pruned_tables}
 use Rattle.icn_unit.specs.PlainUnits.{UnitRead}
 use Rattle.icn_verify.specs.declared.fault.VerifyFault.{VerifyFault}
 use Rattle.icn_verify.specs.declared.fault.VerifyFault.TheVariants.{V}
@@ -30,23 +30,23 @@ use Rattle.icont_units.specs.Loading.{AreSoundMembers, HoldsMembers}
 use Rattle.icont_units.specs.Units.{Member, link_answer, unit_named, units_of}
 use Rattle.icont_top.specs.declared.programs.MadeProgram.{MadeProgram}
 use Rattle.icont_top.specs.MadeUnits.{IsMadeProgram, RefusesCode, RefusesLink, wants, breaks}
-use Rattle.icont_top.specs.Programs.{Links, is_program, kept_procs, linked_code, not_linked, unverified, whole_code}
+use Rattle.icont_top.specs.Programs.{Links, is_program, kept_flags, linked_code, not_linked, unverified, whole_code}
 use Rattle.icont_top.proofs.SourceUnits.{AllJoin, AllRun, all_files, first_named, sources_join, sources_mean}
 
 -- Pruning
 
 -- what is pruned of a code that was linked is the code of its units
 pub linked_pruned : (units : List UnitRead) (tables code : Tables) (named : List ℕ) (all : Bool) → tables ≡ joined_code units → named ≡ named_procs units
-    → all ≡ names_all units → code ≡ pruned (kept_of tables named all) tables → code ≡ pruned_code units
-linked_pruned units tables code named all e n a p = p ∙ (λ i. pruned (kept_of (e i) (n i) (a i)) (e i))
+    → all ≡ names_all units → code ≡ pruned_tables (kept_of tables named all) tables → code ≡ pruned_code units
+linked_pruned units tables code named all e n a p = p ∙ (λ i. pruned_tables (kept_of (e i) (n i) (a i)) (e i))
 
 -- what the laws of pruning say
 pub record PruneLaws : Type 0 where
   pub least : (tables : Tables) (named : List ℕ) (all : Bool) → keeps_rules tables ≡ true → All (λ number. number < length tables.procs) named
       → MayBeKept tables (kept_of tables named all)
-  pub verified : (tables : Tables) (keep : List Bool) → MayBeKept tables keep → IsVerified tables → IsVerified (pruned keep tables)
+  pub verified : (tables : Tables) (keep : List Bool) → MayBeKept tables keep → IsVerified tables → IsVerified (pruned_tables keep tables)
   pub shorter : (tables : Tables) (keep : List Bool) → keeps_rules tables ≡ true → MayBeKept tables keep
-      → length (image_of (pruned keep tables)) ≤ length (image_of tables)
+      → length (image_of (pruned_tables keep tables)) ≤ length (image_of tables)
 
 -- the numbers that are named are of procedures
 pub named_there : (units : List UnitRead) (tables : Tables) (named : List ℕ) → tables ≡ joined_code units → named ≡ named_procs units
@@ -54,7 +54,7 @@ pub named_there : (units : List UnitRead) (tables : Tables) (named : List ℕ) �
 named_there units tables named e n = subst (λ t. All (λ number. number < length t.procs) named) (sym e)
     (subst (All (λ number. number < length (joined_code units).procs)) (sym n) (named_below units))
 
-kept_there : PruneLaws → (members : List Member) → keeps_rules (whole_code members) ≡ true → MayBeKept (whole_code members) (kept_procs members)
+kept_there : PruneLaws → (members : List Member) → keeps_rules (whole_code members) ≡ true → MayBeKept (whole_code members) (kept_flags members)
 kept_there laws members rules =
     laws.least (whole_code members) (named_procs (units_of members)) (names_all (units_of members)) rules (named_below (units_of members))
 
@@ -77,7 +77,7 @@ sources_verified joins verifies laws held tables sound e rules none =
     let same : linked_code sound.members ≡ tables = sym (e ∙ ap pruned_code stands.units) in
     let whole = verifies all.0 (whole_code sound.members) (sources_join joins sound.members stands.faultless all.0 all.1) in
     let keeps = whole_rules held sound.members stands rules in
-    subst IsVerified same (laws.verified (whole_code sound.members) (kept_procs sound.members) (kept_there laws sound.members keeps) whole)
+    subst IsVerified same (laws.verified (whole_code sound.members) (kept_flags sound.members) (kept_there laws sound.members keeps) whole)
 
 -- What the units stand for
 
@@ -112,7 +112,7 @@ made_of run laws held members made tables stands e rules fits verified code byte
       bytes = bytes ∙ ap image_of same;
       links = is_program (subst (λ units. first_fault units ≡ None) stands.units fits) (subst IsVerified same verified);
       means = sources_mean run members stands.faultless keeps;
-      shorter = laws.shorter (whole_code members) (kept_procs members) keeps (kept_there laws members keeps);
+      shorter = laws.shorter (whole_code members) (kept_flags members) keeps (kept_there laws members keeps);
     }
 
 -- the code breaks a rule, which is told of the unit at a place

@@ -8,7 +8,7 @@ use Rattle.icn_defs.specs.Running.{Launch, Observation}
 use Rattle.icn_link.specs.Joined.{joined_code, named_procs, names_all}
 use Rattle.icn_link.specs.LinkFaults.{first_fault}
 use Rattle.icn_prune.specs.KeptCode.{kept_of}
-use Rattle.icn_prune.specs.PrunedCode.{pruned}
+use Rattle.icn_prune.specs.PrunedCode.{pruned_tables}
 use Rattle.icn_verify.specs.Faults.{IsFirstFault, IsVerified}
 use Rattle.law_simulation.specs.FirstLaw.{FilesMean, RunsFlat}
 use Rattle.icn_answer.specs.declared.answer.Answer.{Answer}
@@ -21,12 +21,12 @@ abbrev pub whole_code : List Member → Tables
 whole_code members = joined_code (units_of members)
 
 -- which of its procedures are kept
-abbrev pub kept_procs : List Member → List Bool
-kept_procs members = kept_of (whole_code members) (named_procs (units_of members)) (names_all (units_of members))
+abbrev pub kept_flags : List Member → List Bool
+kept_flags members = kept_of (whole_code members) (named_procs (units_of members)) (names_all (units_of members))
 
 -- the code of a program: that of its units, without the procedures that are not kept
 abbrev pub linked_code : List Member → Tables
-linked_code members = pruned (kept_procs members) (whole_code members)
+linked_code members = pruned_tables (kept_flags members) (whole_code members)
 
 -- the refusal of the first rule of linking that is broken
 abbrev pub link_refusal : List Member → Option Answer

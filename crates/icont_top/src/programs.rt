@@ -6,7 +6,7 @@ ghost use Rattle.icn_link.specs.Joined.{joined_code, named_procs, names_all};
 ghost use Rattle.icn_link.specs.LinkFaults.{first_fault};
 ghost use Rattle.icn_link.specs.Units.{units_seen};
 ghost use Rattle.icn_prune.specs.KeptCode.{kept_of};
-ghost use Rattle.icn_prune.specs.PrunedCode.{pruned};
+ghost use Rattle.icn_prune.specs.PrunedCode.{pruned_tables};
 ghost use Rattle.icn_verify.specs.Faults.{IsVerified};
 ghost use Rattle.icn_answer.specs.declared.answer.Answer.TheVariants.{BadUcode, Refused};
 ghost use Rattle.icont_units.specs.Files.{first_name};
@@ -80,7 +80,7 @@ fn link_members(alloc: Global, units: &[Unit]) -> Result<Linked, Answer>
 // The code of what was linked, without the procedures that nothing needs. The answer is want of memory.
 fn prune_linked(alloc: Global, linked: Linked) -> Result<Code, Answer>
     requires named { All (λ number. number < length (tables_of linked.code).procs) linked.named.items }
-    ensures code { IfOk result (λ code. tables_of code ≡ pruned
+    ensures code { IfOk result (λ code. tables_of code ≡ pruned_tables
         (kept_of (tables_of linked.code) linked.named.items linked.all) (tables_of linked.code)) }
     ensures memory { IfErr result (λ answer. answer ≡ Answer.NoMemory) }
 {

@@ -20,7 +20,7 @@ use Rattle.icn_answer.specs.declared.answer.Answer.TheVariants.{NoMemory}
 use Rattle.icn_answer.specs.Answers.{IsFault}
 use Rattle.icont_units.specs.declared.members.Members.{Members}
 use Rattle.icont_units.specs.FetchedFiles.{HeldAre}
-use Rattle.icont_units.specs.Loading.{Adds, AreSought, MembersGrow, IsGathered, IsMissed, IsSought, Knows, RefusesBases, HoldsMembers, kept_of, links_at, texts_in, with_ucode, with_units}
+use Rattle.icont_units.specs.Loading.{Adds, AreSought, MembersGrow, IsGathered, IsMissed, IsSought, Knows, RefusesBases, HoldsMembers, kept_units, links_at, texts_in, with_ucode, with_units}
 use Rattle.icont_units.specs.Units.{AreJudged, FromUcode, Gather, all as gather_all, known as gather_known, absent as gather_absent, refused as gather_refused, read as gather_read, IsAbsent, Member, is_there, link_in, links_in, links_of}
 use Rattle.icont_units.proofs.KnownBases.{first_linked, is_known, knows_lost, knows_unit, knows_units, knows_weaker, missed_later, rose_now, texts_behind, with_both, with_known, with_new}
 use Rattle.icont_units.proofs.NamedMembers.{ucode_added}
@@ -159,14 +159,14 @@ adds_met : (files : FileMap) (held : Members) (base : List ℕ)
 adds_met files held base (inl t) = adds_known files held base t
 adds_met files held base (inr is) = adds_absent files held base (list_any (bytes_eq base) (unit_names (units_in held))) refl is
 
-units_pushed : (old new : Members) (unit : UnitRead) → kept_of new ≡ with_ucode (kept_of old) unit
+units_pushed : (old new : Members) (unit : UnitRead) → kept_units new ≡ with_ucode (kept_units old) unit
     → units_in new ≡ units_in old ++ unit ∷ []
 units_pushed old new unit e = ap (λ kept. kept.units) e
 
 adds_unit : (files : FileMap) (old new : Members) (base : List ℕ) (unit : UnitRead)
     → list_any (bytes_eq base) (unit_names (units_in old)) ≡ false
     → HeldAre files base (λ first second. AreJudged base first second (Ok unit))
-    → kept_of new ≡ with_ucode (kept_of old) unit → Adds files old new (base ∷ [])
+    → kept_units new ≡ with_ucode (kept_units old) unit → Adds files old new (base ∷ [])
 adds_unit files old new base unit t is e = record {
   added = unit ∷ [];
   units = units_pushed old new unit e;
@@ -199,7 +199,7 @@ none_sought files held base bases is k = (
 pub unit_sought : {A : Type 0} (files : FileMap) (old new : Members) (base : List ℕ) (bases : List (List ℕ))
     (unit : HeldUnit) (result : Result A Answer)
     → HeldAre files base (λ first second. AreJudged base first second (Ok (unit_seen unit))) → unit.name ≡ base
-    → OnOk result (kept_of new ≡ with_ucode (kept_of old) (unit_seen unit)) → IfErr result (λ answer. answer ≡ NoMemory)
+    → OnOk result (kept_units new ≡ with_ucode (kept_units old) (unit_seen unit)) → IfErr result (λ answer. answer ≡ NoMemory)
     → list_any (bytes_eq base) bases ≡ false → Knows (IsAbsent files) (units_in old) bases
     → IsSought files old new (base ∷ []) (bases ++ base ∷ []) result
 unit_sought files old new base bases unit (Ok done) is named added want new_base k = (
@@ -236,7 +236,7 @@ none_grows before now held base bases counts new_base = record {
 
 pub unit_grows : {A : Type 0} (before now : ℕ) (old new : Members) (base : List ℕ) (bases : List (List ℕ))
     (unit : HeldUnit) (result : Result A Answer) → before ≤ now
-    → unit.name ≡ base → OnOk result (kept_of new ≡ with_ucode (kept_of old) (unit_seen unit))
+    → unit.name ≡ base → OnOk result (kept_units new ≡ with_ucode (kept_units old) (unit_seen unit))
     → list_any (bytes_eq base) bases ≡ false
     → OnOk result (MembersGrow before now old new bases (bases ++ base ∷ []) (base ∷ []))
 unit_grows before now old new base bases unit (Ok done) later named added new_base = record {

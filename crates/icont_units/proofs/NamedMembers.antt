@@ -19,7 +19,7 @@ use Rattle.icont_units.specs.declared.members.Members.{Members}
 use Rattle.icont_units.specs.FetchedFiles.{file_seen, files_seen, IsOfLoading}
 use Rattle.icont_units.specs.declared.files.CommandFile.{CommandFile as HeldFile}
 use Rattle.icont_units.specs.Files.{CommandFile, source, ucode}
-use Rattle.icont_units.specs.Loading.{ComesBehind, IsCome, IsLoaded, IsFaultlessMember, IsRead, AreSoundMembers, HoldsMembers, kept_of, ucode_index, with_source, with_ucode}
+use Rattle.icont_units.specs.Loading.{ComesBehind, IsCome, IsLoaded, IsFaultlessMember, IsRead, AreSoundMembers, HoldsMembers, kept_units, ucode_index, with_source, with_ucode}
 use Rattle.icont_units.specs.Sources.{IsOfRead}
 use Rattle.icont_units.specs.Units.{FilesCome, none, one_more, first_refused, later_refused, FileComes, Gather, Load, refused as load_first, gathered as load_then, FromSource, FromUcode, Member, links_in, unit_of, units_of}
 
@@ -50,7 +50,7 @@ units_behind [] member = refl
 units_behind (first ∷ members) member = ap (λ units. unit_of first ∷ units) (units_behind members member)
 
 pub source_added : (old new : Members) (members : List Member) (base : List ℕ) (file : List Declaration) → HoldsMembers old members
-    → kept_of new ≡ with_source (kept_of old) (translated_unit base file) → IsFaultless file
+    → kept_units new ≡ with_source (kept_units old) (translated_unit base file) → IsFaultless file
     → HoldsMembers new (members ++ FromSource base file ∷ [])
 source_added old new members base file stands added faultless = record {
   units = ap (λ kept. kept.units) added ∙ (ap (λ units. units ++ translated_unit base file ∷ []) stands.units
@@ -60,7 +60,7 @@ source_added old new members base file stands added faultless = record {
 }
 
 pub ucode_added : (old new : Members) (members : List Member) (unit : UnitRead) → HoldsMembers old members
-    → kept_of new ≡ with_ucode (kept_of old) unit → HoldsMembers new (members ++ FromUcode unit ∷ [])
+    → kept_units new ≡ with_ucode (kept_units old) unit → HoldsMembers new (members ++ FromUcode unit ∷ [])
 ucode_added old new members unit stands added = record {
   units = ap (λ kept. kept.units) added ∙ (ap (λ units. units ++ unit ∷ []) stands.units
       ∙ sym (units_behind members (FromUcode unit)));
@@ -79,15 +79,15 @@ faultless_of checked = record { spelled = checked.spelled; context = checked.con
 -- what the unit of a checked file is
 unit_so : (base given : List ℕ) (file : List Declaration) (unit : UnitRead) (old new : Members)
     → unit ≡ translated_unit given file → given ≡ base
-    → kept_of new ≡ with_source (kept_of old) unit → kept_of new ≡ with_source (kept_of old) (translated_unit base file)
+    → kept_units new ≡ with_source (kept_units old) unit → kept_units new ≡ with_source (kept_units old) (translated_unit base file)
 unit_so base given file unit old new is same added = added
-    ∙ ap (with_source (kept_of old)) (is ∙ ap (λ name. translated_unit name file) same)
+    ∙ ap (with_source (kept_units old)) (is ∙ ap (λ name. translated_unit name file) same)
 
 pub source_pushed : {A : Type 0} (files : FileMap) (base given : List ℕ) (checked : Checked) (unit : UnitRead)
     (old new : Members) (before : List Member) (result : Result A Answer)
     → FileComes files (source base) (Ok (FromSource base (declarations_of checked.text))) → HoldsMembers old before
     → unit ≡ translated_unit given (declarations_of checked.text) → given ≡ base
-    → OnOk result (kept_of new ≡ with_source (kept_of old) unit) → IfErr result (λ answer. answer ≡ NoMemory)
+    → OnOk result (kept_units new ≡ with_source (kept_units old) unit) → IfErr result (λ answer. answer ≡ NoMemory)
     → IsRead files (source base) before new result
 source_pushed files base given checked unit old new before (Ok done) comes stands is same added want = record {
   member = FromSource base (declarations_of checked.text);
@@ -101,7 +101,7 @@ source_pushed files base given checked unit old new before (Err answer) comes st
 pub ucode_pushed : {A : Type 0} (files : FileMap) (base : List ℕ) (unit : UnitRead) (old new : Members)
     (before : List Member) (result : Result A Answer)
     → FileComes files (ucode base) (Ok (FromUcode unit)) → HoldsMembers old before
-    → OnOk result (kept_of new ≡ with_ucode (kept_of old) unit) → IfErr result (λ answer. answer ≡ NoMemory)
+    → OnOk result (kept_units new ≡ with_ucode (kept_units old) unit) → IfErr result (λ answer. answer ≡ NoMemory)
     → IsRead files (ucode base) before new result
 ucode_pushed files base unit old new before (Ok done) comes stands added want =
     record { member = FromUcode unit; comes = comes; stands = ucode_added old new before unit stands added }
@@ -110,7 +110,7 @@ ucode_pushed files base unit old new before (Err answer) comes stands added want
 pub source_sound : {A : Type 0} (given : List ℕ) (checked : Checked) (unit : UnitRead) (old new : Members)
     (result : Result A Answer) → AreSoundMembers old
     → unit ≡ translated_unit given (declarations_of checked.text)
-    → OnOk result (kept_of new ≡ with_source (kept_of old) unit) → OnOk result (AreSoundMembers new)
+    → OnOk result (kept_units new ≡ with_source (kept_units old) unit) → OnOk result (AreSoundMembers new)
 source_sound given checked unit old new (Ok done) sound is added = record {
   members = sound.members ++ FromSource given (declarations_of checked.text) ∷ [];
   stands = source_added old new sound.members given (declarations_of checked.text) sound.stands
@@ -119,7 +119,7 @@ source_sound given checked unit old new (Ok done) sound is added = record {
 source_sound given checked unit old new (Err answer) sound is added = tt
 
 pub ucode_sound : {A : Type 0} (unit : UnitRead) (old new : Members) (result : Result A Answer) → AreSoundMembers old
-    → OnOk result (kept_of new ≡ with_ucode (kept_of old) unit) → OnOk result (AreSoundMembers new)
+    → OnOk result (kept_units new ≡ with_ucode (kept_units old) unit) → OnOk result (AreSoundMembers new)
 ucode_sound unit old new (Ok done) sound added = record {
   members = sound.members ++ FromUcode unit ∷ [];
   stands = ucode_added old new sound.members unit sound.stands

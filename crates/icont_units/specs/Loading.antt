@@ -47,8 +47,8 @@ pub record KeptUnits : Type 0 where
   pub first_ucode : Option ℕ
 
 -- the units that are kept, and the place of the first one from ucode
-abbrev pub kept_of : Members → KeptUnits
-kept_of held = record { units = units_seen held.units.items; first_ucode = held.first_ucode }
+abbrev pub kept_units : Members → KeptUnits
+kept_units held = record { units = units_seen held.units.items; first_ucode = held.first_ucode }
 
 -- the kept units with one more, from a source
 abbrev pub with_source : KeptUnits → UnitRead → KeptUnits

@@ -3,7 +3,7 @@ ghost use Rattle.std.specs.Prelude.{◌≡◌, List, Err, IfSome, IfOk, IfErr, O
 ghost use Rattle.icn_link.specs.Units.{unit_seen};
 ghost use Rattle.icont_units.specs.FetchedFiles.{file_seen, files_seen, IsOfLoading};
 ghost use Rattle.icont_units.specs.Files.{source, ucode};
-ghost use Rattle.icont_units.specs.Loading.{AreSought, IsCome, IsLoaded, IsRead, AreSoundMembers, HoldsMembers, kept_of, with_source, with_ucode};
+ghost use Rattle.icont_units.specs.Loading.{AreSought, IsCome, IsLoaded, IsRead, AreSoundMembers, HoldsMembers, kept_units, with_source, with_ucode};
 ghost use Rattle.icn_answer.specs.Answers.{IsErrOfAbsence};
 ghost use Rattle.icn_answer.specs.FilesRead.{ReadsFiles};
 ghost use Rattle.icont_units.specs.Units.{Member};
@@ -42,7 +42,7 @@ pub fn load<F: Files>(
     ensures sound { IfOk result AreSoundMembers }
     ensures absent { IfOk result
         (λ members. AreSought (F.state files.old).counts.absences (F.state files.new).counts.absences
-        (kept_of members).units) }
+        (kept_units members).units) }
     ensures others { IfErr result IsOfLoading }
     ensures reads { ReadsFiles result (IsErrOfAbsence result) (F.state files.old) (F.state files.new) }
 {
@@ -137,7 +137,7 @@ fn add_named<F: Files>(
 
 // Adds the unit of a source.
 fn push_source(members: &mut Members, unit: Unit) -> Result<(), Answer>
-    ensures added { OnOk result (kept_of members.new ≡ with_source (kept_of members.old) (unit_seen unit)) }
+    ensures added { OnOk result (kept_units members.new ≡ with_source (kept_units members.old) (unit_seen unit)) }
     ensures others { IfErr result (λ answer. answer ≡ Answer.NoMemory) }
 {
     match members.units.push(unit) {
@@ -148,7 +148,7 @@ fn push_source(members: &mut Members, unit: Unit) -> Result<(), Answer>
 
 /// Adds a unit that was read as ucode. An error is want of memory.
 pub fn push_ucode(members: &mut Members, unit: Unit) -> Result<(), Answer>
-    ensures added { OnOk result (kept_of members.new ≡ with_ucode (kept_of members.old) (unit_seen unit)) }
+    ensures added { OnOk result (kept_units members.new ≡ with_ucode (kept_units members.old) (unit_seen unit)) }
     ensures others { IfErr result (λ answer. answer ≡ Answer.NoMemory) }
 {
     let place = members.first_ucode.unwrap_or(members.units.len());

@@ -8,7 +8,7 @@ ghost use Rattle.icn_link.specs.LinkFaults.{base_of, unit_names};
 ghost use Rattle.icn_link.specs.Units.{units_seen};
 ghost use Rattle.icn_answer.specs.FilesRead.{ReadsFiles};
 ghost use Rattle.icont_units.specs.FetchedFiles.{IsOfLinked};
-ghost use Rattle.icont_units.specs.Loading.{AreSought, MembersGrow, IsGathered, IsSought, AreSoundMembers, Knows, HoldsMembers, kept_of, texts_in, links_at};
+ghost use Rattle.icont_units.specs.Loading.{AreSought, MembersGrow, IsGathered, IsSought, AreSoundMembers, Knows, HoldsMembers, kept_units, texts_in, links_at};
 ghost use Rattle.icont_units.specs.Units.{IsAbsent, Member, link_in, links_in};
 
 use crate::members::{Members, push_ucode};
@@ -33,7 +33,7 @@ pub fn gather<F: Files>(alloc: Global, members: &mut Members, files: &mut F) -> 
     ensures sound { AreSoundMembers members.old → OnOk result (AreSoundMembers members.new) }
     ensures absent { OnOk result
         (AreSought (F.state files.old).counts.absences (F.state files.new).counts.absences
-        (kept_of members.new).units) }
+        (kept_units members.new).units) }
     ensures others { IfErr result IsOfLinked }
     ensures reads { ReadsFiles result ⊥ (F.state files.old) (F.state files.new) }
 {
@@ -80,13 +80,13 @@ fn gather_unit<F: Files>(
 ) -> Result<(), Answer>
     requires { place < vec_len members.old.units }
     ensures sought { IfSome (F.state files.old).held
-        (λ held. Knows (IsAbsent held) (kept_of members.old).units (texts_in known.old.keys)
-        → IsSought held members.old members.new (links_at (kept_of members.old).units place)
+        (λ held. Knows (IsAbsent held) (kept_units members.old).units (texts_in known.old.keys)
+        → IsSought held members.old members.new (links_at (kept_units members.old).units place)
         (texts_in known.new.keys) result) }
     ensures grows { OnOk result
         (MembersGrow (F.state files.old).counts.absences (F.state files.new).counts.absences members.old
         members.new
-        (texts_in known.old.keys) (texts_in known.new.keys) (links_at (kept_of members.old).units place)) }
+        (texts_in known.old.keys) (texts_in known.new.keys) (links_at (kept_units members.old).units place)) }
     ensures others { IfErr result IsOfLinked }
     ensures reads { ReadsFiles result ⊥ (F.state files.old) (F.state files.new) }
 {
@@ -136,7 +136,7 @@ fn gather_bases<F: Files>(
     files: &mut F,
 ) -> Result<(), Answer>
     ensures sought { IfSome (F.state files.old).held
-        (λ held. Knows (IsAbsent held) (kept_of members.old).units (texts_in known.old.keys)
+        (λ held. Knows (IsAbsent held) (kept_units members.old).units (texts_in known.old.keys)
         → IsSought held members.old members.new (texts_in bases.now) (texts_in known.new.keys) result) }
     ensures grows { OnOk result
         (MembersGrow (F.state files.old).counts.absences (F.state files.new).counts.absences members.old
@@ -160,7 +160,7 @@ fn gather_base<F: Files>(
     files: &mut F,
 ) -> Result<(), Answer>
     ensures sought { IfSome (F.state files.old).held
-        (λ held. Knows (IsAbsent held) (kept_of members.old).units (texts_in known.old.keys)
+        (λ held. Knows (IsAbsent held) (kept_units members.old).units (texts_in known.old.keys)
         → IsSought held members.old members.new (base.now ∷ []) (texts_in known.new.keys) result) }
     ensures grows { OnOk result
         (MembersGrow (F.state files.old).counts.absences (F.state files.new).counts.absences members.old
@@ -185,7 +185,7 @@ fn add_linked<F: Files>(
 ) -> Result<(), Answer>
     ensures sought { IfSome (F.state files.old).held
         (λ held. (known : List (List ℕ)) → list_any (bytes_eq base.now) known ≡ false
-        → Knows (IsAbsent held) (kept_of members.old).units known
+        → Knows (IsAbsent held) (kept_units members.old).units known
         → IsSought held members.old members.new (base.now ∷ []) (known ++ base.now ∷ []) result) }
     ensures grows { (known : List (List ℕ)) → list_any (bytes_eq base.now) known ≡ false
         → OnOk result

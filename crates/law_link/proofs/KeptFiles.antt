@@ -18,7 +18,7 @@ use Rattle.icn_code.specs.declared.instr.Instr.{Instr}
 use Rattle.icn_code.specs.declared.instr.Instr.TheVariants as I
 use Rattle.icn_code.specs.Codes.{Tables}
 use Rattle.icn_code.specs.MainProcedure.{main_of, procedure_at}
-use Rattle.icn_defs.specs.KeptProcedures.{dropped, kept_from}
+use Rattle.icn_defs.specs.KeptProcedures.{dropped_numbers, kept_from}
 use Rattle.icn_unit.specs.declared.unit.UnitInstr.{UnitInstr}
 use Rattle.icn_unit.specs.declared.unit.UnitInstr.TheVariants as U
 use Rattle.icn_link.specs.Joined.{scope_of}
@@ -321,9 +321,9 @@ module _ (D : List Declaration) (csets : List Cset) (members : map members_of cs
   kept_alike texts = λ i. kept_from (mentions_alike i) (own_alike texts i)
 
 pub files_keep : (files : List (List Declaration)) (tables : Tables) → IsLinked files tables
-    → dropped_procedures files ≡ dropped (kept_of tables (named_procs files) (names_all files))
+    → dropped_procedures files ≡ dropped_numbers (kept_of tables (named_procs files) (names_all files))
 files_keep files tables linked =
     let D = joined_declarations files in
-    ap dropped
+    ap dropped_numbers
     (sym (ap (λ (t : Tables). kept_of t (named_procs files) (names_all files)) linked.code.others
     ∙ kept_alike D tables.csets linked.code.csets (sound_files files linked.faultless) (files_fit files linked.faultless) (invocable_texts D)))

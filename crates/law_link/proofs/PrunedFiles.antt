@@ -21,7 +21,7 @@ use Rattle.icn_prune.specs.KeptCode.{kept_of}
 use Rattle.icn_translate.specs.FileUnits.{item_text, lines_in, proc_codes, unit_decls}
 use Rattle.icn_translate.specs.ProcCodes.{proc_code}
 use Rattle.law_link.specs.InvocableFiles.{names_all, named_procs}
-use Rattle.law_link.specs.PrunedUnits.{kept_procs}
+use Rattle.law_link.specs.PrunedUnits.{kept_flags}
 use Rattle.law_link.specs.TranslatedUnits.{translated_units}
 use Rattle.law_link.proofs.FileTables.{codes_same}
 use Rattle.law_link.proofs.FirstsOnce.{has_any}
@@ -144,7 +144,7 @@ module _ (names : List (List ℕ)) (files : List (List Declaration)) (same : len
   all_same : Linked.names_all units ≡ names_all files
   all_same = sym (has_any (codes "all") (flat_map invocable_in (all_decls units))) ∙ ap (Meaning.has_name (codes "all")) texts
 
-  pub kept_same : kept_procs units ≡ kept_of (joined_code units) (named_procs files) (names_all files)
+  pub kept_same : kept_flags units ≡ kept_of (joined_code units) (named_procs files) (names_all files)
   kept_same = λ i. kept_of (joined_code units) (named_same i) (all_same i)
 
 -- So what holds of both where the same is hidden, and of what is pruned, holds of both.

@@ -12,7 +12,7 @@ ghost use Rattle.law_simulation.specs.JoinedFiles.{IsJoined};
 ghost use Rattle.law_simulation.specs.FirstLaw.{FilesMean, IsLinked, RunsFlat, RunsLinked, dropped_procedures};
 ghost use Rattle.icn_code.specs.Codes.{Tables};
 ghost use Rattle.icn_code.specs.Rules.{keeps_rules};
-ghost use Rattle.icn_defs.specs.KeptProcedures.{dropped};
+ghost use Rattle.icn_defs.specs.KeptProcedures.{dropped_numbers};
 ghost use Rattle.icn_prune.specs.KeptCode.{kept_of};
 ghost use Rattle.law_link.specs.InvocableFiles.{names_all, named_procs};
 ghost use Rattle.law_link.specs.PrunedUnits.{pruned_code};
@@ -35,7 +35,7 @@ pub fn translations_join()
 /// The procedures that a program keeps are those that its linked code keeps.
 pub fn same_kept()
     ensures { (files : List (List Declaration)) (tables : Tables) → IsLinked files tables
-        → dropped_procedures files ≡ dropped (kept_of tables (named_procs files) (names_all files)) }
+        → dropped_procedures files ≡ dropped_numbers (kept_of tables (named_procs files) (names_all files)) }
 {}
 
 /// So files that break no rule mean, with some words, limits and input, what the linked code of their units comes to without the

@@ -14,7 +14,7 @@ use Rattle.icn_image.specs.Spelling.{image_of}
 use Rattle.icn_link.specs.ImageSizes.{bodies_size, body_size, instr_size, records_size, strings_size}
 use Rattle.icn_link.proofs.ImageLengths.{image_length}
 use Rattle.icn_prune.specs.KeptCode.{MayBeKept}
-use Rattle.icn_prune.specs.PrunedCode.{Survivors, cset_in, global_at, global_left, instr_left, integer_in, kept_procs, new_place, no_cset, proc_left, pruned, record_left, survivors, taken_by, with_place, with_places}
+use Rattle.icn_prune.specs.PrunedCode.{Survivors, cset_in, global_at, global_left, instr_left, integer_in, kept_procs, new_place, no_cset, proc_left, pruned_tables, record_left, survivors, taken_by, with_place, with_places}
 use Rattle.icn_prune.proofs.LeastSets.{Each}
 use Rattle.icn_prune.proofs.PlacedEntries.{few_left}
 use Rattle.icn_prune.proofs.PrunedRules as P
@@ -141,7 +141,7 @@ same_records S (k ∷ ks) =
 
 -- The image
 
-module _ (T : Tables) (keep : List Bool) (h : keeps_rules T ≡ true) (k : MayBeKept T keep) (again : keeps_rules (pruned keep T) ≡ true) where
+module _ (T : Tables) (keep : List Bool) (h : keeps_rules T ≡ true) (k : MayBeKept T keep) (again : keeps_rules (pruned_tables keep T) ≡ true) where
   abbrev S : Survivors
   S = survivors T keep
 
@@ -151,7 +151,7 @@ module _ (T : Tables) (keep : List Bool) (h : keeps_rules T ≡ true) (k : MayBe
   r : AreRuled T
   r = each_rule T h
 
-  fewer_strings : strings_size (pruned keep T).strings ≤ strings_size T.strings
+  fewer_strings : strings_size (pruned_tables keep T).strings ≤ strings_size T.strings
   fewer_strings =
       let there = P.string_mentions_there T keep r k in
       let same = length-map T.strings string_size in
@@ -161,28 +161,28 @@ module _ (T : Tables) (keep : List Bool) (h : keeps_rules T ≡ true) (k : MayBe
       let all = sizes_together T.strings in
       omega (arith, less, left, all)
 
-  pub shorter : length (image_of (pruned keep T)) ≤ length (image_of T)
+  pub shorter : length (image_of (pruned_tables keep T)) ≤ length (image_of T)
   shorter =
       let whole = image_length T h in
-      let left = image_length (pruned keep T) again in
+      let left = image_length (pruned_tables keep T) again in
       let strings = fewer_strings in
-      let csets : length (pruned keep T).csets ≤ length T.csets = P.mapped_few (λ place. slice_index_or T.csets place no_cset) S.csets (length T.csets)
+      let csets : length (pruned_tables keep T).csets ≤ length T.csets = P.mapped_few (λ place. slice_index_or T.csets place no_cset) S.csets (length T.csets)
       (few_left (length T.csets) (taken_by cset_in procs) (P.csets_few T keep r k) (csets_there T procs (P.ruled T keep r k))) in
-      let integers : length (pruned keep T).integers ≤ length T.integers =
+      let integers : length (pruned_tables keep T).integers ≤ length T.integers =
       P.mapped_few (λ place. slice_index_or T.integers place (pos 0)) S.integers (length T.integers)
       (few_left (length T.integers) (taken_by integer_in procs) (P.integers_few T keep r k) (integers_there T procs (P.ruled T keep r k))) in
-      let fields : length (pruned keep T).fields ≤ length T.fields =
+      let fields : length (pruned_tables keep T).fields ≤ length T.fields =
       P.mapped_few (λ place. new_place S.strings (slice_index_or T.fields place 0)) S.fields (length T.fields)
       (few_left (length T.fields) (P.field_mentions T keep r k) (P.fields_few T keep r k) (P.field_mentions_there T keep r k)) in
-      let globals : length (pruned keep T).globals ≤ length T.globals =
+      let globals : length (pruned_tables keep T).globals ≤ length T.globals =
       P.mapped_few (λ place. global_left S (global_at T place)) S.globals (length T.globals)
       (subst (λ l. length l ≤ length T.globals) (P.globals_once T keep r k)
       (few_left (length T.globals) S.globals (P.globals_few T keep r k) (P.staying_within T keep r k))) in
       let records = same_records S T.records in
-      let many : length (pruned keep T).procs ≤ length T.procs = P.mapped_few (proc_left S) procs (length T.procs) (P.fewer_kept keep T.procs) in
+      let many : length (pruned_tables keep T).procs ≤ length T.procs = P.mapped_few (proc_left S) procs (length T.procs) (P.fewer_kept keep T.procs) in
       let bodies = fewer_bodies S keep T.procs in
       omega (arith, whole, left, strings, csets, integers, fields, globals, records, many, bodies)
 
-pub no_longer : (T : Tables) (keep : List Bool) → keeps_rules T ≡ true → MayBeKept T keep → keeps_rules (pruned keep T) ≡ true
-    → length (image_of (pruned keep T)) ≤ length (image_of T)
+pub no_longer : (T : Tables) (keep : List Bool) → keeps_rules T ≡ true → MayBeKept T keep → keeps_rules (pruned_tables keep T) ≡ true
+    → length (image_of (pruned_tables keep T)) ≤ length (image_of T)
 no_longer T keep h k again = shorter T keep h k again

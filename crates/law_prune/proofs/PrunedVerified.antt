@@ -9,7 +9,7 @@ use Rattle.icn_tree.specs.declared.rule.Rule.TheVariants.{V1, V2, V3, V4, V5}
 use Rattle.icn_code.specs.declared.instr.Instr.{Instr}
 use Rattle.icn_code.specs.declared.instr.Instr.TheVariants as I
 use Rattle.icn_code.specs.Codes.{Proc, Tables}
-use Rattle.icn_prune.specs.PrunedCode.{Survivors, instr_left, kept_procs, proc_left, pruned, survivors}
+use Rattle.icn_prune.specs.PrunedCode.{Survivors, instr_left, kept_procs, proc_left, pruned_tables, survivors}
 use Rattle.icn_verify.specs.declared.rows.StackEffect.{StackEffect}
 use Rattle.icn_verify.specs.Faults.{Breaks, HasTwoShapes, IsMet, IsSound, IsVerified, LacksShape}
 use Rattle.icn_verify.specs.ReachingShapes.{Carries, Reaches, goes, starts}
@@ -148,7 +148,7 @@ kept_stood (true ∷ keep) (q ∷ ps) zero p e = (0, e)
 kept_stood (true ∷ keep) (q ∷ ps) (suc n) p e = let found = kept_stood keep ps n p e in (suc found.0, found.1)
 kept_stood (false ∷ keep) (q ∷ ps) n p e = let found = kept_stood keep ps n p e in (suc found.0, found.1)
 
-pub pruned_verified : (T : Tables) (keep : List Bool) → IsVerified T → IsVerified (pruned keep T)
+pub pruned_verified : (T : Tables) (keep : List Bool) → IsVerified T → IsVerified (pruned_tables keep T)
 pruned_verified T keep sound number proc e =
     let S = survivors T keep in
     let left = stood (proc_left S) (kept_procs keep T.procs) number proc e in

@@ -6,11 +6,11 @@ use Rattle.icn_text.specs.Funcs.{func_name}
 use Rattle.icn_value.specs.Store.{Names}
 use Rattle.icn_code.specs.Codes.{Proc, RecordType, Tables}
 use Rattle.icn_defs.specs.Images.{functions, procedure_image, procedure_name}
-use Rattle.icn_defs.specs.KeptProcedures.{dropped}
+use Rattle.icn_defs.specs.KeptProcedures.{dropped_numbers}
 use Rattle.icn_defs.specs.NamedValues as Naming
 use Rattle.icn_defs.specs.NamedValues.{arguments_of, function_arguments, number_named}
 use Rattle.icn_prune.specs.KeptCode.{MayBeKept}
-use Rattle.icn_prune.specs.PrunedCode.{Survivors, kept_procs, new_place, proc_left, pruned, record_left, string_in, survivors, taken_by}
+use Rattle.icn_prune.specs.PrunedCode.{Survivors, kept_procs, new_place, proc_left, pruned_tables, record_left, string_in, survivors, taken_by}
 use Rattle.icn_prune.proofs.AscendingPlaces.{Above, globals_ascend}
 use Rattle.icn_prune.proofs.LeastSets.{Each, each_first}
 use Rattle.icn_prune.proofs.PlacedEntries.{Finds}
@@ -43,13 +43,13 @@ module _ (T : Tables) (keep : List Bool) (r : AreRuled T) (k : MayBeKept T keep)
   L = survivors T keep
 
   abbrev pub Q : Tables
-  Q = pruned keep T
+  Q = pruned_tables keep T
 
   abbrev pub procs : List Proc
   procs = kept_procs keep T.procs
 
   abbrev pub whole : Names
-  whole = S.names_hiding (dropped keep) T
+  whole = S.names_hiding (dropped_numbers keep) T
 
   abbrev pub left : Names
   left = S.all_names Q
@@ -166,7 +166,7 @@ module _ (T : Tables) (keep : List Bool) (r : AreRuled T) (k : MayBeKept T keep)
 
   pub named_to : (text : List ℕ) → OptionTo (PlaceTo keep) (number_named whole text) (number_named left text)
   named_to text = subst (λ (names : List (List ℕ)). OptionTo (PlaceTo keep) (number_named whole text) (Naming.number_from [] 0 names text)) names_left
-      (found_place keep _ _ (names_alike 0 0 keep (dropped keep) (Naming.all_names whole) text long_names (λ x l. refl)))
+      (found_place keep _ _ (names_alike 0 0 keep (dropped_numbers keep) (Naming.all_names whole) text long_names (λ x l. refl)))
 
   -- How the numbers of both runs are related
 

@@ -4,10 +4,10 @@ use Rattle.std.specs.Prelude.{◌↔◌, replicate}
 use Rattle.icn_value.specs.Values.{Null}
 use Rattle.icn_code.specs.Codes.{Tables}
 use Rattle.icn_code.specs.Rules.{keeps_rules}
-use Rattle.icn_defs.specs.KeptProcedures.{dropped}
+use Rattle.icn_defs.specs.KeptProcedures.{dropped_numbers}
 use Rattle.icn_defs.specs.Running.{Launch, Observation}
 use Rattle.icn_prune.specs.KeptCode.{MayBeKept}
-use Rattle.icn_prune.specs.PrunedCode.{pruned}
+use Rattle.icn_prune.specs.PrunedCode.{pruned_tables}
 use Rattle.icn_prune.proofs.TableRules.{AreRuled, each_rule}
 use Rattle.icn_run.specs.Chains.{WaitingChain, empty, linked_calls}
 use Rattle.icn_run.specs.LinkedStep as Linked
@@ -30,13 +30,13 @@ module _ (T : Tables) (keep : List Bool) (r : AreRuled T) (k : MayBeKept T keep)
   R = renamed T keep r k
 
   abbrev Q : Tables
-  Q = pruned keep T
+  Q = pruned_tables keep T
 
   abbrev G : CallsTo R (linked_calls repeats) (linked_calls others)
   G = linked_to R repeats others agree
 
   abbrev first : Store WaitingChain
-  first = record (S.first_store T launch) { names = S.names_hiding (dropped keep) T }
+  first = record (S.first_store T launch) { names = S.names_hiding (dropped_numbers keep) T }
 
   abbrev first_parts : StoreParts WaitingChain
   first_parts = record {
@@ -73,17 +73,17 @@ module _ (T : Tables) (keep : List Bool) (r : AreRuled T) (k : MayBeKept T keep)
     left = refl;
   }
 
-  starts : Sta R (linked_calls repeats) (linked_calls others) G T Q (code_to T keep r k) (Linked.start_hiding repeats T (dropped keep) launch)
+  starts : Sta R (linked_calls repeats) (linked_calls others) G T Q (code_to T keep r k) (Linked.start_hiding repeats T (dropped_numbers keep) launch)
       (Linked.start others Q launch)
   starts = started R (linked_calls repeats) (linked_calls others) G T Q (code_to T keep r k) launch.words (main_of T) (main_of Q) empty empty first first_parts
       (main_to T keep r k) (entries_to T keep r k) (at_empty R repeats others agree) first_to
 
-  seen_after : (n : ℕ) → S.observation (Linked.steps repeats T n (Linked.start_hiding repeats T (dropped keep) launch))
+  seen_after : (n : ℕ) → S.observation (Linked.steps repeats T n (Linked.start_hiding repeats T (dropped_numbers keep) launch))
       ≡ S.observation (Linked.steps others Q n (Linked.start others Q launch))
   seen_after n = seen_alike R (linked_calls repeats) (linked_calls others) G T Q (code_to T keep r k) _ _
       (after R (linked_calls repeats) (linked_calls others) G T Q (code_to T keep r k) n _ _ starts)
 
-  pub marks_alike : (seen : Observation) → Linked.RunsHiding repeats (dropped keep) T launch seen ↔ Linked.Runs others Q launch seen
+  pub marks_alike : (seen : Observation) → Linked.RunsHiding repeats (dropped_numbers keep) T launch seen ↔ Linked.Runs others Q launch seen
   marks_alike seen = (
     λ run. record { count = run.count; is = sym (seen_after run.count) ∙ run.is },
     λ run. record { count = run.count; is = seen_after run.count ∙ run.is },
@@ -91,17 +91,17 @@ module _ (T : Tables) (keep : List Bool) (r : AreRuled T) (k : MayBeKept T keep)
 
 -- on linked marks
 pub pruned_marks : (tables : Tables) (keep : List Bool) (launch : Launch) (seen : Observation) → keeps_rules tables ≡ true → MayBeKept tables keep
-    → Linked.RunsHiding (repeats_of tables) (dropped keep) tables launch seen ↔ Linked.Runs (repeats_of (pruned keep tables)) (pruned keep tables) launch seen
+    → Linked.RunsHiding (repeats_of tables) (dropped_numbers keep) tables launch seen ↔ Linked.Runs (repeats_of (pruned_tables keep tables)) (pruned_tables keep tables) launch seen
 pruned_marks tables keep launch seen h k =
     let r : AreRuled tables = each_rule tables h in
-    marks_alike tables keep r k (repeats_of tables) (repeats_of (pruned keep tables)) (repeats_to tables keep r k) launch seen
+    marks_alike tables keep r k (repeats_of tables) (repeats_of (pruned_tables keep tables)) (repeats_to tables keep r k) launch seen
 
 -- on flat stacks, which agree with linked marks where these may change their labels everywhere
 pub pruned_stacks : (tables : Tables) (keep : List Bool) (launch : Launch) (seen : Observation) → keeps_rules tables ≡ true → MayBeKept tables keep
-    → Flat.RunsHiding (dropped keep) tables launch seen ↔ Flat.Runs (pruned keep tables) launch seen
+    → Flat.RunsHiding (dropped_numbers keep) tables launch seen ↔ Flat.Runs (pruned_tables keep tables) launch seen
 pruned_stacks tables keep launch seen h k =
     let r : AreRuled tables = each_rule tables h in
-    let whole = agrees_everywhere (dropped keep) tables launch in
-    let left = agrees_everywhere [] (pruned keep tables) launch in
+    let whole = agrees_everywhere (dropped_numbers keep) tables launch in
+    let left = agrees_everywhere [] (pruned_tables keep tables) launch in
     let both = marks_alike tables keep r k repeats_anywhere repeats_anywhere (λ p q address t. refl) launch seen in
     (λ run. left.to_flat seen (both.0 (whole.to_linked seen run)), λ run. whole.to_flat seen (both.1 (left.to_linked seen run)))

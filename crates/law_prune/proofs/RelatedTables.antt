@@ -24,7 +24,7 @@ use Rattle.icn_code.specs.Rules.{has_name, is_head, is_instr, is_proc, name_of, 
 use Rattle.icn_defs.specs.KeptProcedures.{IsIn}
 use Rattle.icn_defs.specs.Numbers.{func_of}
 use Rattle.icn_prune.specs.KeptCode.{MayBeKept, global_in}
-use Rattle.icn_prune.specs.PrunedCode.{Survivors, cset_in, field_in, global_at, global_left, globals_from, instr_left, integer_in, kept_procs, new_place, no_cset, proc_left, pruned, record_left, start_left, start_stays, string_in, survivors, taken_by}
+use Rattle.icn_prune.specs.PrunedCode.{Survivors, cset_in, field_in, global_at, global_left, globals_from, instr_left, integer_in, kept_procs, new_place, no_cset, proc_left, pruned_tables, record_left, start_left, start_stays, string_in, survivors, taken_by}
 use Rattle.icn_prune.proofs.LeastSets.{Each, each_first, each_second}
 use Rattle.icn_prune.proofs.PlacedEntries.{Finds, kept_found}
 use Rattle.icn_prune.proofs.PrunedRules.{BeginsSo, csets_found, fields_found, found_behind_globals, global_names_found, globals_begin, integers_found, looked_up, looks, mentioned, mentions_found, procs_few, ruled, staying_within}
@@ -98,7 +98,7 @@ module _ (T : Tables) (keep : List Bool) (r : AreRuled T) (k : MayBeKept T keep)
   L = survivors T keep
 
   abbrev Q : Tables
-  Q = pruned keep T
+  Q = pruned_tables keep T
 
   abbrev procs : List Proc
   procs = kept_procs keep T.procs

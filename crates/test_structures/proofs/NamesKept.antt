@@ -1,8 +1,7 @@
 -- What a call gives and leaves has names, by the law over rows.
-use Rattle.std.proofs.Common.{◌≡◌, subst, ℕ, ◌<◌, arith, List, [], ◌∷◌, length, map, Result, Ok, Err}
+use Rattle.std.proofs.Common.{◌≡◌, subst, ℕ, List, [], ◌∷◌, map, Result, Ok, Err}
 use Rattle.std.specs.Prelude.{IfOk}
 use Rattle.std.specs.List.{All}
-use Rattle.std.proofs.lemmas.List.{length-map}
 use Rattle.std.proofs.lemmas.List.Elements.{All-head}
 use Rattle.icn_text.specs.declared.func.Func.{Func}
 use Rattle.icn_value.specs.declared.val.Val.{Val}
@@ -14,7 +13,7 @@ use Rattle.icn_defs.specs.Rows.{Row, TableKeys}
 use Rattle.icn_defs.specs.Structures.{table_keys_from}
 use Rattle.icn_heap.specs.Extents.{Extent, IsLive, value_in}
 use Rattle.icn_heap.specs.Heaps.{extent_of, heap_of}
-use Rattle.icn_heap.specs.HeapParts.{record_in}
+use Rattle.icn_heap.proofs.StructureNumbers.{record_below}
 use Rattle.icn_heap.specs.declared.heap.Heap.{Heap as HeldHeap}
 use Rattle.law_names.specs.RowsNamed.{IsThere, OutcomeNamed}
 use Rattle.law_names.specs.NamedSettings.{ValueNamed}
@@ -34,11 +33,6 @@ pub comes_named : (names : Names) (row : Row) (all : Extent) (before after : Set
 comes_named names row all before after (Ok outcome) named is = subst (OutcomeNamed names) is named
 comes_named names row all before after (Err halt) named is = tt
 
--- the records of the extent are those of the heap
-record_count : (heap : HeldHeap) → length (heap_of heap).records ≡ (extent_of heap).records
-unfolding heap_of extent_of
-record_count heap = length-map heap.records.items (record_in (extent_of heap))
-
 live_there : (heap : HeldHeap) (val : Val) → IsLive (extent_of heap) val → IsThere (heap_of heap) (value_in (extent_of heap) val)
 live_there heap NullVal is = tt
 live_there heap (IntegerVal n) is = tt
@@ -46,9 +40,7 @@ live_there heap (TextVal span) is = tt
 live_there heap (CharsVal cset) is = tt
 live_there heap (StdVal file) is = tt
 live_there heap (ProcVal number) is = tt
-live_there heap (RecVal id) is =
-    let below : id < (extent_of heap).records = is.live in
-    omega (arith, record_count heap, below)
+live_there heap (RecVal id) is = record_below heap id is
 live_there heap (ListVal id) is = tt
 live_there heap (SetVal id) is = tt
 live_there heap (TableVal id) is = tt

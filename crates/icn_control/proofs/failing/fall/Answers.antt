@@ -2,6 +2,7 @@ use Rattle.std.proofs.Common.{[], refl}
 use Rattle.icn_heap.specs.Heaps.{extent_of}
 use Rattle.icn_vars.specs.Worlds.{reach_of}
 use Rattle.icn_frames.specs.declared.layout.Why.TheVariants.{Alt, Proc}
+use Rattle.icn_control.specs.FailingStacks.{due_of}
 use Rattle.icn_control.proofs.FailingStackSteps.{came_back, fall_alt, fall_none, fall_proc}
 use Rattle.icn_control.proofs.FewerCells.{resume_less}
 use Rattle.icn_control.proofs.LiveFrames.{live_resume}
@@ -10,16 +11,16 @@ use Rattle.icn_control.proofs.failing.fall.Goals as goal
 
 pub returns-in-Nothing-clause-step : goal.returns-in-Nothing-clause-step
 returns-in-Nothing-clause-step g c =
-    fall_none c.args.world.now c.args.frames.now.flat c.args.frames.now.flat c.drop_failed.new.frames.flat c.drop_failed.result c.in-Nothing.ensures refl
-    c.drop_failed.ensures.step
+    rw c.due_of.ensures (fall_none c.args.world.now c.args.frames.now.flat c.args.frames.now.flat c.drop_failed.new.frames.flat (due_of c.drop_failed.result)
+    c.in-Nothing.ensures refl c.drop_failed.ensures.step)
 
 pub returns-in-Nothing-clause-due : goal.returns-in-Nothing-clause-due
-returns-in-Nothing-clause-due g c = c.drop_failed.ensures.due (reach_of c.args.world.now [])
+returns-in-Nothing-clause-due g c = rw c.due_of.ensures (c.drop_failed.ensures.due (reach_of c.args.world.now []))
 
 pub returns-in-Nothing-clause-named : goal.returns-in-Nothing-clause-named
 returns-in-Nothing-clause-named g c =
-    none_falls (extent_of c.args.world.now.heap) c.args.frames.now.flat c.args.frames.now.flat c.drop_failed.new.frames.flat c.drop_failed.result refl
-    (c.drop_failed.ensures.named (extent_of c.args.world.now.heap))
+    rw c.due_of.ensures (none_falls (extent_of c.args.world.now.heap) c.args.frames.now.flat c.args.frames.now.flat c.drop_failed.new.frames.flat
+    (due_of c.drop_failed.result) refl (c.drop_failed.ensures.named (extent_of c.args.world.now.heap)))
 
 pub returns-in-Nothing-clause-world_named : goal.returns-in-Nothing-clause-world_named
 returns-in-Nothing-clause-world_named g c names k = k
@@ -64,3 +65,6 @@ pub returns-in-Proc-clause-named : goal.returns-in-Proc-clause-named
 returns-in-Proc-clause-named g c =
     proc_falls (extent_of c.args.world.now.heap) c.args.frames.now.flat c.resume_newest-in-Proc.new.self.flat
     (came_back c.args.frames.now.flat c.resume_newest-in-Proc.new.self.flat Proc c.in-Proc.ensures c.resume_newest-in-Proc.ensures.flat)
+
+pub returns-in-Nothing-clause-less : goal.returns-in-Nothing-clause-less
+returns-in-Nothing-clause-less g c = rw c.due_of.ensures c.drop_failed.ensures.less

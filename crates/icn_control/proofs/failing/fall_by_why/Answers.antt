@@ -5,7 +5,7 @@ use Rattle.icn_control.specs.LiveStacks.{IsLiveStack}
 use Rattle.icn_control.proofs.LiveFrames.{live_resume}
 use Rattle.icn_frames.specs.declared.layout.Why.TheVariants.{Alt, Op, Scan, Escan, Proc}
 use Rattle.icn_control.proofs.FailingStackSteps.{resumed_as, escan_open, fall_none, fall_alt, fall_op, fall_scan, fall_escan, fall_proc}
-use Rattle.icn_control.specs.FailingStacks.{FallsBelow}
+use Rattle.icn_control.specs.FailingStacks.{FallsBelow, due_of}
 use Rattle.icn_control.proofs.FewerCells.{resume_less, swapped_less}
 use Rattle.icn_control.proofs.NamedFailing.{alt_falls, escan_falls, none_falls, op_falls, pair_named, proc_falls, scan_falls}
 use Rattle.icn_control.specs.StackViews.{pair_in}
@@ -33,11 +33,11 @@ swap_pairs-requires-clause-live g c = (
 
 pub returns-in-None-clause-step : goal.returns-in-None-clause-step
 returns-in-None-clause-step g c =
-    fall_none c.args.world.now c.args.frames.now.flat c.resume.new.self.flat c.drop_failed.new.frames.flat c.drop_failed.result c.in-None.ensures.flat.0
-    c.in-None.ensures.flat.1 c.drop_failed.ensures.step
+    rw c.due_of.ensures (fall_none c.args.world.now c.args.frames.now.flat c.resume.new.self.flat c.drop_failed.new.frames.flat (due_of c.drop_failed.result)
+    c.in-None.ensures.flat.0 c.in-None.ensures.flat.1 c.drop_failed.ensures.step)
 
 pub returns-in-None-clause-due : goal.returns-in-None-clause-due
-returns-in-None-clause-due g c = c.drop_failed.ensures.due (reach_of c.args.world.now [])
+returns-in-None-clause-due g c = rw c.due_of.ensures (c.drop_failed.ensures.due (reach_of c.args.world.now []))
 
 pub returns-in-Some-Alt-clause-step : goal.returns-in-Some-Alt-clause-step
 returns-in-Some-Alt-clause-step g c =
@@ -101,7 +101,8 @@ returns-in-Some-Proc-clause-live g c t k =
 
 pub returns-in-None-clause-less : goal.returns-in-None-clause-less
 returns-in-None-clause-less g c =
-    subst (λ (x : FlatStack). FallsBelow x c.drop_failed.new.frames.flat c.drop_failed.result) c.in-None.ensures.flat.1 c.drop_failed.ensures.less
+    rw c.due_of.ensures (subst (λ (x : FlatStack). FallsBelow x c.drop_failed.new.frames.flat (due_of c.drop_failed.result)) c.in-None.ensures.flat.1
+    c.drop_failed.ensures.less)
 
 pub returns-in-Some-Alt-clause-less : goal.returns-in-Some-Alt-clause-less
 returns-in-Some-Alt-clause-less g c =
@@ -122,8 +123,8 @@ returns-in-Some-Escan-clause-less g c =
 
 pub returns-in-None-clause-named : goal.returns-in-None-clause-named
 returns-in-None-clause-named g c =
-    none_falls (extent_of c.args.world.now.heap) c.args.frames.now.flat c.resume.new.self.flat c.drop_failed.new.frames.flat c.drop_failed.result
-    c.in-None.ensures.flat.1 (c.drop_failed.ensures.named (extent_of c.args.world.now.heap))
+    rw c.due_of.ensures (none_falls (extent_of c.args.world.now.heap) c.args.frames.now.flat c.resume.new.self.flat c.drop_failed.new.frames.flat
+    (due_of c.drop_failed.result) c.in-None.ensures.flat.1 (c.drop_failed.ensures.named (extent_of c.args.world.now.heap)))
 
 pub returns-in-None-clause-world_named : goal.returns-in-None-clause-world_named
 returns-in-None-clause-world_named g c names k = k

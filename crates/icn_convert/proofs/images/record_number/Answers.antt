@@ -1,21 +1,26 @@
-use Rattle.std.proofs.Common.{◌∙◌, arith, ◌<◌}
-use Rattle.icn_heap.specs.Heaps.{extent_of}
+use Rattle.std.proofs.Common.{◌∙◌, arith, ◌<◌, length}
+use Rattle.icn_heap.specs.Heaps.{heap_of}
+use Rattle.icn_heap.proofs.StructureNumbers.{record_before, record_below}
 use Rattle.icn_convert.proofs.RecordNumbers.{one_more, no_more, tested, counted_more, counted_same}
 use Rattle.icn_convert.proofs.images.record_number.Goals as goal
 use Rattle.icn_convert.proofs.images.record_number.Goals.{then-eq, else-eq}
 
+pub made_name-requires-clause-made : goal.made_name-requires-clause-made
+made_name-requires-clause-made g c = record_before c.args.heap.now c.args.id c.loop-other.other c.loop-other-test.true c.requires.live
+
 pub loop-other-preserved : goal.loop-other-preserved
 loop-other-preserved g c =
-    let below : c.loop-other.other < (extent_of c.args.heap.now).records = omega (arith, c.requires.live.live, c.loop-other-test.true) in
+    let there = record_below c.args.heap.now c.args.id c.requires.live in
+    let below : c.loop-other.other < length (heap_of c.args.heap.now).records = omega (arith, there, c.loop-other-test.true) in
     elim c.if-eq.branch [
       | then-eq w ↦ record {
         count = w.number-is ∙ counted_more c.loop-other.number _ _ c.loop-other.invariant.count (one_more (g.N.Names.known c.args.names.now) c.args.heap.now
-            c.args.id c.loop-other.other below (tested _ _ _ _ _ _ c.eq.ensures c.record_name.ensures c.record_name-name.ensures w.if-eq.true));
+            c.args.id c.loop-other.other below (tested _ _ _ _ _ _ c.eq.ensures c.made_name.ensures c.record_name-name.ensures w.if-eq.true));
         small = omega (arith, w.number-is);
       }
       | else-eq w ↦ record {
         count = w.number-is ∙ counted_same c.loop-other.number _ _ c.loop-other.invariant.count (no_more (g.N.Names.known c.args.names.now) c.args.heap.now
-            c.args.id c.loop-other.other below (tested _ _ _ _ _ _ c.eq.ensures c.record_name.ensures c.record_name-name.ensures w.if-eq.false));
+            c.args.id c.loop-other.other below (tested _ _ _ _ _ _ c.eq.ensures c.made_name.ensures c.record_name-name.ensures w.if-eq.false));
         small = omega (arith, w.number-is);
       }
     ]

@@ -178,9 +178,6 @@ perform_function-requires-clause-named g c =
     (dropped_named names (tables_of c.args.code.now) m.world c.args.count _ c.in-Some.func c.frames-2.result.now.flat c.drop_with.new.self.flat
     c.drop_with.ensures.drops calls c.requires.named.world_named.globals there)
 
-pub perform_function-requires-clause-once : goal.perform_function-requires-clause-once
-perform_function-requires-clause-once g c = c.in-Some.ensures.names.once
-
 pub returns-clause-step : goal.returns-clause-step
 returns-clause-step g c =
     let m = c.args.m.now in

@@ -1,44 +1,58 @@
-use Rattle.std.proofs.Common.{◌≡◌, ◌∙◌, ℤ, FitsSigned, Option, ap, refl, rules, sym, subst}
+use Rattle.std.proofs.Common.{◌≡◌, ◌+◌, ◌∙◌, ℤ, FitsSigned, List, Option, ap, arith, refl, rules, subst, sym}
 use Rattle.std.proofs.lemmas.Int.{to_z-of_z}
 use Rattle.std.specs.Int.{w64}
 use Rattle.icn_value.specs.declared.item.Item.TheVariants as Items
+use Rattle.icn_value.specs.declared.val.Val.{Val}
 use Rattle.icn_value.specs.declared.val.Val.TheVariants as Vals
 use Rattle.icn_frames.specs.Stacks as held
+use Rattle.icn_frames.specs.declared.slots.StackSlot.{StackSlot}
 use Rattle.icn_control.specs.declared.machine.RunState.{RunState}
-use Rattle.icn_machine.specs.PlainOperations.{OperatesInPlace}
-use Rattle.icn_machine.proofs.PlainOperands.{lower_own, taken_back, upper_own}
+use Rattle.icn_machine.specs.PlainOperations.{Computes, OperatesInPlace}
+use Rattle.icn_machine.proofs.PlainCallSteps.{operands_there}
+use Rattle.icn_machine.proofs.PlainFunctionSteps.{fewer_operands}
+use Rattle.icn_machine.proofs.DroppedOperands.{slots_dropped}
+use Rattle.icn_machine.proofs.PlainOperands.{lower_named, upper_named}
 use Rattle.icn_machine.proofs.PlainOperationSteps.{computes, stays}
 use Rattle.icn_machine.proofs.plain_operations.compute.Goals as goal
 
-pub returns-in_err-slots : goal.returns-in_err-slots
-returns-in_err-slots g c =
-    let m = c.args.frames.now.flat in
-    let n = c.take_slots.new.frames.flat in
-    subst (λ (r : Option RunState). OperatesInPlace c.args.op m n r) (sym c.from_residual.ensures) (stays c.args.op m n (c.in_err-slots.ensures.none refl))
+pub slot_below-lower-requires : goal.slot_below-lower-requires
+slot_below-lower-requires g c = operands_there 1 c.args.frames.now.flat c.requires.operands
+
+pub slot_below-upper-requires : goal.slot_below-upper-requires
+slot_below-upper-requires g c = fewer_operands (0 + 1) (1 + 1) _ (omega arith) (operands_there 1 c.args.frames.now.flat c.requires.operands)
 
 pub result_of-requires-clause-lower : goal.result_of-requires-clause-lower
 result_of-requires-clause-lower g c =
-    lower_own c.requires.live.0 c.requires.live.1.0 c.args.frames.now.flat c.take_slots.new.frames.flat c.in_ok-slots.slots c.in_ok-slots.ensures.taken
-    c.requires.live.1.1
+    lower_named c.requires.live.0 c.requires.live.1.0 c.args.frames.now.flat c.slot_below-lower.result c.requires.operands c.requires.live.1.1
+    c.slot_below-lower.ensures
 
 pub result_of-requires-clause-upper : goal.result_of-requires-clause-upper
 result_of-requires-clause-upper g c =
-    upper_own c.requires.live.0 c.requires.live.1.0 c.args.frames.now.flat c.take_slots.new.frames.flat c.in_ok-slots.slots c.in_ok-slots.ensures.taken
-    c.requires.live.1.1
+    upper_named c.requires.live.0 c.requires.live.1.0 c.args.frames.now.flat c.slot_below-upper.result c.requires.operands c.requires.live.1.1
+    c.slot_below-upper.ensures
 
-pub returns-in_default : goal.returns-in_default
-returns-in_default g c =
+pub returns-in_err-n : goal.returns-in_err-n
+returns-in_err-n g c =
     let m = c.args.frames.now.flat in
-    let takes = c.in_ok-slots.ensures.taken in
-    stays c.args.op m c.put_slots.new.frames.flat
-    (c.put_slots.ensures takes.first takes.second takes.lower takes.upper ∙ taken_back m c.take_slots.new.frames.flat takes.first takes.second takes.taken)
+    subst (λ (r : Option RunState). OperatesInPlace c.args.op m m r) (sym c.from_residual.ensures) (stays c.args.op m m refl)
+
+pub drop_with-requires : goal.drop_with-requires
+drop_with-requires g c = operands_there 1 c.args.frames.now.flat c.requires.operands
+
+pub put_slot-requires-clause-room : goal.put_slot-requires-clause-room
+put_slot-requires-clause-room g c = omega (arith, c.drop_with.ensures.spare)
 
 pub returns : goal.returns
 returns g c =
-    let k = c.take_slots.new.frames.flat in
-    let n = c.in-Some.n in
+    let m = c.args.frames.now.flat in
+    let k = c.drop_with.new.self.flat in
+    let n = c.in_ok-n.n in
+    let slots : StackSlot × StackSlot = (c.slot_below-lower.result, c.slot_below-upper.result) in
+    let found = c.in_ok-n.ensures in
+    let d = c.drop_with.ensures.drops in
     let fits : FitsSigned w64 n = search rules in
     let pushed : c.put_slot.new.frames.flat ≡ held.push (Items.Val (Vals.Integer n)) k
     = c.put_slot.ensures.flat _ refl ∙ ap (λ (i : ℤ). held.push (Items.Val (Vals.Integer i)) k) (to_z-of_z w64 n fits) in
-    computes c.args.op c.args.frames.now.flat k c.put_slot.new.frames.flat c.in_ok-slots.slots n c.in_ok-slots.ensures.taken c.local_count.ensures.same
-    c.in-Some.ensures pushed
+    computes c.args.op m k c.put_slot.new.frames.flat slots n
+    (slots_dropped m k slots found.of.lower.0 found.of.upper.0 d found.of.lower.1.0 found.of.upper.1.0 c.slot_below-lower.ensures c.slot_below-upper.ensures)
+    c.local_count.ensures.same (subst (λ (vs : List Val). Computes c.args.op vs slots n) d.locals_same found) pushed

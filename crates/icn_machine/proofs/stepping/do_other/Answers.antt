@@ -46,8 +46,8 @@ returns-then-is_applied-clause-within g c = record {
   limits = c.settle.ensures.within.limits ∙ c.do_applied-answer.ensures.within.limits;
 }
 
-pub do_plain-answer-requires-clause-firsts : goal.do_plain-answer-requires-clause-firsts
-do_plain-answer-requires-clause-firsts g c = c.requires.firsts
+pub do_plain-answer-requires-clause-off_stack : goal.do_plain-answer-requires-clause-off_stack
+do_plain-answer-requires-clause-off_stack g c = c.requires.off_stack
 
 pub do_plain-answer-requires-clause-applied : goal.do_plain-answer-requires-clause-applied
 do_plain-answer-requires-clause-applied g c = sym c.is_applied.ensures ∙ c.if-is_applied.false

@@ -79,3 +79,17 @@ returns-clause-doing g c =
 
 pub returns-clause-limits : goal.returns-clause-limits
 returns-clause-limits g c = refl
+
+pub returns-clause-past : goal.returns-clause-past
+returns-clause-past g c =
+    let m = c.args.m.now in
+    let f : FlatStack = c.frames.result.now.flat in
+    record {
+      was = f;
+      runs = c.frames.ensures.running;
+      world = refl;
+      turns = refl;
+      begun = refl;
+      limits = refl;
+      table = ap (λ (x : FlatStack). record m.stacks.table { running = Some x }) c.take_instr.ensures.flat;
+    }

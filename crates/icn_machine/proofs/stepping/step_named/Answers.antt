@@ -6,8 +6,8 @@ use Rattle.icn_machine.proofs.DoingSteps.{advanced_err, err_memory, then_fails}
 use Rattle.icn_machine.proofs.LoopSteps.{if_err_known, failing_goes, if_ok_of_error}
 use Rattle.icn_machine.proofs.stepping.step_named.Goals as goal
 
-pub do_next-requires-clause-firsts : goal.do_next-requires-clause-firsts
-do_next-requires-clause-firsts g c = c.requires.firsts
+pub do_next-requires-clause-off_stack : goal.do_next-requires-clause-off_stack
+do_next-requires-clause-off_stack g c = c.requires.off_stack
 
 pub do_next-requires-clause-known : goal.do_next-requires-clause-known
 do_next-requires-clause-known g c = c.requires.known

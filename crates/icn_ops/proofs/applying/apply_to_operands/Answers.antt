@@ -6,6 +6,7 @@ use Rattle.icn_defs.specs.Scanning.{tab_match_row}
 use Rattle.icn_defs.specs.Variables.{assign_row, reversible_assign_row, reversible_swap_row, section_minus_row, section_plus_row, section_row, subscript_row, swap_row}
 use Rattle.icn_defs.specs.Rows.{fails}
 use Rattle.icn_heap.specs.Heaps.{extent_of}
+use Rattle.icn_vars.specs.Outcomes.{answer_of}
 use Rattle.icn_vars.specs.Worlds.{item_in, reach_of}
 use Rattle.icn_vars.specs.declared.outcome.Outcome.TheVariants.{Fails as FailsOutcome}
 use Rattle.icn_vars.proofs.KeptItems.{keeps_items_refl}
@@ -227,10 +228,10 @@ returns-in-NotEquivalent g c = rw c.in-NotEquivalent.is
     c.requires.live.locals (keeps_items_refl (reach_of c.args.w.now (g.L.Locals.items c.args.l.now))))
 
 pub returns-in-Concatenate : goal.returns-in-Concatenate
-returns-in-Concatenate g c = rw c.in-Concatenate.is
+returns-in-Concatenate g c = rw (c.in-Concatenate.is, c.as_answer.ensures)
     (faultless_applies (concatenate_row (item_in (extent_of c.args.w.now.heap) c.args.x) (item_in (extent_of c.args.w.now.heap) c.args.y)) c.args.w.now
     c.concatenate_row.new.w (g.L.Locals.items c.args.l.now) (g.L.Locals.items c.args.l.now)
-    (g.S.Streams.state c.args.streams.now) c.concatenate_row.result (λ was. c.concatenate_row.ensures.row was) c.concatenate_row.ensures.live
+    (g.S.Streams.state c.args.streams.now) (answer_of c.concatenate_row.result) (λ was. c.concatenate_row.ensures.row was) c.concatenate_row.ensures.live
     c.concatenate_row.ensures.kept.locals c.concatenate_row.ensures.kept.items)
 
 pub returns-in-ConcatenateLists : goal.returns-in-ConcatenateLists

@@ -9,8 +9,8 @@ use Rattle.icn_running.specs.WorkLeft.{Lasts, MadeTurn, left_now}
 use Rattle.icn_running.specs.DueInstructions.{is_on, is_within}
 use Rattle.icn_running.proofs.running.run_to_turn.Given as goal
 
-abbrev pub invariant-loop-stepped : goal.invariant-loop-stepped
-invariant-loop-stepped g l = record {
+abbrev pub invariant-loop-m : goal.invariant-loop-m
+invariant-loop-m g l = record {
   steps : GoesOn IsAny (tables_of l.code.code) l.initial.m RunStates.Running
       (g.S.Streams.state l.initial.streams)
       l.m (g.S.Streams.state l.streams) (Ok (stage_of l.stepped));
@@ -21,5 +21,5 @@ invariant-loop-stepped g l = record {
   turns : l.turns ≡ l.initial.m.turns;
 }
 
-abbrev pub decreases-loop-stepped : goal.decreases-loop-stepped
-decreases-loop-stepped g l = failing_left (is_within l.stepped l.m.turns l.turns) (left_now (tables_of l.code.code) l.m)
+abbrev pub decreases-loop-m : goal.decreases-loop-m
+decreases-loop-m g l = failing_left (is_within l.stepped l.m.turns l.turns) (left_now (tables_of l.code.code) l.m)

@@ -2,4 +2,4 @@ use Rattle.icn_frames.proofs.SoundStacks.{sound_push}
 use Rattle.icn_frames.proofs.calls.Frames.push.Goals as goal
 
 pub invariant_of-self-2 : goal.invariant_of-self-2
-invariant_of-self-2 g c = rw (c.push_operand.ensures.cells, c.in_ok-reserve.ensures.cells) (sound_push _ _ _ c.self.invariant)
+invariant_of-self-2 g c = rw (c.push_operand.ensures.cells, c.in_ok-reserve_one.ensures.cells) (sound_push _ _ _ c.self.invariant)

@@ -9,9 +9,9 @@ use Rattle.icn_frames.proofs.calls.Frames.push_plain.Goals as goal
 pub invariant_of-self-2 : goal.invariant_of-self-2
 invariant_of-self-2 g c =
     let y = some_is _ c.requires in
-    rw (c.push_plain.ensures.cells y.0 y.1, c.in_ok-reserve.ensures.cells) (sound_push _ _ _ c.self.invariant)
+    rw (c.push_plain.ensures.cells y.0 y.1, c.in_ok-reserve_one.ensures.cells) (sound_push _ _ _ c.self.invariant)
 
 pub returns-clause-ok : goal.returns-clause-ok
 returns-clause-ok g c =
     let F : List Cell → FlatStack = λ w. record { cells = w; registers = c.self.inside.registers; address = c.self.inside.address } in
-    rw (← c.self.view_is) (λ x e. ap F (c.push_plain.ensures.cells x e ∙ ap (λ (w : List Cell). Operand x ∷ w) c.in_ok-reserve.ensures.cells))
+    rw (← c.self.view_is) (λ x e. ap F (c.push_plain.ensures.cells x e ∙ ap (λ (w : List Cell). Operand x ∷ w) c.in_ok-reserve_one.ensures.cells))

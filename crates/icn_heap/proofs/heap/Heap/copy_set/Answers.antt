@@ -5,6 +5,7 @@ use Rattle.icn_heap.specs.MadeStructures.{having_members}
 use Rattle.icn_heap.specs.Heaps.{extent_of, heap_of, parts_of}
 use Rattle.icn_heap.proofs.OtherChanges.{set_joins}
 use Rattle.icn_heap.proofs.ChangedParts.{with_sets, sound_as, keeps_as, steps_as}
+use Rattle.icn_structs.proofs.ShelvedThings.{newly_there}
 use Rattle.icn_heap.proofs.heap.Heap.copy_set.Goals as goal
 
 pub invariant_of-self-2 : goal.invariant_of-self-2
@@ -29,3 +30,9 @@ returns-clause-kept c =
     keeps_as (with_sets c.args.self.now _ c.in_ok-add_members.ensures.ok)
     (set_joins (parts_of c.args.self.now) c.args.self.now.sound (omega (arith, c.in_ok-sum.ensures.sum)) c.in_ok-sum.ensures.within
     _ (omega (arith, c.in_ok-sum.ensures.sum)) c.in_ok-members.ensures.sound c.in_ok-members.ensures.members)
+
+pub returns-clause-live : goal.returns-clause-live
+unfolding extent_of
+returns-clause-live c = record {
+  live = newly_there _ _ _ c.in_ok-add_members.ensures.ok c.args.self.now.sound.structures.made_sets.long c.len-id.ensures.count;
+}

@@ -6,5 +6,5 @@ use Rattle.icn_heap.proofs.heap.Heap.field_count.Goals as goal
 
 pub returns-clause-count : goal.returns-clause-count
 unfolding extent_of heap_of
-returns-clause-count c = c.len.ensures.count ∙ (ap (λ (held : HeldRecord). length held.values) c.record_ref.ensures
+returns-clause-count c = c.len.ensures.count ∙ (ap (λ (held : HeldRecord). length held.values) c.at.ensures
     ∙ field_count (parts_of c.args.self.now) c.args.self.now.sound c.args.id c.requires.live)

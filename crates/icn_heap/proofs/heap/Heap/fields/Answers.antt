@@ -8,15 +8,15 @@ use Rattle.icn_heap.proofs.heap.Heap.fields.Goals as goal
 pub returns-clause-fields : goal.returns-clause-fields
 unfolding extent_of heap_of
 returns-clause-fields c =
-    ap (map (value_in (extent_of c.args.self.now))) (c.values.ensures ∙ ap (λ (r : HeldRecord). r.values) c.record_ref.ensures)
+    ap (map (value_in (extent_of c.args.self.now))) (c.values.ensures ∙ ap (λ (r : HeldRecord). r.values) c.at.ensures)
     ∙ fields_are (parts_of c.args.self.now) c.args.self.now.sound c.args.rec c.requires.live
 
 pub returns-clause-live : goal.returns-clause-live
 unfolding extent_of
 returns-clause-live c =
-    rw (c.values.ensures, c.record_ref.ensures) (record_sound (parts_of c.args.self.now) c.args.self.now.sound c.args.rec c.requires.live).live
+    rw (c.values.ensures, c.at.ensures) (record_sound (parts_of c.args.self.now) c.args.self.now.sound c.args.rec c.requires.live).live
 
 pub returns-clause-few : goal.returns-clause-few
 unfolding extent_of
 returns-clause-few c =
-    rw (c.values.ensures, c.record_ref.ensures) (record_sound (parts_of c.args.self.now) c.args.self.now.sound c.args.rec c.requires.live).few
+    rw (c.values.ensures, c.at.ensures) (record_sound (parts_of c.args.self.now) c.args.self.now.sound c.args.rec c.requires.live).few

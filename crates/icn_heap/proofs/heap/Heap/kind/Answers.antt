@@ -7,4 +7,4 @@ use Rattle.icn_heap.proofs.heap.Heap.kind.Goals as goal
 pub returns : goal.returns
 unfolding extent_of heap_of
 returns c = c.kind.ensures
-    ∙ (ap (λ (held : HeldRecord). held.kind) c.record_ref.ensures ∙ kind_is (parts_of c.args.self.now) c.args.self.now.sound c.args.rec c.requires.live)
+    ∙ (ap (λ (held : HeldRecord). held.kind) c.at.ensures ∙ kind_is (parts_of c.args.self.now) c.args.self.now.sound c.args.rec c.requires.live)

@@ -5,12 +5,13 @@ use Rattle.icn_heap.specs.Extents.{value_in}
 use Rattle.icn_heap.specs.Heaps.{extent_of, heap_of, parts_of}
 use Rattle.icn_heap.proofs.OtherChanges.{record_joins}
 use Rattle.icn_heap.proofs.ChangedParts.{with_records, sound_as, keeps_as, steps_as}
+use Rattle.icn_structs.proofs.ShelvedThings.{newly_there}
 use Rattle.icn_heap.proofs.heap.Heap.make_rec.Goals as goal
 
 pub invariant_of-self-2 : goal.invariant_of-self-2
 unfolding extent_of
 invariant_of-self-2 c = record {
-  sound = sound_as (with_records c.args.self.now _ c.in_ok-add_record.ensures.ok)
+  sound = sound_as (with_records c.args.self.now _ c.in_ok-add.ensures.ok)
       (record_joins (parts_of c.args.self.now) c.args.self.now.sound (omega (arith, c.in_ok-sum.ensures.sum)) c.in_ok-sum.ensures.within
       (omega (arith, c.in_ok-sum.ensures.sum)) (record { live = c.requires.live; few = c.requires.few }) refl);
 }
@@ -20,13 +21,19 @@ unfolding extent_of heap_of
 returns-clause-step c =
     rw length-map
     (steps_as _ (having_record c.args.kind (map (value_in (extent_of c.args.self.now)) c.args.fields.now))
-    c.in_ok-sum.ensures.ok (with_records c.args.self.now _ c.in_ok-add_record.ensures.ok)
+    c.in_ok-sum.ensures.ok (with_records c.args.self.now _ c.in_ok-add.ensures.ok)
     (record_joins (parts_of c.args.self.now) c.args.self.now.sound (omega (arith, c.in_ok-sum.ensures.sum)) c.in_ok-sum.ensures.within
     (omega (arith, c.in_ok-sum.ensures.sum)) (record { live = c.requires.live; few = c.requires.few }) refl))
 
 pub returns-clause-kept : goal.returns-clause-kept
 unfolding extent_of
 returns-clause-kept c =
-    keeps_as (with_records c.args.self.now _ c.in_ok-add_record.ensures.ok)
+    keeps_as (with_records c.args.self.now _ c.in_ok-add.ensures.ok)
     (record_joins (parts_of c.args.self.now) c.args.self.now.sound (omega (arith, c.in_ok-sum.ensures.sum)) c.in_ok-sum.ensures.within
     (omega (arith, c.in_ok-sum.ensures.sum)) (record { live = c.requires.live; few = c.requires.few }) refl)
+
+pub returns-clause-live : goal.returns-clause-live
+unfolding extent_of
+returns-clause-live c = record {
+  live = newly_there _ _ _ c.in_ok-add.ensures.ok c.args.self.now.sound.structures.made_records.long c.len-id.ensures.count;
+}

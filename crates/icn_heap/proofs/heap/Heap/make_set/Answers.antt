@@ -6,6 +6,7 @@ use Rattle.icn_heap.proofs.ChangedParts.{with_sets, sound_as, keeps_as, steps_as
 use Rattle.std.proofs.Common.{[]}
 use Rattle.std.proofs.lemmas.List.Elements.{All-nil}
 use Rattle.icn_heap.specs.HeapParts.{IsSoundMember}
+use Rattle.icn_structs.proofs.ShelvedThings.{newly_there}
 use Rattle.icn_heap.proofs.heap.Heap.make_set.Goals as goal
 
 pub invariant_of-self-2 : goal.invariant_of-self-2
@@ -30,3 +31,9 @@ returns-clause-kept c =
     keeps_as (with_sets c.args.self.now _ c.in_ok-add_set.ensures.ok)
     (set_joins (parts_of c.args.self.now) c.args.self.now.sound (omega (arith, c.in_ok-sum.ensures.sum)) c.in_ok-sum.ensures.within []
     (omega (arith, c.in_ok-sum.ensures.sum)) (All-nil (IsSoundMember (extent_of c.args.self.now))) refl)
+
+pub returns-clause-live : goal.returns-clause-live
+unfolding extent_of
+returns-clause-live c = record {
+  live = newly_there _ _ _ c.in_ok-add_set.ensures.ok c.args.self.now.sound.structures.made_sets.long c.len-id.ensures.count;
+}

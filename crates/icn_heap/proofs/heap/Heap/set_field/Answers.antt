@@ -3,19 +3,19 @@ use Rattle.icn_heap.proofs.OtherChanges.{field_count, field_changes}
 use Rattle.icn_heap.proofs.ChangedParts.{with_records, sound_as, stands_as}
 use Rattle.icn_heap.proofs.heap.Heap.set_field.Goals as goal
 
-pub field_set_at-requires-clause-field : goal.field_set_at-requires-clause-field
+pub set_field-requires-clause-field : goal.set_field-requires-clause-field
 unfolding extent_of heap_of
-field_set_at-requires-clause-field c = rw (field_count (parts_of c.args.self.now) c.args.self.now.sound c.args.rec c.requires.rec.live) c.requires.there
+set_field-requires-clause-field c = rw (field_count (parts_of c.args.self.now) c.args.self.now.sound c.args.rec c.requires.rec.live) c.requires.there
 
 pub invariant_of-self : goal.invariant_of-self
 unfolding extent_of
 invariant_of-self c = record {
-  sound = sound_as (with_records c.args.self.now _ c.field_set_at.ensures)
+  sound = sound_as (with_records c.args.self.now _ c.set_field.ensures)
       (field_changes (parts_of c.args.self.now) c.args.self.now.sound c.args.rec c.requires.rec.live c.args.n c.args.val c.requires.live);
 }
 
 pub returns-clause-step : goal.returns-clause-step
 unfolding extent_of heap_of
 returns-clause-step c =
-    stands_as (with_records c.args.self.now _ c.field_set_at.ensures)
+    stands_as (with_records c.args.self.now _ c.set_field.ensures)
     (field_changes (parts_of c.args.self.now) c.args.self.now.sound c.args.rec c.requires.rec.live c.args.n c.args.val c.requires.live)

@@ -27,14 +27,14 @@ invariant_of-self-2 c =
       sound =
           sound_closed old.written.bytes old.closed.items c.push_reserved.new.self.items old.last new old.sum old.limit old.sound items
           (ap (λ (chunk : Chunk). chunk.first) c.replace-before.ensures.after ∙ c.end-first.ensures.end)
-          (ap (λ (chunk : Chunk). chunk.bytes.items) c.replace-before.ensures.after ∙ c.in_ok-bytes.ensures.items);
+          (ap (λ (chunk : Chunk). chunk.bytes.items) c.replace-before.ensures.after ∙ c.in_ok-bytes.ensures.empty);
       counted = omega (arith, old.counted, ap (λ (cs : List Chunk). sizes cs) items, sizes_more old.closed.items old.last (length old.last.bytes.items) refl, c.len.ensures, same_long c.replace-before.ensures.value, old.last.bytes.ok);
     }
 
 pub returns-clause-room : goal.returns-clause-room
 returns-clause-room c =
     subst (λ (chunk : Chunk). HasRoom chunk c.args.len) (sym c.replace-before.ensures.after)
-    (omega (arith, c.in_ok-bytes.ensures.len, c.in_ok-bytes.ensures.capacity, c.max.ensures))
+    c.in_ok-bytes.ensures.room
 
 pub returns-clause-kept : goal.returns-clause-kept
 returns-clause-kept c =

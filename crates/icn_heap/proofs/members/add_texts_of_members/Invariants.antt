@@ -1,7 +1,0 @@
-use Rattle.std.proofs.Common.{take}
-use Rattle.icn_heap.specs.NeededValues.{set_vals, AreNeeded}
-use Rattle.icn_heap.proofs.members.add_texts_of_members.Given as goal
-
--- the members so far are needed
-abbrev pub invariant-loop-place : goal.invariant-loop-place
-invariant-loop-place l = AreNeeded l.initial.needed l.needed (take l.place (set_vals l.set))
