@@ -66,12 +66,13 @@ impl Heap {
             ≤ needed_length first + length_of_vals (held_vals (parts_of self.new))) }
         ensures marked { (val : Val) → IsLive (extent_of self.new) val → MarkedBy (marks_of self.old) val }
     {
+        let mut needed = needed;
         let count = needed.ranges.len() as u64;
         self.lists.give_back();
         self.sets.give_back();
         self.tables.give_back();
         self.records.give_back();
-        self.strings.sweep(&needed.ranges)?;
+        self.strings.sweep(&mut needed.ranges)?;
         Ok(count)
     }
 }

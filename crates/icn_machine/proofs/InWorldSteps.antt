@@ -104,7 +104,7 @@ sizes w m k n size v d below back is pushed =
 
 -- Subscripts of tables
 
-one_item : (items : List Item) → length items ≡ 1 → (x : Item) × (items ≡ x ∷ [])
+pub one_item : (items : List Item) → length items ≡ 1 → (x : Item) × (items ≡ x ∷ [])
 one_item [] e = let none : 0 ≡ 1 = e in absurd (omega arith)
 one_item (x ∷ []) e = (x, refl)
 one_item (x ∷ y ∷ items) e = let more : suc (suc (length items)) ≡ 1 = e in absurd (omega arith)

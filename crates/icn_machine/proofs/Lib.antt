@@ -29,6 +29,8 @@ pub mod StartLoops
 pub mod StartSteps
 pub mod StaticsKept
 pub mod ValueOperationSteps
+pub mod HeldValueSteps
+pub mod HeldAssignments
 pub mod AtOnceAnswers
 pub mod WorldAtOnce
 pub mod FailingAtOnce

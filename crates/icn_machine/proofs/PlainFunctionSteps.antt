@@ -116,7 +116,7 @@ last_of (x ∷ y ∷ items) p =
     let more = last_of (y ∷ items) q in
     record { front = x ∷ more.front; last = more.last; is = ap (λ (xs : List Item). x ∷ xs) more.is }
 
-operands_append : (a b : List Item) (cells : List Cell) → operands_above (a ++ b) cells ≡ operands_above b (operands_above a cells)
+pub operands_append : (a b : List Item) (cells : List Cell) → operands_above (a ++ b) cells ≡ operands_above b (operands_above a cells)
 operands_append [] b cells = refl
 operands_append (x ∷ a) b cells = operands_append a b (Operand x ∷ cells)
 

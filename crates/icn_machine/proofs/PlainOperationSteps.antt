@@ -306,7 +306,7 @@ assigned_row all k st x y index v e h =
     ∙ ap (λ (z : Item). the_variable (item_in all z) (λ target. assigns target (value_in all v) (λ now. gives (values.Var now))) at) e
 
 -- the locals of the stack that was read are set as those of the stack
-locals_set : (all : Extent) (k l : FlatStack) (index : ℕ) (v : Val) → l ≡ held.set_locals (slice_set (held.locals k) index v) k
+pub locals_set : (all : Extent) (k l : FlatStack) (index : ℕ) (v : Val) → l ≡ held.set_locals (slice_set (held.locals k) index v) k
     → flat.set_locals (slice_set (flat.locals (stack_in all k)) index (value_in all v)) (stack_in all k) ≡ stack_in all l
 locals_set all k l index v e =
     ap (λ (vs : List Value). flat.set_locals (slice_set vs index (value_in all v)) (stack_in all k)) (locals_read (reading_of all) k)
@@ -314,7 +314,7 @@ locals_set all k l index v e =
     ∙ set_locals_read (reading_of all) (slice_set (held.locals k) index v) k
     ∙ ap (stack_in all) (sym e)
 
-set_live : (t : Tables) (reach : Reach) (k l : FlatStack) (index : ℕ) (v : Val) → IsLive reach.extent v
+pub set_live : (t : Tables) (reach : Reach) (k l : FlatStack) (index : ℕ) (v : Val) → IsLive reach.extent v
     → l ≡ held.set_locals (slice_set (held.locals k) index v) k → IsLiveStack t reach k → IsLiveStack t reach l
 set_live t reach k l index v live e s =
     let vs : List Val = slice_set (held.locals k) index v in
@@ -322,7 +322,7 @@ set_live t reach k l index v live e s =
     let set : Each (IsLive reach.extent) vs = all_set (IsLive reach.extent) (held.locals k) index v each live in
     subst (λ (x : FlatStack). IsLiveStack t reach x) (sym e) (live_from t reach vs k.registers.base k (all_of (IsLive reach.extent) vs set) s)
 
-set_named : (names : Names) (all : Extent) (k l : FlatStack) (index : ℕ) (v : Val) → ValueNamed names (value_in all v)
+pub set_named : (names : Names) (all : Extent) (k l : FlatStack) (index : ℕ) (v : Val) → ValueNamed names (value_in all v)
     → l ≡ held.set_locals (slice_set (held.locals k) index v) k → named.NamedStack names (stack_in all k)
     → named.NamedStack names (stack_in all l)
 set_named names all k l index v one e h =

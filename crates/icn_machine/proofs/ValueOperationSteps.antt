@@ -1,5 +1,5 @@
 -- Operations on the values of two operands, as steps.
-use Rattle.std.proofs.Common.{◌≡◌, ℕ, ℤ, Bool, true, false, nat_le, nat_lt, ◌<◌, ◌≤◌, List, [], ◌∷◌, ◌-◌, length, Option, Some, None, Result, IfSome, refl, sym, ap, ◌∙◌, subst, arith}
+use Rattle.std.proofs.Common.{◌≡◌, ℕ, ℤ, Bool, true, false, not, nat_le, nat_lt, ◌<◌, ◌≤◌, List, [], ◌∷◌, ◌-◌, length, Option, Some, None, Result, IfSome, refl, sym, ap, ◌∙◌, subst, arith}
 use Rattle.std.proofs.lemmas.Bool.{le-leb, lt-leb}
 use Rattle.std.proofs.lemmas.Option.{same_Some}
 use Rattle.std.specs.Cmp.Lexicographic.{slice_cmp}
@@ -16,16 +16,16 @@ use Rattle.icn_value.specs.declared.val.Val.{Val}
 use Rattle.icn_value.specs.declared.val.Val.TheVariants as Vals
 use Rattle.icn_value.specs.declared.item.Root.TheVariants as Roots
 use Rattle.icn_value.specs.declared.item.VarRef.TheVariants as VarRefs
-use Rattle.icn_value.specs.Store.{Outside, Setting, World as StoreWorld, list_at}
+use Rattle.icn_value.specs.Store.{Names, Outside, Setting, World as StoreWorld, list_at}
 use Rattle.icn_value.specs.Values as values
 use Rattle.icn_value.specs.Values.{Value}
 use Rattle.icn_defs.specs.Arguments.{number, string}
 use Rattle.icn_defs.specs.Arities.{arity}
 use Rattle.icn_defs.specs.Arithmetic.{arithmetic_row, number_comparison_row}
 use Rattle.icn_defs.specs.Calls.{GoesOn}
-use Rattle.icn_defs.specs.Conversions.{position_of}
+use Rattle.icn_defs.specs.Conversions.{position_of, same}
 use Rattle.icn_defs.specs.Elements.{element_item}
-use Rattle.icn_defs.specs.Operations.{text_comparison_row}
+use Rattle.icn_defs.specs.Operations.{equivalence_row, text_comparison_row}
 use Rattle.icn_defs.specs.ReadAndAssign.{the_value}
 use Rattle.icn_defs.specs.Rows.{Outcome, Row, Fails, Gives, costs_texts, fails_unless, gives, gives_value, number_or_error, thing_or_failure}
 use Rattle.icn_defs.specs.Variables.{element_position, subscript_of}
@@ -39,6 +39,7 @@ use Rattle.icn_frames.specs.Stacks.{FlatStack}
 use Rattle.icn_code.specs.Codes.{Tables}
 use Rattle.icn_run.specs.Stacks.{Frames, flat}
 use Rattle.icn_run.specs.Step.{Store, failing, here, outcome, push_item, running}
+use Rattle.law_names.specs.NamedSettings.{ValueNamed}
 use Rattle.law_steps.specs.StateNames.{StackNamed}
 use Rattle.law_steps.proofs.CallsNamed as named
 use Rattle.icn_control.specs.LiveStacks.{IsLiveStack}
@@ -53,7 +54,7 @@ use Rattle.icn_code.specs.declared.instr.Instr.TheVariants as Instrs
 use Rattle.icn_machine.specs.declared.value_operations.ItemOutcome.{ItemOutcome}
 use Rattle.icn_machine.specs.declared.value_operations.ItemOutcome.TheVariants as Answers
 use Rattle.icn_machine.specs.PlainOperations.{OperatesInWorld, integer_result, is_met}
-use Rattle.icn_machine.specs.ValueOperations.{ComesOnValues, ComesOverValues, FindsOperand, GivesAtOnce, IsPlain, IsPlainItem, given_in, is_text_met, value_if}
+use Rattle.icn_machine.specs.ValueOperations.{ComesOnValues, ComesOverValues, FindsOperand, GivesAtOnce, IsPlain, IsPlainItem, given_in, is_equality_met, is_nameless, is_text_met, value_if}
 use Rattle.icn_machine.proofs.OperateSteps.{named_taken}
 use Rattle.icn_machine.proofs.PlainOperationSteps.{after_turn, locals_back, row_performed, was_ok}
 
@@ -134,6 +135,23 @@ texts_compared w Ops.LexicallyGreater a b met e x y s is fx fy = text_comparison
 texts_compared w Ops.LexicallyNotEqual a b met e x y s is fx fy = text_comparison_on (λ p q. is_ne (slice_cmp nat_cmp p q)) (extent_of w.heap) a b met x y s fx fy e
 texts_compared w op a b met e x y s is fx fy = cc
 
+equality_on : (test : Bool → Bool) (all : Extent) (a b : Val) (met : Bool) (x y : values.Item) (s : Setting)
+    → GoesOn (the_value x) s (value_in all a) s → GoesOn (the_value y) s (value_in all b) s
+    → Some (test (same (value_in all a) (value_in all b))) ≡ Some met
+    → equivalence_row test x y s ≡ given_in all (value_if met b) s
+equality_on test all a b met x y s fx fy e =
+    let second : Value → Value → Row = λ v w. fails_unless (test (same v w)) (gives_value w) in
+    fx (λ v. the_value y (second v)) ∙ fy (second (value_in all a))
+    ∙ ap (λ (t : Bool). fails_unless t (gives_value (value_in all b)) s) (same_Some (test (same (value_in all a) (value_in all b))) met e)
+    ∙ given_if all met b s
+
+-- a test of equality
+pub values_tested : (w : World) (op : Op) (a b : Val) (met : Bool)
+    → is_equality_met op (same (value_in (extent_of w.heap) a) (value_in (extent_of w.heap) b)) ≡ Some met → ComesOnValues w op a b (value_if met b)
+values_tested w Ops.Equivalent a b met e x y s is fx fy = equality_on (λ t. t) (extent_of w.heap) a b met x y s fx fy e
+values_tested w Ops.NotEquivalent a b met e x y s is fx fy = equality_on not (extent_of w.heap) a b met x y s fx fy e
+values_tested w op a b met e x y s is fx fy = cc
+
 -- the element of a list at a position
 
 pub element_there : (n : ℤ) (size place : ℕ) (next : ℕ → Row) (s : Setting) → Some place ≡ position_of n size → place ≤ size
@@ -170,6 +188,22 @@ integer_plain w n = record { live = λ locals. record { live = record { live = t
 
 pub text_plain : (w : World) (span : Span) → IsText (extent_of w.heap) span → IsPlainItem w (Items.Val (Vals.Text span))
 text_plain w span is = record { live = λ locals. record { live = record { live = is } }; named = λ names. record { named = tt } }
+
+pub nameless_named : (names : Names) (all : Extent) (v : Val) → is_nameless v ≡ true → ValueNamed names (value_in all v)
+nameless_named names all Vals.Null e = tt
+nameless_named names all (Vals.Integer n) e = tt
+nameless_named names all (Vals.Text span) e = tt
+nameless_named names all (Vals.Chars cset) e = tt
+nameless_named names all (Vals.Std file) e = tt
+nameless_named names all (Vals.Proc number) e = cc
+nameless_named names all (Vals.Rec id) e = tt
+nameless_named names all (Vals.List id) e = tt
+nameless_named names all (Vals.Set id) e = tt
+nameless_named names all (Vals.Table id) e = tt
+nameless_named names all (Vals.Coexp id) e = tt
+
+pub value_plain : (w : World) (v : Val) → is_nameless v ≡ true → IsLive (extent_of w.heap) v → IsPlainItem w (Items.Val v)
+value_plain w v e l = record { live = λ locals. record { live = l }; named = λ names. record { named = nameless_named names (extent_of w.heap) v e } }
 
 pub element_plain : (w : World) (list : ℕ) (number : ℤ) → IsLive (extent_of w.heap) (Vals.List list)
     → IsPlainItem w (Items.Var (VarRefs.Whole (Roots.Element list number)))

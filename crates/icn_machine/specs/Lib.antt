@@ -13,4 +13,5 @@ pub mod PlainCalls
 pub mod PlainFunctions
 pub mod DoneInPlace
 pub mod ValueOperations
+pub mod HeldValues
 pub mod AnsweredAtOnce

@@ -1,5 +1,5 @@
 -- Operations on the values of two operands, whatever variables these are.
-use Rattle.std.specs.Prelude.{◌≡◌, ℕ, Bool, true, false, [], ◌∷◌, map, Option, Some, None, ⊤}
+use Rattle.std.specs.Prelude.{◌≡◌, ℕ, Bool, true, false, not, [], ◌∷◌, map, Option, Some, None, ⊤}
 use Rattle.std.specs.Ordering.{is_lt, is_le, is_eq, is_ge, is_gt, is_ne}
 use Rattle.std.specs.declared.cmp.Ordering.{Ordering}
 use Rattle.icn_text.specs.declared.op.Op.{Op}
@@ -7,6 +7,7 @@ use Rattle.icn_text.specs.declared.op.Op.TheVariants as Ops
 use Rattle.icn_value.specs.declared.item.Item.{Item}
 use Rattle.icn_value.specs.declared.item.Item.TheVariants as Items
 use Rattle.icn_value.specs.declared.val.Val.{Val}
+use Rattle.icn_value.specs.declared.val.Val.TheVariants as Vals
 use Rattle.icn_value.specs.Store.{Names, Setting}
 use Rattle.icn_value.specs.Values as values
 use Rattle.icn_defs.specs.Applying.{operation_row}
@@ -37,6 +38,26 @@ is_text_met Ops.LexicallyGreaterOrEqual order = Some (is_ge order)
 is_text_met Ops.LexicallyGreater order = Some (is_gt order)
 is_text_met Ops.LexicallyNotEqual order = Some (is_ne order)
 is_text_met op order = None
+
+-- whether a test of equality is met, by whether two values are the same
+abbrev pub is_equality_met : Op → Bool → Option Bool
+is_equality_met Ops.Equivalent same = Some same
+is_equality_met Ops.NotEquivalent same = Some (not same)
+is_equality_met op same = None
+
+-- whether a value is no procedure
+abbrev pub is_nameless : Val → Bool
+is_nameless Vals.Null = true
+is_nameless (Vals.Integer n) = true
+is_nameless (Vals.Text span) = true
+is_nameless (Vals.Chars cset) = true
+is_nameless (Vals.Std file) = true
+is_nameless (Vals.Proc number) = false
+is_nameless (Vals.Rec id) = true
+is_nameless (Vals.List id) = true
+is_nameless (Vals.Set id) = true
+is_nameless (Vals.Table id) = true
+is_nameless (Vals.Coexp id) = true
 
 -- a value where a test is met; it fails elsewhere
 abbrev pub value_if : Bool → Val → ItemOutcome

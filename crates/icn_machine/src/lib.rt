@@ -10,6 +10,8 @@ mod errors;
 mod failing;
 mod fields;
 mod giving;
+mod held_assignments;
+mod held_values;
 mod invoking;
 mod operations;
 mod own_locals;

@@ -17,6 +17,7 @@ ghost use Rattle.icn_machine.specs.PlainFunctions.{HasValueBelow};
 ghost use Rattle.icn_machine.specs.PlainOperations.{Assigns, Compares, Computes, HasValueOf, IsLocalSlot, NamesOwnLocal, OperatesInPlace, OperatesInWorld, TakesSlots, TellIntegers, TellsInteger, integer_result, is_met, local_item};
 
 use crate::counts::count_from;
+use crate::held_assignments::assign_held;
 use crate::plain_functions::value_told;
 use crate::value_operations::operate_on_values;
 use icn_control::{RunState, put_slot, value_slot};
@@ -167,9 +168,9 @@ fn compare<K: Stack<Cell> + Drop>(frames: &mut Frames<K>, op: Op) -> Option<RunS
     Some(RunState::Failing)
 }
 
-// The index of a local that an operand is.
+/// The index of a local that an operand is.
 #[inline(always)]
-fn local_index(slot: Cell) -> Option<u32>
+pub fn local_index(slot: Cell) -> Option<u32>
     ensures { IfSome result (λ index. plain_operand slot ≡ Some (local_item index)) }
 {
     match slot {
@@ -354,6 +355,23 @@ pub fn operate_in_world<K: Stack<Cell> + Drop>(
 {
     match operate_as_told(frames, world, op) {
         Some(stage) => Some(stage),
-        None => operate_on_values(frames, world, op),
+        None => operate_as_held(frames, world, op),
+    }
+}
+
+// The same where a value is held by any variable.
+#[inline(always)]
+fn operate_as_held<K: Stack<Cell> + Drop>(
+    frames: &mut Frames<K>,
+    world: &World,
+    op: Op,
+) -> Option<RunState>
+    requires operands { IsSome (take_operands (arity op) frames.old.flat) }
+    requires live { (tables : Tables) × IsLiveStack tables (reach_of world.now []) frames.old.flat }
+    ensures { OperatesInWorld world.now op frames.old.flat frames.new.flat result }
+{
+    match op {
+        Op::Assign => assign_held(frames, world),
+        _ => operate_on_values(frames, world, op),
     }
 }

@@ -1,5 +1,5 @@
 // Operations on the values of two operands, whatever variables these are: arithmetic and comparisons of integers, comparisons of
-// texts, and subscripts of lists. The world stays as it is.
+// texts, tests of equality, and subscripts of lists. The world stays as it is.
 ghost use Rattle.std.specs.Prelude.{◌≡◌, ◌+◌, ◌<◌, ◌≤◌, ◌^◌, ◌∷◌, [], length, IfSome, IsSome, IsTrue, Some};
 ghost use Rattle.icn_text.specs.declared.op.Op.TheVariants as Ops;
 ghost use Rattle.icn_value.specs.declared.val.Val.TheVariants as Vals;
@@ -15,14 +15,16 @@ ghost use Rattle.icn_code.specs.Codes.{Tables};
 ghost use Rattle.icn_control.specs.LiveStacks.{IsLiveStack, with_locals};
 ghost use Rattle.icn_control.specs.TakenOperands.{take_operands};
 ghost use Rattle.icn_machine.specs.PlainOperations.{OperatesInWorld, integer_result};
-ghost use Rattle.icn_machine.specs.ValueOperations.{ComesOnValues, ComesOverValues, FindsOperand, GivesAtOnce, IsPlain, IsPlainItem, is_text_met, value_if};
+ghost use Rattle.icn_machine.specs.ValueOperations.{ComesOnValues, ComesOverValues, FindsOperand, GivesAtOnce, IsPlain, IsPlainItem, is_equality_met, is_nameless, is_text_met, value_if};
 
+use crate::held_values::value_held;
 use crate::plain_operations::{computed_number, is_met};
-use icn_control::{Activation, RunState};
+use icn_control::RunState;
+use icn_convert::same;
 use icn_frames::{Cell, Frames, Stack};
 use icn_text::{Op, add, div, mul, rem, sub};
 use icn_value::{Item, Root, Span, Val, VarRef};
-use icn_vars::{World, deref, position_of};
+use icn_vars::{World, position_of};
 use std::cmp::Ordering;
 
 /// What an operation gives at once.
@@ -45,15 +47,6 @@ pub fn take_two<K: Stack<Cell> + Drop>(frames: &mut Frames<K>) -> (Item, Item)
     (lower, upper)
 }
 
-// Puts two operands back that were taken.
-fn put_two<K: Stack<Cell> + Drop>(frames: &mut Frames<K>, two: (Item, Item))
-    requires { 2 ≤ frames.old.spare }
-    ensures { frames.new.flat ≡ flat.push two.1 (flat.push two.0 frames.old.flat) }
-{
-    put_item(frames, two.0);
-    put_item(frames, two.1);
-}
-
 // Puts an operand on top, for which there is room.
 fn put_item<K: Stack<Cell> + Drop>(frames: &mut Frames<K>, item: Item)
     requires { 1 ≤ frames.old.spare }
@@ -63,27 +56,6 @@ fn put_item<K: Stack<Cell> + Drop>(frames: &mut Frames<K>, item: Item)
     match frames.push(item) {
         Ok(()) => {}
         Err(_) => unreachable!(),
-    }
-}
-
-// The value of an operand that was taken, if it has one.
-fn operand_value<K: Stack<Cell> + Drop>(
-    frames: &mut Frames<K>,
-    world: &World,
-    item: Item,
-) -> Option<Val>
-    requires stack { (tables : Tables) × IsLiveStack tables (reach_of world.now []) frames.old.flat }
-    requires item { IsLiveItem (with_locals (flat.local_count frames.old.flat) (reach_of world.now [])) item }
-    ensures same { frames.new.flat ≡ frames.old.flat }
-    ensures spare { frames.new.spare ≡ frames.old.spare }
-    ensures live { IfSome result (IsLive (extent_of world.now.heap)) }
-    ensures found { IfSome result (FindsOperand world.now frames.old.flat item) }
-{
-    frames.local_count();
-    let activation = Activation { frames };
-    match deref(world, &activation, item) {
-        Ok(val) => Some(val),
-        Err(_) => None,
     }
 }
 
@@ -256,44 +228,81 @@ fn list_subscript(world: &World, list: u32, b: Val) -> Option<ItemOutcome>
     }
 }
 
-// What an operation comes to on two values, if it is arithmetic on integers, a comparison of them or of texts, or the subscript of
-// a list.
+// Whether an operation tests whether two values are the same.
+#[inline(always)]
+fn is_equality(op: Op) -> bool {
+    match op {
+        Op::Equivalent => true,
+        Op::NotEquivalent => true,
+        _ => false,
+    }
+}
+
+// Whether a test of equality is met, by whether two values are the same.
+#[inline(always)]
+fn is_equality_met(op: Op, same: bool) -> Option<bool>
+    ensures { result ≡ is_equality_met op same }
+{
+    match op {
+        Op::Equivalent => Some(same),
+        Op::NotEquivalent => Some(!same),
+        _ => None,
+    }
+}
+
+/// Whether a value is no procedure.
+#[inline(always)]
+pub fn is_nameless(v: Val) -> bool
+    ensures { result ≡ is_nameless v }
+{
+    match v {
+        Val::Null => true,
+        Val::Integer(_) => true,
+        Val::Text(_) => true,
+        Val::Chars(_) => true,
+        Val::Std(_) => true,
+        Val::Proc(_) => false,
+        Val::Rec(_) => true,
+        Val::List(_) => true,
+        Val::Set(_) => true,
+        Val::Table(_) => true,
+        Val::Coexp(_) => true,
+    }
+}
+
+// What a test of equality comes to on two values, if the second one is no procedure.
+fn outcome_of_equality(world: &World, op: Op, a: Val, b: Val) -> Option<ItemOutcome>
+    requires first { IsLive (extent_of world.now.heap) a }
+    requires second { IsLive (extent_of world.now.heap) b }
+    ensures row { IfSome result (ComesOnValues world.now op a b) }
+    ensures plain { IfSome result (IsPlain world.now) }
+{
+    if !is_nameless(b) {
+        return None;
+    }
+    match is_equality_met(op, same(&world.heap, a, b)) {
+        Some(met) => Some(value_if(met, b)),
+        None => None,
+    }
+}
+
+// What an operation comes to on two values, if it is arithmetic on integers, a comparison of them or of texts, a test of equality, or
+// the subscript of a list.
 fn outcome_of_values(world: &World, op: Op, a: Val, b: Val) -> Option<ItemOutcome>
     requires first { IsLive (extent_of world.now.heap) a }
     requires second { IsLive (extent_of world.now.heap) b }
     ensures row { IfSome result (ComesOnValues world.now op a b) }
     ensures plain { IfSome result (IsPlain world.now) }
 {
+    if is_equality(op) {
+        return outcome_of_equality(world, op, a, b);
+    }
     match a {
         Val::Integer(m) => outcome_with_integer(op, m, b),
         Val::Text(s) => outcome_with_text(world, op, s, b),
         Val::List(list) => outcome_with_list(world, op, list, b),
         _ => None,
     }
-}
-
-// What an operation comes to on two operands that were taken, if it is told.
-fn outcome_of_operands<K: Stack<Cell> + Drop>(
-    frames: &mut Frames<K>,
-    world: &World,
-    op: Op,
-    two: (Item, Item),
-) -> Option<ItemOutcome>
-    requires stack { (tables : Tables) × IsLiveStack tables (reach_of world.now []) frames.old.flat }
-    requires lower { IsLiveItem (with_locals (flat.local_count frames.old.flat) (reach_of world.now [])) two.0 }
-    requires upper { IsLiveItem (with_locals (flat.local_count frames.old.flat) (reach_of world.now [])) two.1 }
-    ensures same { frames.new.flat ≡ frames.old.flat }
-    ensures spare { frames.new.spare ≡ frames.old.spare }
-    ensures row { IfSome result (ComesOverValues world.now op frames.old.flat two) }
-    ensures plain { IfSome result (IsPlain world.now) }
-{
-    let Some(a) = operand_value(frames, world, two.0) else {
-        return None;
-    };
-    let Some(b) = operand_value(frames, world, two.1) else {
-        return None;
-    };
-    outcome_of_values(world, op, a, b)
 }
 
 // Pushes what is given, for which there is room, or fails.
@@ -310,7 +319,7 @@ fn give_at_once<K: Stack<Cell> + Drop>(frames: &mut Frames<K>, given: ItemOutcom
     }
 }
 
-// Whether an operation is arithmetic, a comparison of integers or of texts, or a subscript.
+// Whether an operation is arithmetic, a comparison of integers or of texts, a test of equality, or a subscript.
 fn is_of_values(op: Op) -> bool
     ensures { IsTrue result → arity op ≡ 2 }
 {
@@ -332,13 +341,15 @@ fn is_of_values(op: Op) -> bool
         Op::LexicallyGreaterOrEqual => true,
         Op::LexicallyGreater => true,
         Op::LexicallyNotEqual => true,
+        Op::Equivalent => true,
+        Op::NotEquivalent => true,
         Op::Subscript => true,
         _ => false,
     }
 }
 
-/// Performs arithmetic on the integers that two operands are or hold, a comparison of these or of texts, or the subscript of a
-/// list, whatever variables the operands are. Where they hold anything else, and for any other operation, nothing changes. Its
+/// Performs arithmetic on the integers that two operands are or hold, a comparison of these or of texts, a test of equality, or the
+/// subscript of a list, whatever variables the operands are. Where they hold anything else, and for any other operation, nothing changes. Its
 /// operands must be there. It takes no memory.
 pub fn operate_on_values<K: Stack<Cell> + Drop>(
     frames: &mut Frames<K>,
@@ -352,11 +363,16 @@ pub fn operate_on_values<K: Stack<Cell> + Drop>(
     if !is_of_values(op) {
         return None;
     }
-    let two = take_two(frames);
-    frames.local_count();
-    let Some(given) = outcome_of_operands(frames, world, op, two) else {
-        put_two(frames, two);
+    let Some(a) = value_held(frames, world, 1) else {
         return None;
     };
+    let Some(b) = value_held(frames, world, 0) else {
+        return None;
+    };
+    let Some(given) = outcome_of_values(world, op, a, b) else {
+        return None;
+    };
+    frames.drop_with(1);
+    frames.local_count();
     Some(give_at_once(frames, given))
 }

@@ -1,5 +1,5 @@
 -- A machine that gave memory back is ready as it was, and what it goes on to is what the machine before would.
-use Rattle.std.proofs.Common.{◌≡◌, ◌<◌, Result, Ok, Err, refl, sym, ap, ◌∙◌, subst, arith}
+use Rattle.std.proofs.Common.{◌≡◌, ◌<◌, Result, refl, sym, ap, ◌∙◌, subst, arith}
 use Rattle.std.specs.Prelude.{IsSome, IsTrue}
 use Rattle.icn_value.specs.Store.{Outside}
 use Rattle.icn_value.specs.declared.limits.Limits.{Limits}
@@ -13,11 +13,11 @@ use Rattle.icn_control.specs.Machines.{stack_seen, store_seen}
 use Rattle.icn_control.specs.declared.machine.Machine.{Machine}
 use Rattle.icn_control.specs.declared.machine.RunState.{RunState}
 use Rattle.icn_control.specs.declared.machine.RunState.TheVariants as RunStates
-use Rattle.icn_machine.specs.declared.stepping.AfterStep.{AfterStep}
-use Rattle.icn_machine.specs.declared.stepping.AfterStep.TheVariants as AfterSteps
-use Rattle.icn_machine.specs.AfterInstruction.{stage_of}
+use Rattle.icn_machine.specs.AfterInstruction.{stage_result}
 use Rattle.icn_machine.specs.Stepping.{Advances, GoesOn, IsAny, IsAt, IsReady, advances, stays}
-use Rattle.icn_running.specs.DueInstructions.{is_on}
+use Rattle.icn_running.specs.declared.running.AfterTurn.{AfterTurn}
+use Rattle.icn_running.specs.declared.running.AfterTurn.TheVariants as AfterTurns
+use Rattle.icn_running.specs.DueInstructions.{goes_on, step_result}
 use Rattle.icn_running.specs.SameMachines.{StandsForSame}
 use Rattle.icn_running.specs.WorkLeft.{AlwaysFalls, Lasts, MadeTurn, state_seen}
 
@@ -61,20 +61,15 @@ module _ {K : Type 0} (m n : Machine K) (same : StandsForSame m n) (tables : Tab
       caused = a.caused;
     }
 
-    -- where it was stopped
-    pub err_same : (halt : Halt) → GoesOn IsAny tables n RunStates.Running b k c (Err halt)
-        → GoesOn IsAny tables m RunStates.Running b k c (Err halt)
-    err_same halt (advances a) = advances (advances_same (Err halt) a)
-    err_same halt (stays e h r) = absurd (cc r)
-
-    -- where it went on by a turn, or the run is over
-    pub ok_same : (next : AfterStep) → (IsTrue (is_on next) → MadeTurn n k)
-        → GoesOn IsAny tables n RunStates.Running b k c (Ok (stage_of next))
-        → GoesOn IsAny tables m RunStates.Running b k c (Ok (stage_of next))
-    ok_same next turn (advances a) = advances (advances_same (Ok (stage_of next)) a)
-    ok_same AfterSteps.Running turn (stays e h r) =
+    -- where it went on by a turn, or was stopped
+    pub goes_same : (next : AfterTurn) (halt : Halt) → (IsTrue (goes_on next) → MadeTurn n k)
+        → GoesOn IsAny tables n RunStates.Running b k c (stage_result (step_result next halt))
+        → GoesOn IsAny tables m RunStates.Running b k c (stage_result (step_result next halt))
+    goes_same next halt turn (advances a) = advances (advances_same (stage_result (step_result next halt)) a)
+    goes_same AfterTurns.Running halt turn (stays e h r) =
         let more : n.turns < k.turns = (turn refl).more in
         let still : k.turns ≡ n.turns = ap (λ (x : Machine K). x.turns) e in
         absurd (omega (arith, more, still))
-    ok_same AfterSteps.Over turn (stays e h r) = absurd (cc r)
-    ok_same AfterSteps.AtBound turn (stays e h r) = absurd (cc r)
+    goes_same AfterTurns.Over halt turn (stays e h r) = absurd (cc r)
+    goes_same AfterTurns.AtBound halt turn (stays e h r) = absurd (cc r)
+    goes_same AfterTurns.Halted halt turn (stays e h r) = absurd (cc r)

@@ -14,9 +14,9 @@ const FIRST_CELLS: u64 = 16384;
 
 // How many bytes may be built for each text that stayed, and for each value that was looked at: so finding them takes no more than a part of the time in
 // which the bytes are built.
-const BYTES_FOR_TEXT: u64 = 64;
+const BYTES_FOR_TEXT: u64 = 16;
 
-const BYTES_FOR_VALUE: u64 = 8;
+const BYTES_FOR_VALUE: u64 = 4;
 
 /// When memory is to be given back again.
 #[derive(Clone, Copy, Debug)]

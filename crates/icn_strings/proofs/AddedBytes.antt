@@ -10,7 +10,8 @@ use Rattle.std.proofs.lemmas.List.Quantifiers.{all_pairs_push}
 use Rattle.std.proofs.lemmas.List.Folds.{Any-from_list_any}
 use Rattle.icn_strings.specs.declared.byte_range.ByteRange.{ByteRange}
 use Rattle.icn_strings.specs.declared.chunk.Chunk.{Chunk}
-use Rattle.icn_strings.specs.Chunks.{holds, end_of, EndsBefore, HasItsPart, IsLast, AreSoundChunks}
+use Rattle.icn_strings.specs.Parts.{RegionPart, holds, end_of, EndsBefore, HasItsPart}
+use Rattle.icn_strings.specs.Chunks.{part_of_chunk, IsLast, AreSoundChunks}
 use Rattle.icn_strings.specs.Ranges.{IsPart}
 use Rattle.icn_strings.proofs.HeldRanges.{LiesIn, lies, either_way}
 
@@ -75,19 +76,19 @@ part_short xs at n most h =
       | inr within ↦ omega (arith, length-take-le n (drop at xs) within, length-drop at xs)
     ]
 
--- the bytes of a range in a chunk that holds it
-pub part_is : (all : List ℕ) (chunk : Chunk) (range : ByteRange) → HasItsPart all chunk → holds range chunk ≡ true
-    → take range.len (drop (range.start - chunk.first) chunk.bytes.items) ≡ take range.len (drop range.start all)
-part_is all chunk range agrees is =
-    let lay : LiesIn range chunk = lies range chunk is in
-    ap (λ ys. take range.len (drop (range.start - chunk.first) ys)) agrees.bytes
-    ∙ part_of_part all chunk.first (length chunk.bytes.items) range.start range.len lay.from lay.to
+-- the bytes of a range in a part that holds it
+pub part_is : (all : List ℕ) (part : RegionPart) (range : ByteRange) → HasItsPart all part → holds range part ≡ true
+    → take range.len (drop (range.start - part.first) part.bytes) ≡ take range.len (drop range.start all)
+part_is all part range agrees is =
+    let lay : LiesIn range part = lies range part is in
+    ap (λ ys. take range.len (drop (range.start - part.first) ys)) agrees.bytes
+    ∙ part_of_part all part.first (length part.bytes) range.start range.len lay.from lay.to
 
--- a chunk agrees with more
-agrees_more : (all more : List ℕ) (chunk : Chunk) → HasItsPart all chunk → HasItsPart (all ++ more) chunk
-agrees_more all more chunk is = record {
+-- a part agrees with more
+agrees_more : (all more : List ℕ) (part : RegionPart) → HasItsPart all part → HasItsPart (all ++ more) part
+agrees_more all more part is = record {
   within = rw length-append (omega (arith, is.within));
-  bytes = is.bytes ∙ sym (within_stays (length chunk.bytes.items) chunk.first all more (λ _. is.within));
+  bytes = is.bytes ∙ sym (within_stays (length part.bytes) part.first all more (λ _. is.within));
 }
 
 -- the last chunk ends where all bytes end
@@ -97,7 +98,7 @@ last_ends all chunk is =
     omega (arith, is.from, long)
 
 -- it has its part of them
-pub last_agrees : (all : List ℕ) (chunk : Chunk) → IsLast all chunk → HasItsPart all chunk
+pub last_agrees : (all : List ℕ) (chunk : Chunk) → IsLast all chunk → HasItsPart all (part_of_chunk chunk)
 last_agrees all chunk is =
     let long : length chunk.bytes.items ≡ length (drop chunk.first all) = ap (λ (ys : List ℕ). length ys) is.bytes in
     let ends : chunk.first + length chunk.bytes.items ≤ length all = omega (arith, last_ends all chunk is) in
@@ -126,47 +127,55 @@ last_more all more chunk new is first bytes = record {
 }
 
 -- the chunks are sound once more bytes are written into the last one
-sound_added : (all more : List ℕ) (closed : List Chunk) (last new : Chunk) (sum limit : ℕ) → AreSoundChunks all closed last sum limit
+sound_added : (all more : List ℕ) (closed : List RegionPart) (last new : Chunk) (sum limit : ℕ) → AreSoundChunks all closed last sum limit
     → new.first ≡ last.first → new.bytes.items ≡ last.bytes.items ++ more → length all + length more < 2 ^ 63 - 1
     → AreSoundChunks (all ++ more) closed new sum limit
 sound_added all more closed last new sum limit is first bytes few = record {
   agree = All-weaker (HasItsPart all) (HasItsPart (all ++ more)) (λ chunk agrees. agrees_more all more chunk agrees) closed is.agree;
   order = is.order;
   before =
-      All-weaker (λ chunk. EndsBefore chunk last) (λ chunk. EndsBefore chunk new) (λ chunk ends. subst (λ n. end_of chunk ≤ n) (sym first) ends) closed
+      All-weaker (λ (part : RegionPart). end_of part ≤ last.first) (λ (part : RegionPart). end_of part ≤ new.first)
+      (λ part ends. subst (λ n. end_of part ≤ n) (sym first) ends) closed
       is.before;
   ends = last_more all more last new is.ends first bytes;
   short = rw length-append few;
   within = is.within;
 }
 
-pub sound_more : (all whole more : List ℕ) (closed : List Chunk) (last new : Chunk) (sum limit : ℕ) → AreSoundChunks all closed last sum limit
+pub sound_more : (all whole more : List ℕ) (closed : List RegionPart) (last new : Chunk) (sum limit : ℕ) → AreSoundChunks all closed last sum limit
     → new.first ≡ last.first → new.bytes.items ≡ last.bytes.items ++ more → whole ≡ all ++ more → length all + length more < 2 ^ 63 - 1
     → AreSoundChunks whole closed new sum limit
 sound_more all whole more closed last new sum limit is first bytes same few =
     subst (λ ys. AreSoundChunks ys closed new sum limit) (sym same) (sound_added all more closed last new sum limit is first bytes few)
 
 -- and once another chunk follows
-sound_opened : (all : List ℕ) (closed : List Chunk) (last new : Chunk) (sum limit : ℕ) → AreSoundChunks all closed last sum limit
-    → new.first ≡ length all → new.bytes.items ≡ [] → AreSoundChunks all (closed ++ last ∷ []) new sum limit
+sound_opened : (all : List ℕ) (closed : List RegionPart) (last new : Chunk) (sum limit : ℕ) → AreSoundChunks all closed last sum limit
+    → new.first ≡ length all → new.bytes.items ≡ [] → AreSoundChunks all (closed ++ part_of_chunk last ∷ []) new sum limit
 sound_opened all closed last new sum limit is first none =
     let behind : last.first + length last.bytes.items ≤ new.first = omega (arith, first, last_ends all last is.ends) in
     record {
-      agree = All-push (HasItsPart all) closed last is.agree (last_agrees all last is.ends);
-      order = all_pairs_push EndsBefore closed last is.order is.before;
+      agree = All-push (HasItsPart all) closed (part_of_chunk last) is.agree (last_agrees all last is.ends);
+      order = all_pairs_push EndsBefore closed (part_of_chunk last) is.order is.before;
       before =
-          All-push (λ chunk. EndsBefore chunk new) closed last
-          (All-weaker (HasItsPart all) (λ chunk. EndsBefore chunk new) (λ chunk part. subst (λ n. end_of chunk ≤ n) (sym first) part.within) closed
+          All-push (λ (part : RegionPart). end_of part ≤ new.first) closed (part_of_chunk last)
+          (All-weaker (HasItsPart all) (λ (part : RegionPart). end_of part ≤ new.first) (λ part is. subst (λ n. end_of part ≤ n) (sym first) is.within) closed
           is.agree) behind;
       ends = record { from = omega (arith, first); bytes = none ∙ sym (drop_all new.first all (omega (arith, first))) };
       short = is.short;
       within = is.within;
     }
 
-pub sound_closed : (all : List ℕ) (closed chunks : List Chunk) (last new : Chunk) (sum limit : ℕ) → AreSoundChunks all closed last sum limit
-    → chunks ≡ closed ++ last ∷ [] → new.first ≡ length all → new.bytes.items ≡ [] → AreSoundChunks all chunks new sum limit
-sound_closed all closed chunks last new sum limit is same first none =
+pub sound_closed : (all : List ℕ) (closed parts : List RegionPart) (last new : Chunk) (sum limit : ℕ) → AreSoundChunks all closed last sum limit
+    → parts ≡ closed ++ part_of_chunk last ∷ [] → new.first ≡ length all → new.bytes.items ≡ [] → AreSoundChunks all parts new sum limit
+sound_closed all closed parts last new sum limit is same first none =
     subst (λ cs. AreSoundChunks all cs new sum limit) (sym same) (sound_opened all closed last new sum limit is first none)
+
+-- the chunks are sound where they are the same
+pub sound_same : (all : List ℕ) (closed parts : List RegionPart) (last new : Chunk) (sum limit : ℕ) → AreSoundChunks all closed last sum limit
+    → parts ≡ closed → new ≡ last → AreSoundChunks all parts new sum limit
+sound_same all closed parts last new sum limit is same same_last =
+    subst (λ (ps : List RegionPart). AreSoundChunks all ps new sum limit) (sym same)
+    (subst (λ (chunk : Chunk). AreSoundChunks all closed chunk sum limit) (sym same_last) is)
 
 sound_empty : (last : Chunk) (limit : ℕ) → last.first ≡ 0 → last.bytes.items ≡ [] → AreSoundChunks [] [] last 0 limit
 sound_empty last limit first none =
@@ -182,28 +191,28 @@ sound_empty last limit first none =
     }
 
 -- where nothing was written, the chunks are sound
-pub sound_new : (all : List ℕ) (closed : List Chunk) (last : Chunk) (limit : ℕ) → all ≡ [] → closed ≡ [] → last.first ≡ 0 → last.bytes.items ≡ []
+pub sound_new : (all : List ℕ) (closed : List RegionPart) (last : Chunk) (limit : ℕ) → all ≡ [] → closed ≡ [] → last.first ≡ 0 → last.bytes.items ≡ []
     → AreSoundChunks all closed last 0 limit
 sound_new all closed last limit none no_chunk first empty =
     subst (λ (ys : List ℕ). AreSoundChunks ys closed last 0 limit) (sym none)
-    (subst (λ (cs : List Chunk). AreSoundChunks [] cs last 0 limit) (sym no_chunk) (sound_empty last limit first empty))
+    (subst (λ (cs : List RegionPart). AreSoundChunks [] cs last 0 limit) (sym no_chunk) (sound_empty last limit first empty))
 
-within_any : (all : List ℕ) (chunks : List Chunk) (range : ByteRange) → All (HasItsPart all) chunks → list_any (holds range) chunks ≡ true
+within_any : (all : List ℕ) (parts : List RegionPart) (range : ByteRange) → All (HasItsPart all) parts → list_any (holds range) parts ≡ true
     → range.start + range.len ≤ length all
-within_any all chunks range are is =
-    let found = Any-from_list_any (holds range) chunks is in
+within_any all parts range are is =
+    let found = Any-from_list_any (holds range) parts is in
     let lay : LiesIn range found.1 = lies range found.1 found.4 in
-    let part : HasItsPart all found.1 = subst (λ (chunk : Chunk). HasItsPart all chunk) found.3 (are found.0 found.1 found.2) in
-    let ends : found.1.first + length found.1.bytes.items ≤ length all = part.within in
+    let part : HasItsPart all found.1 = subst (λ (part : RegionPart). HasItsPart all part) found.3 (are found.0 found.1 found.2) in
+    let ends : found.1.first + length found.1.bytes ≤ length all = part.within in
     omega (arith, lay.to, ends)
 
 -- what is held lies within all bytes
-pub within_all : (all : List ℕ) (closed : List Chunk) (last : Chunk) (range : ByteRange) → All (HasItsPart all) closed → IsLast all last
-    → (holds range last || list_any (holds range) closed) ≡ true → range.start + range.len ≤ length all
+pub within_all : (all : List ℕ) (closed : List RegionPart) (last : Chunk) (range : ByteRange) → All (HasItsPart all) closed → IsLast all last
+    → (holds range (part_of_chunk last) || list_any (holds range) closed) ≡ true → range.start + range.len ≤ length all
 within_all all closed last range are ends is =
-    elim (either_way (holds range last) (list_any (holds range) closed) is) [
+    elim (either_way (holds range (part_of_chunk last)) (list_any (holds range) closed) is) [
       | inl here ↦
-          (let lay : LiesIn range last = lies range last here in
+          (let lay : LiesIn range (part_of_chunk last) = lies range (part_of_chunk last) here in
           omega (arith, lay.to, last_ends all last ends))
       | inr there ↦ within_any all closed range are there
     ]

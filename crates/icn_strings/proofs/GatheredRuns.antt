@@ -1,10 +1,10 @@
 -- What is gathered in runs, as memory is given back.
 use Rattle.std.proofs.Common.{inl, inr, ◌≡◌, ◌∙◌, ℕ, ◌+◌, ◌-◌, ◌<◌, ◌≤◌, max, Bool, true, false, ◌||◌, List, [], ◌∷◌, ◌++◌, length, take, drop, get_or}
-use Rattle.std.proofs.Common.{refl, sym, ap, subst, arith}
-use Rattle.std.specs.List.{All, AllPairs, list_any}
+use Rattle.std.proofs.Common.{refl, sym, ap, subst, arith, append-nil}
+use Rattle.std.specs.List.{All, AllPairs, HoldsAt, list_any}
 use Rattle.std.specs.List.Sorted.{IsNonDecreasingBy, IsPermutation}
 use Rattle.std.proofs.lemmas.Bool.{cases_lt, true≢false}
-use Rattle.std.proofs.lemmas.List.{drop_all, get_or_default, take_all}
+use Rattle.std.proofs.lemmas.List.{drop_all, get_or_default, take_all, take_more}
 use Rattle.std.proofs.lemmas.List.Elements.{All-push, All-weaker}
 use Rattle.std.proofs.lemmas.List.Folds.{Any-from_list_any, list_any-append, list_any_at}
 use Rattle.std.proofs.lemmas.List.Quantifiers.{all_pairs_push}
@@ -13,7 +13,8 @@ use Rattle.std.proofs.lemmas.List.Sums.{sum_by_more}
 use Rattle.icn_strings.specs.declared.byte_range.ByteRange.{ByteRange}
 use Rattle.icn_strings.specs.declared.chunk.Chunk.{Chunk}
 use Rattle.icn_strings.specs.declared.region.Region.{Region}
-use Rattle.icn_strings.specs.Chunks.{holds, end_of, sizes, AreSoundChunks, EndsBefore, HasItsPart}
+use Rattle.icn_strings.specs.Parts.{RegionPart, part, holds, end_of, sizes, EndsBefore, HasItsPart, IsWhole}
+use Rattle.icn_strings.specs.Chunks.{part_of_chunk, AreSoundChunks}
 use Rattle.icn_strings.specs.KeptRuns.{AreGathered, AreKeptRuns, AreRunsBefore, IsGathered, IsJoined, IsKeptIn, IsPutBehind, IsTaken}
 use Rattle.icn_strings.specs.Ranges.{IsPart, total_length}
 use Rattle.icn_strings.specs.Regions.{bytes_of, IsHeld, IsOf}
@@ -21,7 +22,7 @@ use Rattle.icn_strings.proofs.ChunkSizes.{sizes_more}
 use Rattle.icn_strings.proofs.HeldRanges.{LiesIn, lies, does_hold, either_way, by_first, by_second}
 use Rattle.icn_strings.proofs.KeptRegions.{bytes_are, lies_within}
 
--- Two ranges that share a byte lie in one chunk, since chunks are in order
+-- Two ranges that share a byte lie in one part, since parts are in order
 
 -- the second begins within the first, and both have bytes
 pub record IsOverlap (a b both : ByteRange) : Type 0 where
@@ -32,41 +33,41 @@ pub record IsOverlap (a b both : ByteRange) : Type 0 where
   pub start : both.start ≡ a.start
   pub ending : both.start + both.len ≡ max (a.start + a.len) (b.start + b.len)
 
-in_one_chunk : (a b both : ByteRange) (chunk : Chunk) → IsOverlap a b both → holds a chunk ≡ true → holds b chunk ≡ true → holds both chunk ≡ true
-in_one_chunk a b both chunk is first second =
-    let lay : LiesIn a chunk = lies a chunk first in
-    let also : LiesIn b chunk = lies b chunk second in
-    does_hold both chunk (omega (arith, is.start, lay.from)) (omega (arith, is.ending, lay.to, also.to))
+in_one_chunk : (a b both : ByteRange) (one : RegionPart) → IsOverlap a b both → holds a one ≡ true → holds b one ≡ true → holds both one ≡ true
+in_one_chunk a b both one is first second =
+    let lay : LiesIn a one = lies a one first in
+    let also : LiesIn b one = lies b one second in
+    does_hold both one (omega (arith, is.start, lay.from)) (omega (arith, is.ending, lay.to, also.to))
 
--- the chunk of the one does not end before that of the other
-not_before : (a b both : ByteRange) (one other : Chunk) → IsOverlap a b both → holds a one ≡ true → holds b other ≡ true → EndsBefore one other
+-- the part of the one does not end before that of the other
+not_before : (a b both : ByteRange) (one other : RegionPart) → IsOverlap a b both → holds a one ≡ true → holds b other ≡ true → EndsBefore one other
     → ⊥
 not_before a b both one other is first second ends =
     let lay : LiesIn a one = lies a one first in
     let also : LiesIn b other = lies b other second in
-    let apart : one.first + length one.bytes.items ≤ other.first = ends in
+    let apart : one.first + length one.bytes ≤ other.first = ends in
     omega (arith, is.to, lay.to, also.from, apart)
 
-not_behind : (a b both : ByteRange) (one other : Chunk) → IsOverlap a b both → holds a one ≡ true → holds b other ≡ true → EndsBefore other one
+not_behind : (a b both : ByteRange) (one other : RegionPart) → IsOverlap a b both → holds a one ≡ true → holds b other ≡ true → EndsBefore other one
     → ⊥
 not_behind a b both one other is first second ends =
     let lay : LiesIn a one = lies a one first in
     let also : LiesIn b other = lies b other second in
-    let apart : other.first + length other.bytes.items ≤ one.first = ends in
+    let apart : other.first + length other.bytes ≤ one.first = ends in
     omega (arith, is.from, is.second, lay.from, also.to, apart)
 
 -- an item of a list, by its index
-at_index : (p : Chunk → Bool) (chunks : List Chunk) (i : ℕ) (d e : Chunk) → i < length chunks → get_or chunks i d ≡ d → p d ≡ true
-    → p (get_or chunks i e) ≡ true
-at_index p chunks i d e within same is = ap p (sym (get_or_default chunks i d e within) ∙ same) ∙ is
+at_index : (p : RegionPart → Bool) (parts : List RegionPart) (i : ℕ) (d e : RegionPart) → i < length parts → get_or parts i d ≡ d → p d ≡ true
+    → p (get_or parts i e) ≡ true
+at_index p parts i d e within same is = ap p (sym (get_or_default parts i d e within) ∙ same) ∙ is
 
-among_closed : (closed : List Chunk) (a b both : ByteRange) → AllPairs EndsBefore closed → IsOverlap a b both → list_any (holds a) closed ≡ true
+among_closed : (closed : List RegionPart) (a b both : ByteRange) → AllPairs EndsBefore closed → IsOverlap a b both → list_any (holds a) closed ≡ true
     → list_any (holds b) closed ≡ true → list_any (holds both) closed ≡ true
 among_closed closed a b both order is first second =
     let one = Any-from_list_any (holds a) closed first in
     let other = Any-from_list_any (holds b) closed second in
-    let d : Chunk = one.1 in
-    let has : holds a (get_or closed one.0 d) ≡ true = ap (λ (chunk : Chunk). holds a chunk) one.3 ∙ one.4 in
+    let d : RegionPart = one.1 in
+    let has : holds a (get_or closed one.0 d) ≡ true = ap (λ (one : RegionPart). holds a one) one.3 ∙ one.4 in
     let also : holds b (get_or closed other.0 d) ≡ true = at_index (holds b) closed other.0 other.1 d other.2 other.3 other.4 in
     elim (cases_lt one.0 other.0) [
       | inl less ↦
@@ -82,19 +83,19 @@ among_closed closed a b both order is first second =
           ]
     ]
 
-in_closed_and_last : (closed : List Chunk) (last : Chunk) (a b both : ByteRange) → All (λ chunk. EndsBefore chunk last) closed → IsOverlap a b both
+in_closed_and_last : (closed : List RegionPart) (last : RegionPart) (a b both : ByteRange) → All (λ one. EndsBefore one last) closed → IsOverlap a b both
     → list_any (holds a) closed ≡ true → holds b last ≡ true → ⊥
 in_closed_and_last closed last a b both before is first second =
     let one = Any-from_list_any (holds a) closed first in
-    not_before a b both (get_or closed one.0 one.1) last is (ap (λ (chunk : Chunk). holds a chunk) one.3 ∙ one.4) second (before one.0 one.1 one.2)
+    not_before a b both (get_or closed one.0 one.1) last is (ap (λ (one : RegionPart). holds a one) one.3 ∙ one.4) second (before one.0 one.1 one.2)
 
-in_last_and_closed : (closed : List Chunk) (last : Chunk) (a b both : ByteRange) → All (λ chunk. EndsBefore chunk last) closed → IsOverlap a b both
+in_last_and_closed : (closed : List RegionPart) (last : RegionPart) (a b both : ByteRange) → All (λ one. EndsBefore one last) closed → IsOverlap a b both
     → holds a last ≡ true → list_any (holds b) closed ≡ true → ⊥
 in_last_and_closed closed last a b both before is first second =
     let other = Any-from_list_any (holds b) closed second in
-    not_behind a b both last (get_or closed other.0 other.1) is first (ap (λ (chunk : Chunk). holds b chunk) other.3 ∙ other.4) (before other.0 other.1 other.2)
+    not_behind a b both last (get_or closed other.0 other.1) is first (ap (λ (one : RegionPart). holds b one) other.3 ∙ other.4) (before other.0 other.1 other.2)
 
-both_held : (closed : List Chunk) (last : Chunk) (a b both : ByteRange) → AllPairs EndsBefore closed → All (λ chunk. EndsBefore chunk last) closed
+both_held : (closed : List RegionPart) (last : RegionPart) (a b both : ByteRange) → AllPairs EndsBefore closed → All (λ one. EndsBefore one last) closed
     → IsOverlap a b both → (holds a last || list_any (holds a) closed) ≡ true → (holds b last || list_any (holds b) closed) ≡ true
     → (holds both last || list_any (holds both) closed) ≡ true
 both_held closed last a b both order before is first second =
@@ -116,7 +117,7 @@ pub overlap_is_of : (region : Region) (a b both : ByteRange) → IsOverlap a b b
 unfolding IsHeld
 overlap_is_of region a b both is first second = record {
   held = λ some.
-      both_held region.closed.items region.last a b both region.sound.order region.sound.before is (first.held is.first) (second.held is.second);
+      both_held region.closed (part_of_chunk region.last) a b both region.sound.order region.sound.before is (first.held is.first) (second.held is.second);
 }
 
 -- A run with a range that begins in it or right behind it
@@ -143,103 +144,102 @@ overlap_of run range both to some begins within max_is start len = record {
   ending = omega (arith, start, len, max_is);
 }
 
--- A run becomes a chunk
+-- A run becomes a part
 
--- a chunk of the bytes of a range has its part of all bytes
-has_run : (region : Region) (run : ByteRange) (chunk : Chunk) → IsOf region run → 0 < run.len → chunk.first ≡ run.start
-    → chunk.bytes.items ≡ bytes_of region run → HasItsPart region.written.bytes chunk
+-- a part of the bytes of a range has its part of all bytes
+has_run : (region : Region) (run : ByteRange) (one : RegionPart) → IsOf region run → 0 < run.len → one.first ≡ run.start
+    → one.bytes ≡ bytes_of region run → HasItsPart region.written.bytes one
 unfolding bytes_of
-has_run region run chunk is some first bytes =
-    let long : length chunk.bytes.items ≡ run.len = ap (λ (ys : List ℕ). length ys) bytes ∙ bytes_are region run is in
-    let ends : chunk.first + length chunk.bytes.items ≤ length region.written.bytes = omega (arith, long, first, lies_within region run is some) in
+has_run region run one is some first bytes =
+    let long : length one.bytes ≡ run.len = ap (λ (ys : List ℕ). length ys) bytes ∙ bytes_are region run is in
+    let ends : one.first + length one.bytes ≤ length region.written.bytes = omega (arith, long, first, lies_within region run is some) in
     record {
       within = ends;
       bytes =
           bytes
           ∙ (ap (λ n. take n (drop run.start region.written.bytes)) (sym long)
-          ∙ ap (λ at. take (length chunk.bytes.items) (drop at region.written.bytes)) (sym first));
+          ∙ ap (λ at. take (length one.bytes) (drop at region.written.bytes)) (sym first));
     }
 
 at_most : (a n m : ℕ) → a ≤ n → n ≤ m → a ≤ m
 at_most a n m first second = omega (arith, first, second)
 
--- the chunks are in order with it
-runs_more : (all : List ℕ) (chunks : List Chunk) (new : Chunk) (start len : ℕ) → AreRunsBefore all chunks start → new.first ≡ start
-    → length new.bytes.items ≡ len → HasItsPart all new → AreRunsBefore all (chunks ++ new ∷ []) (start + len)
-runs_more all chunks new start len are first long part =
-    let ends : new.first + length new.bytes.items ≤ start + len = omega (arith, first, long) in
+-- the parts are in order with it
+runs_more : (all : List ℕ) (parts : List RegionPart) (new : RegionPart) (start len : ℕ) → AreRunsBefore all parts start → new.first ≡ start
+    → length new.bytes ≡ len → HasItsPart all new → AreRunsBefore all (parts ++ new ∷ []) (start + len)
+runs_more all parts new start len are first long part =
+    let ends : new.first + length new.bytes ≤ start + len = omega (arith, first, long) in
     record {
-      agree = All-push (HasItsPart all) chunks new are.agree part;
+      agree = All-push (HasItsPart all) parts new are.agree part;
       order =
-          all_pairs_push EndsBefore chunks new are.order
-          (λ k d within. subst (λ n. end_of (get_or chunks k d) ≤ n) (sym first) (are.before k d within));
+          all_pairs_push EndsBefore parts new are.order
+          (λ k d within. subst (λ n. end_of (get_or parts k d) ≤ n) (sym first) (are.before k d within));
       before =
-          All-push (λ chunk. end_of chunk ≤ start + len) chunks new
-          (All-weaker (λ chunk. end_of chunk ≤ start) (λ chunk. end_of chunk ≤ start + len)
-          (λ chunk less. at_most (end_of chunk) start (start + len) less (omega arith)) chunks are.before) ends;
+          All-push (λ one. end_of one ≤ start + len) parts new
+          (All-weaker (λ one. end_of one ≤ start) (λ one. end_of one ≤ start + len)
+          (λ one less. at_most (end_of one) start (start + len) less (omega arith)) parts are.before) ends;
     }
 
 -- they end before each later place
-runs_later : (all : List ℕ) (chunks : List Chunk) (place later : ℕ) → place ≤ later → AreRunsBefore all chunks place
-    → AreRunsBefore all chunks later
-runs_later all chunks place later less are = record {
+runs_later : (all : List ℕ) (parts : List RegionPart) (place later : ℕ) → place ≤ later → AreRunsBefore all parts place
+    → AreRunsBefore all parts later
+runs_later all parts place later less are = record {
   agree = are.agree;
   order = are.order;
   before =
-      All-weaker (λ chunk. end_of chunk ≤ place) (λ chunk. end_of chunk ≤ later) (λ chunk ends. at_most (end_of chunk) place later ends less) chunks
+      All-weaker (λ one. end_of one ≤ place) (λ one. end_of one ≤ later) (λ one ends. at_most (end_of one) place later ends less) parts
       are.before;
 }
 
-no_runs : (all : List ℕ) (chunks : List Chunk) (place : ℕ) → chunks ≡ [] → AreRunsBefore all chunks place
-no_runs all chunks place none =
-    subst (λ (cs : List Chunk). AreRunsBefore all cs place) (sym none)
+no_runs : (all : List ℕ) (parts : List RegionPart) (place : ℕ) → parts ≡ [] → AreRunsBefore all parts place
+no_runs all parts place none =
+    subst (λ (cs : List RegionPart). AreRunsBefore all cs place) (sym none)
     (record {
       agree = λ k d within. absurd (omega (arith, within));
       order = λ i j d less within. absurd (omega (arith, within));
       before = λ k d within. absurd (omega (arith, within));
     })
 
--- all chunks end within all bytes
-runs_within : (all : List ℕ) (chunks : List Chunk) (place : ℕ) → AreRunsBefore all chunks place → AreRunsBefore all chunks (length all)
-runs_within all chunks place are = record {
+-- all parts end within all bytes
+runs_within : (all : List ℕ) (parts : List RegionPart) (place : ℕ) → AreRunsBefore all parts place → AreRunsBefore all parts (length all)
+runs_within all parts place are = record {
   agree = are.agree;
   order = are.order;
-  before = All-weaker (HasItsPart all) (λ chunk. end_of chunk ≤ length all) (λ chunk part. part.within) chunks are.agree;
+  before = All-weaker (HasItsPart all) (λ one. end_of one ≤ length all) (λ one part. part.within) parts are.agree;
 }
 
--- the chunks of a region that has these runs, and behind them an empty one
-pub sound_swept : (all : List ℕ) (old closed : List Chunk) (before last : Chunk) (sum limit : ℕ) → AreSoundChunks all old before sum limit
+-- the parts of a region that has these runs, and behind them an empty chunk
+pub sound_swept : (all : List ℕ) (old closed : List RegionPart) (before last : Chunk) (sum limit : ℕ) → AreSoundChunks all old before sum limit
     → AreRunsBefore all closed (length all) → last.first ≡ length all → last.bytes.items ≡ [] → AreSoundChunks all closed last sum limit
 sound_swept all old closed before last sum limit is runs first none = record {
   agree = runs.agree;
   order = runs.order;
   before =
-      All-weaker (λ chunk. end_of chunk ≤ length all) (λ chunk. EndsBefore chunk last) (λ chunk ends. subst (λ n. end_of chunk ≤ n) (sym first) ends)
-      closed runs.before;
+      All-weaker (λ (one : RegionPart). end_of one ≤ length all) (λ (one : RegionPart). end_of one ≤ last.first)
+      (λ one ends. subst (λ n. end_of one ≤ n) (sym first) ends) closed runs.before;
   ends = record { from = omega (arith, first); bytes = none ∙ sym (drop_all last.first all (omega (arith, first))) };
   short = is.short;
   within = is.within;
 }
 
 -- what is kept in them is of the region
-pub kept_is_of : (region : Region) (ranges : List ByteRange) → All (IsKeptIn region.closed.items) ranges → All (IsOf region) ranges
+pub kept_is_of : (region : Region) (ranges : List ByteRange) → All (IsKeptIn region.closed) ranges → All (IsOf region) ranges
 unfolding IsHeld
 kept_is_of region ranges are =
-    All-weaker (IsKeptIn region.closed.items) (IsOf region)
-    (λ range is. record { held = λ some. by_second (holds range region.last) (list_any (holds range) region.closed.items) (is some) }) ranges are
+    All-weaker (IsKeptIn region.closed) (IsOf region)
+    (λ range is. record { held = λ some. by_second (holds range (part_of_chunk region.last)) (list_any (holds range) region.closed) (is some) }) ranges are
 
--- so is what lies in the last chunk, or in one of the others
-pub last_is_of : (region : Region) (range : ByteRange) → holds range region.last ≡ true → IsOf region range
+-- so is what lies in the last chunk, or in one of the parts
+pub last_is_of : (region : Region) (range : ByteRange) → holds range (part_of_chunk region.last) ≡ true → IsOf region range
 unfolding IsHeld
-last_is_of region range is = record { held = λ some. by_first (holds range region.last) (list_any (holds range) region.closed.items) is }
+last_is_of region range is = record {
+  held = λ some. by_first (holds range (part_of_chunk region.last)) (list_any (holds range) region.closed) is;
+}
 
-pub closed_is_of : (region : Region) (range : ByteRange) {chunks : List Chunk} → chunks ≡ region.closed.items → list_any (holds range) chunks ≡ true
-    → IsOf region range
+pub closed_is_of : (region : Region) (range : ByteRange) → list_any (holds range) region.closed ≡ true → IsOf region range
 unfolding IsHeld
-closed_is_of region range {chunks} same is = record {
-  held = λ some.
-      by_second (holds range region.last) (list_any (holds range) region.closed.items)
-      (subst (λ (cs : List Chunk). list_any (holds range) cs ≡ true) same is);
+closed_is_of region range is = record {
+  held = λ some. by_second (holds range (part_of_chunk region.last)) (list_any (holds range) region.closed) is;
 }
 
 -- What is gathered is kept
@@ -252,59 +252,82 @@ true_unless : (a : Bool) → (a ≡ false → ⊥) → a ≡ true
 true_unless true is = refl
 true_unless false is = absurd (is refl)
 
--- once the run is a chunk
-gathered_kept : (range run : ByteRange) (chunks : List Chunk) (new : Chunk) → new.first ≡ run.start → length new.bytes.items ≡ run.len
-    → IsGathered chunks run range → IsKeptIn (chunks ++ new ∷ []) range
-gathered_kept range run chunks new first long is = λ some.
-    list_any-append (holds range) chunks (new ∷ [])
-    ∙ or_else (list_any (holds range) chunks) (holds range new)
+-- once the run is a part
+gathered_kept : (range run : ByteRange) (parts : List RegionPart) (new : RegionPart) → new.first ≡ run.start → length new.bytes ≡ run.len
+    → IsGathered parts run range → IsKeptIn (parts ++ new ∷ []) range
+gathered_kept range run parts new first long is = λ some.
+    list_any-append (holds range) parts (new ∷ [])
+    ∙ or_else (list_any (holds range) parts) (holds range new)
     (λ off.
     let part : IsPart range run = is some off in
     does_hold range new (omega (arith, first, part.from)) (omega (arith, first, long, part.to)))
 
 -- a run of no bytes has nothing
-gathered_without : (range run : ByteRange) (chunks : List Chunk) → run.len ≡ 0 → IsGathered chunks run range → IsKeptIn chunks range
-gathered_without range run chunks none is = λ some.
-    true_unless (list_any (holds range) chunks)
+gathered_without : (range run : ByteRange) (parts : List RegionPart) → run.len ≡ 0 → IsGathered parts run range → IsKeptIn parts range
+gathered_without range run parts none is = λ some.
+    true_unless (list_any (holds range) parts)
     (λ off.
     let part : IsPart range run = is some off in
     omega (arith, none, some, part.from, part.to))
 
 -- what is kept is gathered, whatever run is next
-kept_gathered : (range run : ByteRange) (chunks : List Chunk) → IsKeptIn chunks range → IsGathered chunks run range
-kept_gathered range run chunks is = λ some off. absurd (true≢false (sym (is some) ∙ off))
+kept_gathered : (range run : ByteRange) (parts : List RegionPart) → IsKeptIn parts range → IsGathered parts run range
+kept_gathered range run parts is = λ some off. absurd (true≢false (sym (is some) ∙ off))
 
 part_then : {one two three : ByteRange} → IsPart one two → IsPart two three → IsPart one three
 part_then first second = record { from = omega (arith, first.from, second.from); to = omega (arith, first.to, second.to) }
 
 -- what is gathered with a run is so with a longer one
-gathered_longer : (range run both : ByteRange) (chunks : List Chunk) → IsPart run both → IsGathered chunks run range → IsGathered chunks both range
-gathered_longer range run both chunks part is = λ some off. part_then (is some off) part
+gathered_longer : (range run both : ByteRange) (parts : List RegionPart) → IsPart run both → IsGathered parts run range → IsGathered parts both range
+gathered_longer range run both parts part is = λ some off. part_then (is some off) part
 
 -- and what lies in the run
-part_gathered : (range run : ByteRange) (chunks : List Chunk) → IsPart range run → IsGathered chunks run range
-part_gathered range run chunks part = λ some off. part
+part_gathered : (range run : ByteRange) (parts : List RegionPart) → IsPart range run → IsGathered parts run range
+part_gathered range run parts part = λ some off. part
 
 -- the range of no bytes
-none_gathered : (range run : ByteRange) (chunks : List Chunk) → range.len ≡ 0 → IsGathered chunks run range
-none_gathered range run chunks none = λ some off. absurd (omega (arith, none, some))
+none_gathered : (range run : ByteRange) (parts : List RegionPart) → range.len ≡ 0 → IsGathered parts run range
+none_gathered range run parts none = λ some off. absurd (omega (arith, none, some))
 
 -- A run that is kept, and a range that is taken in
 
--- the run is a chunk behind the others
-pub put_behind : (region : Region) (before after : List Chunk) (run : ByteRange) (new : Chunk) → IsOf region run → 0 < run.len → new.first ≡ run.start
-    → new.bytes.items ≡ bytes_of region run → after ≡ before ++ new ∷ [] → IsPutBehind region before after run
+-- the run is a part behind the others
+pub put_behind : (region : Region) (before after : List RegionPart) (run : ByteRange) (new : RegionPart) → IsOf region run → 0 < run.len → new.first ≡ run.start
+    → new.bytes ≡ bytes_of region run → after ≡ before ++ new ∷ [] → IsPutBehind region before after run
 put_behind region before after run new is some first bytes behind =
-    let long : length new.bytes.items ≡ run.len = ap (λ (ys : List ℕ). length ys) bytes ∙ bytes_are region run is in
-    subst (λ (cs : List Chunk). IsPutBehind region before cs run) (sym behind)
+    let long : length new.bytes ≡ run.len = ap (λ (ys : List ℕ). length ys) bytes ∙ bytes_are region run is in
+    subst (λ (cs : List RegionPart). IsPutBehind region before cs run) (sym behind)
     (record {
       runs = λ are. runs_more region.written.bytes before new run.start run.len are first long (has_run region run new is some first bytes);
       kept = λ range gathered. gathered_kept range run before new first long gathered;
       few = sizes_more before new run.len long;
     })
 
+-- it is so already, where it is the next of those that the region holds
+pub put_again : (region : Region) (same : ℕ) (fresh : List RegionPart) (run : ByteRange) → IsOf region run → 0 < run.len → fresh ≡ []
+    → same < length region.closed
+    → HoldsAt (IsWhole run) region.closed same
+    → IsPutBehind region (take same region.closed ++ fresh) (take (same + 1) region.closed ++ fresh) run
+unfolding bytes_of
+put_again region same fresh run is some none within whole =
+    let closed = region.closed in
+    let all = region.written.bytes in
+    let new : RegionPart = get_or closed same (part 0 []) in
+    let here = whole (part 0 []) in
+    let agrees : HasItsPart all new = region.sound.agree same (part 0 []) within in
+    let bytes : new.bytes ≡ take run.len (drop run.start all) =
+    agrees.bytes
+    ∙ (ap (λ n. take n (drop new.first all)) here.len
+    ∙ ap (λ at. take run.len (drop at all)) here.first) in
+    let more : take (same + 1) closed ++ fresh ≡ (take same closed ++ fresh) ++ new ∷ [] =
+    ap (λ (parts : List RegionPart). take (same + 1) closed ++ parts) none
+    ∙ (append-nil (take (same + 1) closed)
+    ∙ (take_more closed same (part 0 []) within
+    ∙ ap (λ (parts : List RegionPart). parts ++ new ∷ []) (sym (append-nil (take same closed)) ∙ ap (λ (parts : List RegionPart). take same closed ++ parts) (sym none)))) in
+    put_behind region (take same closed ++ fresh) (take (same + 1) closed ++ fresh) run new is some here.first bytes more
+
 -- one of no bytes is nowhere
-pub put_nowhere : (region : Region) (before : List Chunk) (run : ByteRange) → run.len ≡ 0 → IsPutBehind region before before run
+pub put_nowhere : (region : Region) (before : List RegionPart) (run : ByteRange) → run.len ≡ 0 → IsPutBehind region before before run
 put_nowhere region before run none = record {
   runs = λ are. runs_later region.written.bytes before run.start (run.start + run.len) (omega arith) are;
   kept = λ range gathered. gathered_without range run before none gathered;
@@ -312,7 +335,7 @@ put_nowhere region before run none = record {
 }
 
 -- a range of no bytes
-pub taken_nowhere : (region : Region) (before : List Chunk) (run range : ByteRange) → IsOf region run → run.start ≤ range.start → range.len ≡ 0
+pub taken_nowhere : (region : Region) (before : List RegionPart) (run range : ByteRange) → IsOf region run → run.start ≤ range.start → range.len ≡ 0
     → IsTaken region before before run range run
 taken_nowhere region before run range is begins none = record {
   of = is;
@@ -324,7 +347,7 @@ taken_nowhere region before run range is begins none = record {
 }
 
 -- a range that goes on where the run is
-pub taken_with : (region : Region) (before : List Chunk) (run range both : ByteRange) → run.start ≤ range.start → IsJoined region run range both
+pub taken_with : (region : Region) (before : List RegionPart) (run range both : ByteRange) → run.start ≤ range.start → IsJoined region run range both
     → IsTaken region before before run range both
 taken_with region before run range both begins joined = record {
   of = joined.of;
@@ -336,7 +359,7 @@ taken_with region before run range both begins joined = record {
 }
 
 -- a range that begins the next run
-pub taken_next : (region : Region) (before after : List Chunk) (run range : ByteRange) → IsOf region range → run.start + run.len ≤ range.start
+pub taken_next : (region : Region) (before after : List RegionPart) (run range : ByteRange) → IsOf region range → run.start + run.len ≤ range.start
     → IsPutBehind region before after run → IsTaken region before after run range range
 taken_next region before after run range is apart put = record {
   of = is;
@@ -376,20 +399,20 @@ begins_before ranges i e start order there first k d upto within =
     omega (arith, first, same, rise)
 
 -- none is gathered yet
-pub gathered_none : (region : Region) (ranges : List ByteRange) (chunks : List Chunk) (run : ByteRange) → chunks ≡ [] → run.start ≡ 0 → run.len ≡ 0
-    → AreGathered region ranges 0 chunks run
-gathered_none region ranges chunks run none start len =
-    let no_size : sizes chunks ≡ 0 = ap (λ (cs : List Chunk). sizes cs) none in
+pub gathered_none : (region : Region) (ranges : List ByteRange) (parts : List RegionPart) (run : ByteRange) → parts ≡ [] → run.start ≡ 0 → run.len ≡ 0
+    → AreGathered region ranges 0 parts run
+gathered_none region ranges parts run none start len =
+    let no_size : sizes parts ≡ 0 = ap (λ (cs : List RegionPart). sizes cs) none in
     record {
       of = none_is_of region run len;
       from = λ k d upto within. omega (arith, start);
-      runs = no_runs region.written.bytes chunks run.start none;
+      runs = no_runs region.written.bytes parts run.start none;
       gathered = λ k d below. absurd (omega (arith, below));
       few = omega (arith, no_size, len);
     }
 
 -- one more is
-pub gathered_next : (region : Region) (ranges : List ByteRange) (i : ℕ) (e : ByteRange) (before after : List Chunk) (run next : ByteRange)
+pub gathered_next : (region : Region) (ranges : List ByteRange) (i : ℕ) (e : ByteRange) (before after : List RegionPart) (run next : ByteRange)
     → IsNonDecreasingBy (λ (range : ByteRange). range.start) ranges → i < length ranges → AreGathered region ranges i before run
     → IsTaken region before after run (get_or ranges i e) next → AreGathered region ranges (i + 1) after next
 gathered_next region ranges i e before after run next order within are taken = record {
@@ -402,8 +425,8 @@ gathered_next region ranges i e before after run next order within are taken = r
   few = omega (arith, taken.few, are.few, sum_by_more (λ (range : ByteRange). range.len) ranges i e within);
 }
 
--- all are, and the last run is a chunk too
-pub gathered_all : (region : Region) (ranges : List ByteRange) (i : ℕ) (before after : List Chunk) (run : ByteRange) → length ranges ≤ i
+-- all are, and the last run is a part too
+pub gathered_all : (region : Region) (ranges : List ByteRange) (i : ℕ) (before after : List RegionPart) (run : ByteRange) → length ranges ≤ i
     → AreGathered region ranges i before run → IsPutBehind region before after run → AreKeptRuns region ranges after
 gathered_all region ranges i before after run end are put =
     let whole : total_length (take i ranges) ≡ total_length ranges = ap (λ rs. total_length rs) (take_all i ranges end) in
@@ -414,10 +437,10 @@ gathered_all region ranges i before after run end are put =
     }
 
 -- in whatever order they come
-pub kept_permuted : (region : Region) (ranges sorted : List ByteRange) (chunks : List Chunk) → IsPermutation ranges sorted
-    → AreKeptRuns region sorted chunks → AreKeptRuns region ranges chunks
-kept_permuted region ranges sorted chunks moved are = record {
+pub kept_permuted : (region : Region) (ranges sorted : List ByteRange) (parts : List RegionPart) → IsPermutation ranges sorted
+    → AreKeptRuns region sorted parts → AreKeptRuns region ranges parts
+kept_permuted region ranges sorted parts moved are = record {
   runs = are.runs;
-  kept = All-permutation (IsKeptIn chunks) sorted ranges (IsPermutation-sym ranges sorted moved) are.kept;
+  kept = All-permutation (IsKeptIn parts) sorted ranges (IsPermutation-sym ranges sorted moved) are.kept;
   few = omega (arith, are.few, sum_by-IsPermutation (λ (range : ByteRange). range.len) ranges sorted moved);
 }

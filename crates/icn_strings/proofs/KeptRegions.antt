@@ -4,7 +4,7 @@ use Rattle.std.proofs.Math.Seq.{take-add}
 use Rattle.std.proofs.lemmas.List.{drop-drop}
 use Rattle.icn_strings.specs.declared.byte_range.ByteRange.{ByteRange}
 use Rattle.icn_strings.specs.declared.region.Region.{Region}
-use Rattle.icn_strings.specs.Chunks.{AreHeld}
+use Rattle.icn_strings.specs.Chunks.{part_of_chunk, AreHeld}
 use Rattle.icn_strings.specs.Ranges.{IsPart}
 use Rattle.icn_strings.specs.Regions.{limit_of, sum_of, IsHeld, IsOf, bytes_of, AreWritten, IsWritten, KeepsBytes, KeepsRanges, IsUnchanged}
 use Rattle.icn_strings.proofs.HeldRanges.{held_more, held_closed, held_last, held_part}
@@ -31,7 +31,7 @@ keeps_then {a} {b} {c} first second = record {
 pub lies_within : (region : Region) (range : ByteRange) → IsOf region range → 0 < range.len → range.start + range.len ≤ length region.written.bytes
 unfolding IsHeld
 lies_within region range is some =
-    within_all region.written.bytes region.closed.items region.last range region.sound.agree region.sound.ends (is.held some)
+    within_all region.written.bytes region.closed region.last range region.sound.agree region.sound.ends (is.held some)
 
 -- so it was written
 pub was_written_there : (region : Region) (range : ByteRange) → IsOf region range → IsWritten region range
@@ -56,7 +56,7 @@ sum_within region = region.sound.within
 -- a part of a range is of the region
 pub part_is_of : (region : Region) (part whole : ByteRange) → IsPart part whole → IsOf region whole → IsOf region part
 unfolding IsHeld
-part_is_of region part whole part_of is = record { held = held_part part whole region.closed.items region.last part_of is.held }
+part_is_of region part whole part_of is = record { held = held_part part whole region.closed region.last part_of is.held }
 
 -- and has its part of the bytes
 pub part_bytes : (region : Region) (part whole : ByteRange) → IsPart part whole
@@ -86,7 +86,7 @@ means_same {old} {new} written limit = record {
 }
 
 -- bytes were written into the last chunk
-pub keeps_more : {old new : Region} (more : List ℕ) → new.closed.items ≡ old.closed.items → new.last.first ≡ old.last.first
+pub keeps_more : {old new : Region} (more : List ℕ) → new.closed ≡ old.closed → new.last.first ≡ old.last.first
     → new.last.bytes.items ≡ old.last.bytes.items ++ more → new.written.bytes ≡ old.written.bytes ++ more → new.limit ≡ old.limit
     → KeepsRanges old new
 unfolding limit_of IsHeld bytes_of
@@ -96,7 +96,7 @@ keeps_more {old} {new} more closed first bytes whole limit = record {
   of = λ range is. record {
     held =
         subst (λ cs. AreHeld cs new.last range) (sym closed)
-        (held_more range old.closed.items old.last new.last more first bytes is.held);
+        (held_more range old.closed old.last new.last more first bytes is.held);
   };
   bytes = λ range is.
       ap (λ ys. take range.len (drop range.start ys)) whole
@@ -104,33 +104,33 @@ keeps_more {old} {new} more closed first bytes whole limit = record {
 }
 
 -- another chunk follows
-pub keeps_closed : {old new : Region} → new.closed.items ≡ old.closed.items ++ old.last ∷ [] → new.written ≡ old.written → new.limit ≡ old.limit
+pub keeps_closed : {old new : Region} → new.closed ≡ old.closed ++ part_of_chunk old.last ∷ [] → new.written ≡ old.written → new.limit ≡ old.limit
     → KeepsRanges old new
 unfolding limit_of IsHeld bytes_of
 keeps_closed {old} {new} closed written limit = record {
   means = means_same written limit;
   limit = limit;
   of = λ range is. record {
-    held = subst (λ cs. AreHeld cs new.last range) (sym closed) (held_closed range old.closed.items old.last new.last is.held);
+    held = subst (λ cs. AreHeld cs new.last range) (sym closed) (held_closed range old.closed old.last new.last is.held);
   };
   bytes = λ range is. ap (λ w. take range.len (drop range.start w.bytes)) written;
 }
 
 -- the chunks and what was written are the same
-pub keeps_same : {old new : Region} → new.closed.items ≡ old.closed.items → new.last ≡ old.last → new.written ≡ old.written → new.limit ≡ old.limit
+pub keeps_same : {old new : Region} → new.closed ≡ old.closed → new.last ≡ old.last → new.written ≡ old.written → new.limit ≡ old.limit
     → KeepsRanges old new
 unfolding limit_of IsHeld bytes_of
 keeps_same {old} {new} closed last written limit = record {
   means = means_same written limit;
   limit = limit;
   of = λ range is. record {
-    held = subst (λ cs. AreHeld cs new.last range) (sym closed) (subst (λ chunk. AreHeld old.closed.items chunk range) (sym last) is.held);
+    held = subst (λ cs. AreHeld cs new.last range) (sym closed) (subst (λ chunk. AreHeld old.closed chunk range) (sym last) is.held);
   };
   bytes = λ range is. ap (λ w. take range.len (drop range.start w.bytes)) written;
 }
 
 -- and what is charged
-pub unchanged : {old new : Region} → new.closed.items ≡ old.closed.items → new.last ≡ old.last → new.written ≡ old.written → new.limit ≡ old.limit
+pub unchanged : {old new : Region} → new.closed ≡ old.closed → new.last ≡ old.last → new.written ≡ old.written → new.limit ≡ old.limit
     → new.sum ≡ old.sum → IsUnchanged old new
 unfolding sum_of
 unchanged {old} {new} closed last written limit sum = record {
@@ -144,7 +144,7 @@ pub is_of : (region : Region) (range : ByteRange) → region.last.first ≤ rang
     → IsOf region range
 unfolding IsHeld
 is_of region range from to = record {
-  held = held_last range region.closed.items region.last from (omega (arith, to, last_ends region.written.bytes region.last region.sound.ends));
+  held = held_last range region.closed region.last from (omega (arith, to, last_ends region.written.bytes region.last region.sound.ends));
 }
 
 -- how many bytes there are once those of a range were written again

@@ -1,4 +1,6 @@
 pub mod HeldRanges
+mod ChunkParts
+mod ClosedParts
 pub mod AddedBytes
 pub mod ChunkSizes
 pub mod KeptRegions
@@ -6,3 +8,5 @@ pub mod GatheredRuns
 pub mod Fillings
 pub mod PieceLengths
 pub mod RegionWrites
+mod PackedBytes
+mod PackedRows

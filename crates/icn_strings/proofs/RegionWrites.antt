@@ -184,9 +184,9 @@ module _ (old mid : Region) (bytes : List ℕ) (kept : ℕ) (is : Writes old mid
 -- the chunks are sound with it
 pub sound_changed : (old mid : Region) (bytes more whole : List ℕ) (new : Chunk) → Writes old mid bytes → new.first ≡ mid.last.first
     → new.bytes.items ≡ old.last.bytes.items ++ more → whole ≡ old.written.bytes ++ more → length old.written.bytes + length more < 2 ^ 63 - 1
-    → AreSoundChunks whole mid.closed.items new mid.sum mid.limit
+    → AreSoundChunks whole mid.closed new mid.sum mid.limit
 sound_changed old mid bytes more whole new is first now same short =
     subst (λ cs. AreSoundChunks whole cs new mid.sum mid.limit) (sym is.closed)
-    (subst (λ n. AreSoundChunks whole old.closed.items new n mid.limit) (sym is.sum)
-    (subst (λ n. AreSoundChunks whole old.closed.items new old.sum n) (sym is.limit)
-    (sound_more old.written.bytes whole more old.closed.items old.last new old.sum old.limit old.sound (first ∙ is.first) now same short)))
+    (subst (λ n. AreSoundChunks whole old.closed new n mid.limit) (sym is.sum)
+    (subst (λ n. AreSoundChunks whole old.closed new old.sum n) (sym is.limit)
+    (sound_more old.written.bytes whole more old.closed old.last new old.sum old.limit old.sound (first ∙ is.first) now same short)))

@@ -5,3 +5,5 @@ pub mod Ranges
 pub mod Regions
 pub mod RepeatedBytes
 pub mod WrittenBytes
+pub mod Parts
+pub mod PackedRuns

@@ -2,7 +2,8 @@
 -- words what the contracts and the laws say.
 use Rattle.std.specs.Prelude.{◌≡◌, ℕ, ◌+◌, ◌<◌, ◌≤◌, List, length, take, drop}
 use Rattle.std.proofs.Props.{props}
-use Rattle.icn_strings.specs.Chunks.{AreHeld, sizes}
+use Rattle.icn_strings.specs.Parts.{sizes}
+use Rattle.icn_strings.specs.Chunks.{AreHeld}
 use Rattle.icn_strings.specs.declared.byte_range.ByteRange.{ByteRange}
 use Rattle.icn_strings.specs.declared.region.Region.{Region}
 
@@ -16,11 +17,11 @@ sum_of region = region.sum
 
 -- how many bytes the region holds, those that no string needs any more too
 unfoldable pub held_by : Region → ℕ
-held_by region = sizes region.closed.items + length region.last.bytes.items
+held_by region = sizes region.closed + length region.last.bytes.items
 
--- the range names bytes that the region holds, together in one of its chunks, or none at all
+-- the range names bytes that the region holds, together in one of its parts, or none at all
 unfoldable pub IsHeld : Region → ByteRange → Type 0
-IsHeld region range = AreHeld region.closed.items region.last range
+IsHeld region range = AreHeld region.closed region.last range
 
 -- the range is of the region: a record, so that a proof finds the region and the range in it
 pub record IsOf (region : Region) (range : ByteRange) : Type 0 where

@@ -10,7 +10,7 @@ pub record CanWrite (region : Region) (count : ℕ) : Type 0 where
 
 -- these bytes were written into the last chunk, behind all others, and nothing else changed
 pub record Writes (old new : Region) (more : List ℕ) : Type 0 where
-  pub closed : new.closed.items ≡ old.closed.items
+  pub closed : new.closed ≡ old.closed
   pub first : new.last.first ≡ old.last.first
   pub bytes : new.last.bytes.items ≡ old.last.bytes.items ++ more
   pub written : new.written.bytes ≡ old.written.bytes ++ more

@@ -1,6 +1,7 @@
 // Bytes that lie together.
 ghost use Rattle.std.specs.Prelude.{◌≡◌, ◌+◌, ◌-◌, ◌*◌, ◌<◌, ◌≤◌, ◌++◌, ℕ, true, length, take, drop, map, replicate, reverse, slice_index};
-ghost use Rattle.icn_strings.specs.Chunks.{holds, end_of, HasRoom};
+ghost use Rattle.icn_strings.specs.Parts.{holds, end_of};
+ghost use Rattle.icn_strings.specs.Chunks.{part_of_chunk, HasRoom};
 ghost use Rattle.icn_strings.specs.RepeatedBytes.{copies};
 
 use crate::byte_range::ByteRange;
@@ -19,7 +20,7 @@ pub struct Chunk {
 impl Chunk {
     /// Whether a range lies in it.
     pub fn holds(&self, range: ByteRange) -> bool
-        ensures { result ≡ holds range self.now }
+        ensures { result ≡ holds range (part_of_chunk self.now) }
     {
         let len = self.bytes.len() as u64;
         self.first <= range.start && range.len <= len && range.start - self.first <= len - range.len
@@ -28,7 +29,7 @@ impl Chunk {
     /// Whether a range lies in it and ends where it does.
     pub fn ends_with(&self, range: ByteRange) -> bool
         ensures from { result ≡ true → self.now.first ≤ range.start }
-        ensures to { result ≡ true → range.start + range.len ≡ end_of self.now }
+        ensures to { result ≡ true → range.start + range.len ≡ end_of (part_of_chunk self.now) }
     {
         let len = self.bytes.len() as u64;
         self.first <= range.start && range.len <= len && range.start - self.first == len - range.len
@@ -38,7 +39,7 @@ impl Chunk {
     pub fn has_both(&self, a: ByteRange, b: ByteRange) -> bool
         ensures from { result ≡ true → self.now.first ≤ a.start }
         ensures next { result ≡ true → a.start + a.len ≡ b.start }
-        ensures to { result ≡ true → b.start + b.len ≤ end_of self.now }
+        ensures to { result ≡ true → b.start + b.len ≤ end_of (part_of_chunk self.now) }
     {
         self.holds(a) && self.holds(b) && a.start <= b.start && b.start - a.start == a.len
     }
@@ -52,7 +53,7 @@ impl Chunk {
 
     /// The bytes of a range that lies in it.
     pub fn part(&self, range: ByteRange) -> &[u8]
-        requires { holds range self.now ≡ true }
+        requires { holds range (part_of_chunk self.now) ≡ true }
         ensures { result.now ≡ take range.len (drop (range.start - self.now.first) self.now.bytes.items) }
     {
         let from = (range.start - self.first) as usize;
@@ -82,7 +83,7 @@ impl Chunk {
 
     /// Adds the bytes of a range that lies in it once more, for which there is room.
     pub fn add_part(&mut self, range: ByteRange)
-        requires holds { holds range self.old ≡ true }
+        requires holds { holds range (part_of_chunk self.old) ≡ true }
         requires room { HasRoom self.old range.len }
         ensures first { self.new.first ≡ self.old.first }
         ensures bytes { self.new.bytes.items ≡ self.old.bytes.items

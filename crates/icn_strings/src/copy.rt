@@ -1,14 +1,15 @@
 // Bytes of chunks, copied behind the last of them.
 ghost use Rattle.std.specs.Prelude.{◌≡◌, ◌+◌, ◌++◌, ℕ, List, take, drop};
 ghost use Rattle.std.specs.List.{All, AllPairs};
-ghost use Rattle.icn_strings.specs.Chunks.{AreHeld, HasItsPart, EndsBefore, HasRoom, IsLast};
+ghost use Rattle.icn_strings.specs.Parts.{HasItsPart, EndsBefore};
+ghost use Rattle.icn_strings.specs.Chunks.{AreHeld, HasRoom, IsLast};
 
 use crate::byte_range::ByteRange;
 use crate::chunk::Chunk;
-use crate::lookup::bytes_in;
+use crate::closed::Closed;
 
-/// Adds the bytes of a range to the last chunk, which has room for them. They lie in this chunk or in one of the others.
-pub fn copy_behind(last: &mut Chunk, closed: &[Chunk], range: ByteRange)
+/// Adds the bytes of a range to the last chunk, which has room for them. They lie in this chunk or in one of the parts.
+pub fn copy_behind(last: &mut Chunk, closed: &Closed, range: ByteRange)
     requires order { AllPairs EndsBefore closed.now }
     requires held { AreHeld closed.now last.old range }
     requires room { HasRoom last.old range.len }
@@ -24,5 +25,5 @@ pub fn copy_behind(last: &mut Chunk, closed: &[Chunk], range: ByteRange)
         last.add_part(range);
         return;
     }
-    last.add(bytes_in(closed, range));
+    last.add(closed.part(range));
 }

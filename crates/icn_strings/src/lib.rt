@@ -4,9 +4,12 @@
 mod all_bytes;
 mod byte_range;
 mod chunk;
+mod closed;
 mod copy;
 mod full;
+mod kept_parts;
 mod lookup;
+mod packed;
 mod piece;
 mod region;
 mod region_laws;

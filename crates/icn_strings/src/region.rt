@@ -2,17 +2,17 @@
 ghost use Rattle.std.specs.Prelude.{[], ◌≡◌, ◌+◌, ◌-◌, ◌^◌, ◌<◌, ◌≤◌, ◌↔◌, ◌++◌, length, vec_len, OnOk, OnErr, IfOk, SomeIff};
 ghost use Rattle.std.specs.Vec.{vec_capacity};
 ghost use Rattle.std.specs.List.{All};
-ghost use Rattle.icn_strings.specs.Chunks.{end_of, sizes, HasRoom, AreSoundChunks, AreSoundChunks-prop, IsSize-prop};
+ghost use Rattle.icn_strings.specs.Parts.{end_of, sizes, IsSize-prop};
+ghost use Rattle.icn_strings.specs.Chunks.{part_of_chunk, HasRoom, AreSoundChunks, AreSoundChunks-prop};
 
 use crate::all_bytes::AllBytes;
 use crate::byte_range::ByteRange;
 use crate::chunk::Chunk;
+use crate::closed::Closed;
 use crate::copy::copy_behind;
 use crate::full::RegionFull;
-use crate::lookup::bytes_in;
 use crate::piece::{StringPiece, length_of};
 use std::alloc::{AllocError, Global};
-use std::mem;
 
 // A region has fewer bytes, so that every position in a string is an `i64`, the one behind its last byte too.
 const MOST: u64 = i64::MAX as u64;
@@ -30,17 +30,17 @@ const ROOM: usize = 65536;
 #[derive(Drop)]
 pub struct Region {
     pub(crate) alloc: Global,
-    // the chunks to which nothing is added any more
-    pub(crate) closed: Vec<Chunk>,
+    // the parts to which nothing is added any more
+    pub(crate) closed: Closed,
     // how many bytes they have together
     pub(crate) closed_size: u64,
     pub(crate) last: Chunk,
     pub(crate) written: AllBytes,
     sum: u64,
     limit: u64,
-    ghost sound: { AreSoundChunks written.bytes closed.items last sum limit } by { AreSoundChunks-prop
-        written.bytes closed.items last sum limit },
-    ghost counted: { closed_size ≡ sizes closed.items } by { IsSize-prop closed_size closed.items },
+    ghost sound: { AreSoundChunks written.bytes closed last sum limit } by { AreSoundChunks-prop
+        written.bytes closed last sum limit },
+    ghost counted: { closed_size ≡ sizes closed } by { IsSize-prop closed_size closed },
 }
 
 impl Region {
@@ -56,7 +56,7 @@ impl Region {
     {
         Region {
             alloc,
-            closed: Vec::new(alloc),
+            closed: Closed::nothing(alloc),
             closed_size: 0,
             last: Chunk {
                 first: 0,
@@ -192,7 +192,7 @@ impl Region {
         if self.last.holds(range) {
             return self.last.part(range);
         }
-        bytes_in(&self.closed, range)
+        self.closed.part(range)
     }
 
     /// How many bytes the region holds, those that no string needs any more too: `sweep` makes them as few as what it keeps. It takes no memory.
@@ -236,10 +236,9 @@ impl Region {
     {
         let first = self.end();
         let bytes = room_for(self.alloc, len)?;
-        self.closed.reserve(1)?;
-        let before = mem::replace(&mut self.last, Chunk { first, bytes });
-        self.closed_size += before.bytes.len() as u64;
-        self.closed.push_reserved(before);
+        let size = self.last.bytes.len() as u64;
+        self.closed.add(&mut self.last, Chunk { first, bytes })?;
+        self.closed_size += size;
         Ok(())
     }
 
@@ -327,7 +326,7 @@ impl Region {
     fn hold_behind(&mut self, a: ByteRange, b: ByteRange) -> ByteRange
         requires second { IsOf self.old b }
         requires from { self.old.last.first ≤ a.start }
-        requires to { a.start + a.len ≡ end_of self.old.last }
+        requires to { a.start + a.len ≡ end_of (part_of_chunk self.old.last) }
         requires room { HasRoom self.old.last b.len }
         requires short { length self.old.written.bytes + (a.len + b.len) < 2 ^ 63 - 1 }
         ensures of { IsOf self.new result }

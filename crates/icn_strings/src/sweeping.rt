@@ -1,60 +1,61 @@
-// Memory that is given back: what is kept lies in chunks of its own then, one for each run of bytes.
-ghost use Rattle.std.specs.Prelude.{◌≡◌, ◌+◌, ◌^◌, ◌<◌, ◌≤◌, length, true, IfNone, IfOk, IfSome, OnErr, OnOk};
-ghost use Rattle.std.specs.List.{All};
+// Memory that is given back: what is kept lies in one block then, run behind run.
+ghost use Rattle.std.specs.Prelude.{[], ◌≡◌, ◌+◌, ◌^◌, ◌<◌, ◌≤◌, length, true, IfNone, IfOk, IfSome, OnErr, OnOk};
+ghost use Rattle.std.specs.List.{All, HoldsAt};
 ghost use Rattle.std.specs.List.Sorted.{IsNonDecreasingBy, IsPermutation};
-ghost use Rattle.icn_strings.specs.Chunks.{sizes};
-ghost use Rattle.icn_strings.specs.KeptRuns.{AreKeptRuns, IsJoined, IsPutBehind, IsTaken};
+ghost use Rattle.icn_strings.specs.Parts.{IsWhole};
+ghost use Rattle.icn_strings.specs.KeptRuns.{kept_of, AreKeptRuns, IsJoined, IsPutBehind, IsTaken};
 ghost use Rattle.icn_strings.specs.Ranges.{total_length};
 ghost use Rattle.icn_strings.specs.Regions.{held_by, sum_of, IsOf, IsUnchanged, KeepsBytes};
 ghost use Rattle.icn_strings.specs.declared.byte_range.ByteRange.{ByteRange as RangeSeen};
 
 use crate::byte_range::ByteRange;
 use crate::chunk::Chunk;
-use crate::lookup::has_range;
+use crate::closed::Closed;
+use crate::kept_parts::KeptParts;
 use crate::region::Region;
 use crate::region_laws::end_of_range;
-use std::alloc::{AllocError, Global};
+use std::alloc::AllocError;
+
+// From so many bytes on, what is kept may be more than a block has room for.
+const MUCH: u64 = 1 << 32;
 
 impl Region {
     /// Gives back the memory of all bytes but those of the strings in `keep`, which may stand in any order, and more than once.
+    /// They are put into the order in which they lie.
     ///
     /// What is kept stays where it is, and is of the region still. Every string that was ever made means the same, and the charge stays.
     /// The error is want of memory, and leaves the region as it was.
     #[tactic(auto, using(crate::proofs::KeptRegions::means_same, crate::proofs::KeptRegions::unchanged), unfolding(crate::specs::Regions::sum_of))]
-    pub fn sweep(&mut self, keep: &[ByteRange]) -> Result<(), AllocError>
-        requires { All (IsOf self.old) keep.now }
-        ensures of { OnOk result (All (IsOf self.new) keep.now) }
+    pub fn sweep(&mut self, keep: &mut [ByteRange]) -> Result<(), AllocError>
+        requires { All (IsOf self.old) keep.old }
+        ensures of { OnOk result (All (IsOf self.new) keep.old) }
         ensures means { KeepsBytes self.old self.new }
-        ensures few { OnOk result (held_by self.new ≤ total_length keep.now) }
+        ensures few { OnOk result (held_by self.new ≤ total_length keep.old) }
         ensures sum { sum_of self.new ≡ sum_of self.old }
         ensures err { OnErr result (IsUnchanged self.old self.new) }
+        ensures same_ranges { IsPermutation keep.old keep.new }
+        ensures order { IsNonDecreasingBy (λ (range : RangeSeen). range.start) keep.new }
     {
         let first = self.end();
-        let kept = self.kept_runs(keep)?;
-        let bytes = Vec::new(self.alloc);
-        self.closed_size = size_of(&kept);
-        self.closed = kept;
-        self.last = Chunk { first, bytes };
+        sort_by_start(keep);
+        let kept = self.gather(keep)?;
+        self.closed.put_behind(kept.same, kept.fresh)?;
+        self.closed_size = self.closed.size();
+        self.last = Chunk {
+            first,
+            bytes: Vec::new(self.alloc),
+        };
         Ok(())
     }
 
-    // Chunks of the bytes of these ranges alone.
-    fn kept_runs(&self, keep: &[ByteRange]) -> Result<Vec<Chunk>, AllocError>
-        requires { All (IsOf self.now) keep.now }
-        ensures { IfOk result (λ chunks. AreKeptRuns self.now keep.now chunks.items) }
-    {
-        let ranges = sorted_by_start(self.alloc, keep)?;
-        let kept = self.gather(&ranges)?;
-        Ok(kept)
-    }
-
-    // Chunks of the bytes of these ranges alone, which come in the order of their starts.
-    fn gather(&self, ranges: &[ByteRange]) -> Result<Vec<Chunk>, AllocError>
+    // Parts of the bytes of these ranges alone, which come in the order of their starts.
+    fn gather(&self, ranges: &[ByteRange]) -> Result<KeptParts, AllocError>
         requires of { All (IsOf self.now) ranges.now }
         requires order { IsNonDecreasingBy (λ (range : RangeSeen). range.start) ranges.now }
-        ensures { IfOk result (λ chunks. AreKeptRuns self.now ranges.now chunks.items) }
+        ensures { IfOk result (λ kept. AreKeptRuns self.now ranges.now (kept_of self.now kept)) }
     {
-        let mut kept = Vec::new(self.alloc);
+        let fresh = Closed::nothing(self.alloc);
+        let mut kept = KeptParts { same: 0, fresh };
         let mut run = ByteRange { start: 0, len: 0 };
         for range in ranges {
             run = self.take_in(&mut kept, run, *range)?;
@@ -67,14 +68,15 @@ impl Region {
     #[tactic(auto, using(crate::proofs::GatheredRuns::taken_nowhere, crate::proofs::GatheredRuns::taken_with))]
     fn take_in(
         &self,
-        kept: &mut Vec<Chunk>,
+        kept: &mut KeptParts,
         run: ByteRange,
         range: ByteRange,
     ) -> Result<ByteRange, AllocError>
         requires run { IsOf self.now run }
         requires range { IsOf self.now range }
         requires from { run.start ≤ range.start }
-        ensures { IfOk result (IsTaken self.now kept.old.items kept.new.items run range) }
+        ensures { IfOk result
+            (IsTaken self.now (kept_of self.now kept.old) (kept_of self.now kept.new) run range) }
     {
         if range.len == 0 {
             return Ok(run);
@@ -126,35 +128,40 @@ impl Region {
         if self.last.holds(range) {
             return true;
         }
-        has_range(&self.closed, range)
+        self.closed.has(range)
     }
 
-    // Puts the bytes of a run into a chunk behind these, with just its room.
-    fn keep_run(&self, kept: &mut Vec<Chunk>, run: ByteRange) -> Result<(), AllocError>
+    // Has a run stay behind these parts: where it is, if it is the next part of the block and all before it stay, or else written anew.
+    fn keep_run(&self, kept: &mut KeptParts, run: ByteRange) -> Result<(), AllocError>
         requires { IsOf self.now run }
-        ensures { OnOk result (IsPutBehind self.now kept.old.items kept.new.items run) }
+        ensures { OnOk result
+            (IsPutBehind self.now (kept_of self.now kept.old) (kept_of self.now kept.new) run) }
     {
         if run.len == 0 {
             return Ok(());
         }
-        let bytes = Vec::from_slice(self.alloc, self.bytes(run))?;
-        kept.push(Chunk {
-            first: run.start,
-            bytes,
-        })?;
-        Ok(())
+        if self.stays(kept, run) {
+            kept.same += 1;
+            return Ok(());
+        }
+        kept.fresh.push(self.alloc, run.start, self.bytes(run))
     }
-}
 
-// These ranges in the order of their starts.
-fn sorted_by_start(alloc: Global, ranges: &[ByteRange]) -> Result<Vec<ByteRange>, AllocError>
-    ensures permutation { IfOk result (λ sorted. IsPermutation ranges.now sorted.items) }
-    ensures order { IfOk result
-        (λ sorted. IsNonDecreasingBy (λ (range : RangeSeen). range.start) sorted.items) }
-{
-    let mut sorted = Vec::from_slice(alloc, ranges)?;
-    sort_by_start(&mut sorted);
-    Ok(sorted)
+    // Whether a run is the next part of the block, and all before it stay. Not where so much is held that a block may lack the room.
+    fn stays(&self, kept: &KeptParts, run: ByteRange) -> bool
+        ensures none { result ≡ true → kept.now.fresh ≡ [] }
+        ensures within { result ≡ true → kept.now.same < length self.now.closed }
+        ensures small { result ≡ true → kept.now.same < 2 ^ 63 }
+        ensures whole { result ≡ true → HoldsAt (IsWhole run) self.now.closed kept.now.same }
+    {
+        if self.held_bytes() >= MUCH {
+            return false;
+        }
+        if kept.fresh.is_empty() {
+            return self.closed.is_at(kept.same, run);
+        }
+        false
+    }
 }
 
 // Puts ranges into the order of their starts.
@@ -164,16 +171,4 @@ fn sort_by_start(ranges: &mut [ByteRange])
     ensures order { IsNonDecreasingBy (λ (range : RangeSeen). range.start) ranges.new }
 {
     ranges.sort_unstable_by_key(|range| range.start);
-}
-
-// How many bytes some chunks have together.
-fn size_of(chunks: &[Chunk]) -> u64
-    requires { sizes chunks.now < 2 ^ 64 }
-    ensures { result ≡ sizes chunks.now }
-{
-    let mut sum = 0;
-    for chunk in chunks {
-        sum += chunk.bytes.len() as u64;
-    }
-    sum
 }

@@ -14,12 +14,12 @@ returns-in-Some g c =
     subst (λ (r : Option RunState). OperatesInWorld c.args.world.now c.args.op c.args.frames.now.flat c.operate_as_told.new.frames.flat r) c.in-Some.is
     c.operate_as_told.ensures
 
-pub operate_on_values-requires-clause-operands : goal.operate_on_values-requires-clause-operands
-operate_on_values-requires-clause-operands g c =
+pub operate_as_held-requires-clause-operands : goal.operate_as_held-requires-clause-operands
+operate_as_held-requires-clause-operands g c =
     subst (λ (x : FlatStack). IsSome (take_operands (arity c.args.op) x)) (sym (c.operate_as_told.ensures.not_done c.in-None.is)) c.requires.operands
 
-pub operate_on_values-requires-clause-live : goal.operate_on_values-requires-clause-live
-operate_on_values-requires-clause-live g c = (
+pub operate_as_held-requires-clause-live : goal.operate_as_held-requires-clause-live
+operate_as_held-requires-clause-live g c = (
   c.requires.live.0,
   subst (λ (x : FlatStack). IsLiveStack c.requires.live.0 (reach_of c.args.world.now []) x)
       (sym (c.operate_as_told.ensures.not_done c.in-None.is)) c.requires.live.1,
@@ -27,5 +27,5 @@ operate_on_values-requires-clause-live g c = (
 
 pub returns-in-None : goal.returns-in-None
 returns-in-None g c =
-    performed_after c.args.world.now c.args.op c.args.frames.now.flat c.operate_as_told.new.frames.flat c.operate_on_values.new.frames.flat
-    c.operate_on_values.result (c.operate_as_told.ensures.not_done c.in-None.is) c.operate_on_values.ensures
+    performed_after c.args.world.now c.args.op c.args.frames.now.flat c.operate_as_told.new.frames.flat c.operate_as_held.new.frames.flat
+    c.operate_as_held.result (c.operate_as_told.ensures.not_done c.in-None.is) c.operate_as_held.ensures

@@ -13,17 +13,17 @@ use Rattle.icn_heap.proofs.heap.Heap.give_back_unmarked.Goals as goal
 
 pub sweep-requires : goal.sweep-requires
 sweep-requires c =
-    subst (λ (rs : List ByteRange). All (IsOf c.args.self.now.strings) rs) (sym c.deref.ensures.value) c.requires.1.reached.of_heap.of
+    subst (λ (rs : List ByteRange). All (IsOf c.args.self.now.strings) rs) (sym c.deref_mut.ensures.value) c.requires.1.reached.of_heap.of
 
 pub invariant_of-self : goal.invariant_of-self
 invariant_of-self c =
     let old = c.args.self.now in
     let new = c.sweep.new.self in
-    let ranges = c.deref.result.now in
+    let ranges = c.deref_mut.result.now in
     let were : All (IsOf old.strings) ranges =
-    subst (λ (rs : List ByteRange). All (IsOf old.strings) rs) (sym c.deref.ensures.value) c.requires.1.reached.of_heap.of in
+    subst (λ (rs : List ByteRange). All (IsOf old.strings) rs) (sym c.deref_mut.ensures.value) c.requires.1.reached.of_heap.of in
     let are : All (IsOf new) ranges = kept_anyway c.sweep.result ranges c.sweep.ensures.of c.sweep.ensures.err were in
-    let of : All (IsOf new) c.args.needed.ranges.items = subst (λ (rs : List ByteRange). All (IsOf new) rs) c.deref.ensures.value are in
+    let of : All (IsOf new) c.args.needed.ranges.items = subst (λ (rs : List ByteRange). All (IsOf new) rs) c.deref_mut.ensures.value are in
     record {
       sound =
           subst IsSoundHeap (sym (parts_given old new c.give_back.ensures c.give_back-2.ensures c.give_back-3.ensures c.give_back-4.ensures))
@@ -36,11 +36,11 @@ returns-in_err-sweep-clause-heap c =
     let old = c.args.self.now in
     let new = c.sweep.new.self in
     let given = parts_given old new c.give_back.ensures c.give_back-2.ensures c.give_back-3.ensures c.give_back-4.ensures in
-    let ranges = c.deref.result.now in
+    let ranges = c.deref_mut.result.now in
     let were : All (IsOf old.strings) ranges =
-    subst (λ (rs : List ByteRange). All (IsOf old.strings) rs) (sym c.deref.ensures.value) c.requires.1.reached.of_heap.of in
+    subst (λ (rs : List ByteRange). All (IsOf old.strings) rs) (sym c.deref_mut.ensures.value) c.requires.1.reached.of_heap.of in
     let are : All (IsOf new) ranges = kept_anyway c.sweep.result ranges c.sweep.ensures.of c.sweep.ensures.err were in
-    let of : All (IsOf new) c.args.needed.ranges.items = subst (λ (rs : List ByteRange). All (IsOf new) rs) c.deref.ensures.value are in
+    let of : All (IsOf new) c.args.needed.ranges.items = subst (λ (rs : List ByteRange). All (IsOf new) rs) c.deref_mut.ensures.value are in
     ap (λ (p : Parts). heap_over (extent_in p) p) given
     ∙ stands_collected (parts_of old) old.sound (marks_of old) c.requires.1 new c.sweep.ensures.means of c.sweep.ensures.sum
 
@@ -50,11 +50,11 @@ returns-in_err-sweep-clause-means c =
     let old = c.args.self.now in
     let new = c.sweep.new.self in
     let given = parts_given old new c.give_back.ensures c.give_back-2.ensures c.give_back-3.ensures c.give_back-4.ensures in
-    let ranges = c.deref.result.now in
+    let ranges = c.deref_mut.result.now in
     let were : All (IsOf old.strings) ranges =
-    subst (λ (rs : List ByteRange). All (IsOf old.strings) rs) (sym c.deref.ensures.value) c.requires.1.reached.of_heap.of in
+    subst (λ (rs : List ByteRange). All (IsOf old.strings) rs) (sym c.deref_mut.ensures.value) c.requires.1.reached.of_heap.of in
     let are : All (IsOf new) ranges = kept_anyway c.sweep.result ranges c.sweep.ensures.of c.sweep.ensures.err were in
-    let of : All (IsOf new) c.args.needed.ranges.items = subst (λ (rs : List ByteRange). All (IsOf new) rs) c.deref.ensures.value are in
+    let of : All (IsOf new) c.args.needed.ranges.items = subst (λ (rs : List ByteRange). All (IsOf new) rs) c.deref_mut.ensures.value are in
     subst (λ (p : Parts). KeepsMeaning (extent_in (parts_of old)) (extent_in p)) (sym given)
     (means_collected (parts_of old) old.sound (marks_of old) c.requires.1 new c.sweep.ensures.means of)
 
@@ -64,11 +64,11 @@ returns-in_err-sweep-clause-live c = λ first all val is needed.
     let old = c.args.self.now in
     let new = c.sweep.new.self in
     let given = parts_given old new c.give_back.ensures c.give_back-2.ensures c.give_back-3.ensures c.give_back-4.ensures in
-    let ranges = c.deref.result.now in
+    let ranges = c.deref_mut.result.now in
     let were : All (IsOf old.strings) ranges =
-    subst (λ (rs : List ByteRange). All (IsOf old.strings) rs) (sym c.deref.ensures.value) c.requires.1.reached.of_heap.of in
+    subst (λ (rs : List ByteRange). All (IsOf old.strings) rs) (sym c.deref_mut.ensures.value) c.requires.1.reached.of_heap.of in
     let are : All (IsOf new) ranges = kept_anyway c.sweep.result ranges c.sweep.ensures.of c.sweep.ensures.err were in
-    let of : All (IsOf new) c.args.needed.ranges.items = subst (λ (rs : List ByteRange). All (IsOf new) rs) c.deref.ensures.value are in
+    let of : All (IsOf new) c.args.needed.ranges.items = subst (λ (rs : List ByteRange). All (IsOf new) rs) c.deref_mut.ensures.value are in
     subst (λ (p : Parts). IsLive (extent_in p) val) (sym given)
     (live_collected (parts_of old) old.sound (marks_of old) all new c.sweep.ensures.means of val is needed)
 
@@ -78,11 +78,11 @@ returns-clause-heap c =
     let old = c.args.self.now in
     let new = c.sweep.new.self in
     let given = parts_given old new c.give_back.ensures c.give_back-2.ensures c.give_back-3.ensures c.give_back-4.ensures in
-    let ranges = c.deref.result.now in
+    let ranges = c.deref_mut.result.now in
     let were : All (IsOf old.strings) ranges =
-    subst (λ (rs : List ByteRange). All (IsOf old.strings) rs) (sym c.deref.ensures.value) c.requires.1.reached.of_heap.of in
+    subst (λ (rs : List ByteRange). All (IsOf old.strings) rs) (sym c.deref_mut.ensures.value) c.requires.1.reached.of_heap.of in
     let are : All (IsOf new) ranges = kept_anyway c.sweep.result ranges c.sweep.ensures.of c.sweep.ensures.err were in
-    let of : All (IsOf new) c.args.needed.ranges.items = subst (λ (rs : List ByteRange). All (IsOf new) rs) c.deref.ensures.value are in
+    let of : All (IsOf new) c.args.needed.ranges.items = subst (λ (rs : List ByteRange). All (IsOf new) rs) c.deref_mut.ensures.value are in
     ap (λ (p : Parts). heap_over (extent_in p) p) given
     ∙ stands_collected (parts_of old) old.sound (marks_of old) c.requires.1 new c.sweep.ensures.means of c.sweep.ensures.sum
 
@@ -92,11 +92,11 @@ returns-clause-means c =
     let old = c.args.self.now in
     let new = c.sweep.new.self in
     let given = parts_given old new c.give_back.ensures c.give_back-2.ensures c.give_back-3.ensures c.give_back-4.ensures in
-    let ranges = c.deref.result.now in
+    let ranges = c.deref_mut.result.now in
     let were : All (IsOf old.strings) ranges =
-    subst (λ (rs : List ByteRange). All (IsOf old.strings) rs) (sym c.deref.ensures.value) c.requires.1.reached.of_heap.of in
+    subst (λ (rs : List ByteRange). All (IsOf old.strings) rs) (sym c.deref_mut.ensures.value) c.requires.1.reached.of_heap.of in
     let are : All (IsOf new) ranges = kept_anyway c.sweep.result ranges c.sweep.ensures.of c.sweep.ensures.err were in
-    let of : All (IsOf new) c.args.needed.ranges.items = subst (λ (rs : List ByteRange). All (IsOf new) rs) c.deref.ensures.value are in
+    let of : All (IsOf new) c.args.needed.ranges.items = subst (λ (rs : List ByteRange). All (IsOf new) rs) c.deref_mut.ensures.value are in
     subst (λ (p : Parts). KeepsMeaning (extent_in (parts_of old)) (extent_in p)) (sym given)
     (means_collected (parts_of old) old.sound (marks_of old) c.requires.1 new c.sweep.ensures.means of)
 
@@ -106,11 +106,11 @@ returns-clause-live c = λ first all val is needed.
     let old = c.args.self.now in
     let new = c.sweep.new.self in
     let given = parts_given old new c.give_back.ensures c.give_back-2.ensures c.give_back-3.ensures c.give_back-4.ensures in
-    let ranges = c.deref.result.now in
+    let ranges = c.deref_mut.result.now in
     let were : All (IsOf old.strings) ranges =
-    subst (λ (rs : List ByteRange). All (IsOf old.strings) rs) (sym c.deref.ensures.value) c.requires.1.reached.of_heap.of in
+    subst (λ (rs : List ByteRange). All (IsOf old.strings) rs) (sym c.deref_mut.ensures.value) c.requires.1.reached.of_heap.of in
     let are : All (IsOf new) ranges = kept_anyway c.sweep.result ranges c.sweep.ensures.of c.sweep.ensures.err were in
-    let of : All (IsOf new) c.args.needed.ranges.items = subst (λ (rs : List ByteRange). All (IsOf new) rs) c.deref.ensures.value are in
+    let of : All (IsOf new) c.args.needed.ranges.items = subst (λ (rs : List ByteRange). All (IsOf new) rs) c.deref_mut.ensures.value are in
     subst (λ (p : Parts). IsLive (extent_in p) val) (sym given)
     (live_collected (parts_of old) old.sound (marks_of old) all new c.sweep.ensures.means of val is needed)
 
@@ -123,7 +123,7 @@ returns-clause-few c = λ first all.
     let weight = ap (λ (p : Parts). length_of_vals (held_vals p)) given in
     let few = c.in_ok-sweep.ensures.few in
     let bytes = all.reached.bytes in
-    let total = ap total_length c.deref.ensures.value in
+    let total = ap total_length c.deref_mut.ensures.value in
     omega (arith, weight, few, bytes, total)
 
 pub returns-in_err-sweep-clause-marked : goal.returns-in_err-sweep-clause-marked

@@ -10,7 +10,7 @@ invariant_of-self c =
     c.up_to-self.ensures ∙ written_more old.written.bytes c.args.bytes.now old.last new old.sound.ends c.add.ensures.first c.add.ensures.bytes in
     record {
       sound =
-          sound_more old.written.bytes c.up_to-self.result.bytes c.args.bytes.now old.closed.items old.last new old.sum old.limit old.sound
+          sound_more old.written.bytes c.up_to-self.result.bytes c.args.bytes.now old.closed old.last new old.sum old.limit old.sound
           c.add.ensures.first c.add.ensures.bytes whole c.requires.short;
       counted = old.counted;
     }

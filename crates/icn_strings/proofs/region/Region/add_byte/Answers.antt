@@ -12,7 +12,7 @@ invariant_of-self c =
     c.up_to-self.ensures ∙ written_more old.written.bytes more old.last new old.sound.ends c.fill.ensures.first c.fill.ensures.bytes in
     record {
       sound =
-          sound_more old.written.bytes c.up_to-self.result.bytes more old.closed.items old.last new old.sum old.limit old.sound
+          sound_more old.written.bytes c.up_to-self.result.bytes more old.closed old.last new old.sum old.limit old.sound
           c.fill.ensures.first c.fill.ensures.bytes whole (omega (arith, length-replicate c.args.count c.args.byte, c.requires.short));
       counted = old.counted;
     }

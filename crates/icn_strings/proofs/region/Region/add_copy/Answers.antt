@@ -1,24 +1,12 @@
-use Rattle.std.proofs.Common.{◌≡◌, ◌∙◌, ◌++◌, List, refl, sym, subst, arith}
-use Rattle.std.specs.List.{All, AllPairs}
-use Rattle.icn_strings.specs.declared.chunk.Chunk.{Chunk}
-use Rattle.icn_strings.specs.declared.region.Region.{Region}
-use Rattle.icn_strings.specs.Chunks.{AreHeld, EndsBefore, HasItsPart}
+use Rattle.std.proofs.Common.{◌≡◌, ◌∙◌, ◌++◌, refl, arith}
 use Rattle.icn_strings.specs.Regions.{IsHeld, bytes_of}
 use Rattle.icn_strings.proofs.AddedBytes.{written_more, sound_more}
 use Rattle.icn_strings.proofs.KeptRegions.{bytes_are}
 use Rattle.icn_strings.proofs.region.Region.add_copy.Goals as goal
 
-agree : (region : Region) {cs : List Chunk} → cs ≡ region.closed.items → All (HasItsPart region.written.bytes) cs
-agree region {cs} same = subst (λ (xs : List Chunk). All (HasItsPart region.written.bytes) xs) (sym same) region.sound.agree
-
-pub copy_behind-requires-clause-order : goal.copy_behind-requires-clause-order
-copy_behind-requires-clause-order c =
-    subst (λ (cs : List Chunk). AllPairs EndsBefore cs) (sym c.deref.ensures.value) c.args.self.now.sound.order
-
 pub copy_behind-requires-clause-held : goal.copy_behind-requires-clause-held
 unfolding IsHeld
-copy_behind-requires-clause-held c =
-    subst (λ (cs : List Chunk). AreHeld cs c.args.self.now.last c.args.range) (sym c.deref.ensures.value) c.requires.of.held
+copy_behind-requires-clause-held c = c.requires.of.held
 
 pub invariant_of-self : goal.invariant_of-self
 unfolding bytes_of
@@ -26,12 +14,12 @@ invariant_of-self c =
     let old = c.args.self.now in
     let new = c.copy_behind.new.last in
     let more = bytes_of old c.args.range in
-    let bytes : new.bytes.items ≡ old.last.bytes.items ++ more = c.copy_behind.ensures.bytes old.written.bytes (agree old c.deref.ensures.value) old.sound.ends in
+    let bytes : new.bytes.items ≡ old.last.bytes.items ++ more = c.copy_behind.ensures.bytes old.written.bytes old.sound.agree old.sound.ends in
     let whole : c.up_to-self.result.bytes ≡ old.written.bytes ++ more =
     c.up_to-self.ensures ∙ written_more old.written.bytes more old.last new old.sound.ends c.copy_behind.ensures.first bytes in
     record {
       sound =
-          sound_more old.written.bytes c.up_to-self.result.bytes more old.closed.items old.last new old.sum old.limit old.sound
+          sound_more old.written.bytes c.up_to-self.result.bytes more old.closed old.last new old.sum old.limit old.sound
           c.copy_behind.ensures.first bytes whole (omega (arith, bytes_are old c.args.range c.requires.of, c.requires.can.short));
       counted = old.counted;
     }
@@ -42,7 +30,7 @@ returns c =
     let old = c.args.self.now in
     let more = bytes_of old c.args.range in
     let bytes : c.copy_behind.new.last.bytes.items ≡ old.last.bytes.items ++ more =
-    c.copy_behind.ensures.bytes old.written.bytes (agree old c.deref.ensures.value) old.sound.ends in
+    c.copy_behind.ensures.bytes old.written.bytes old.sound.agree old.sound.ends in
     record {
       closed = refl;
       first = c.copy_behind.ensures.first;

@@ -3,7 +3,7 @@ use Rattle.icn_strings.proofs.GatheredRuns.{gathered_all, gathered_next, gathere
 use Rattle.icn_strings.proofs.region.Region.gather.Goals as goal
 
 pub loop-range-init : goal.loop-range-init
-loop-range-init c = gathered_none c.args.self.now c.args.ranges.now _ _ c.new-kept.ensures.items refl refl
+loop-range-init c = gathered_none c.args.self.now c.args.ranges.now _ _ c.nothing-fresh.ensures refl refl
 
 pub take_in-requires-clause-range : goal.take_in-requires-clause-range
 take_in-requires-clause-range c = c.requires.of c.loop-range.range-index _ c.loop-range-test.true

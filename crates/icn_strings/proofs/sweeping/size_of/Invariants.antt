@@ -1,7 +1,0 @@
-use Rattle.std.proofs.Common.{◌≡◌, take}
-use Rattle.icn_strings.specs.Chunks.{sizes}
-use Rattle.icn_strings.proofs.sweeping.size_of.Given as goal
-
--- the bytes of the chunks so far
-abbrev pub invariant-loop-chunk : goal.invariant-loop-chunk
-invariant-loop-chunk l = l.sum ≡ sizes (take l.chunk-index l.chunks)
