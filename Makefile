@@ -19,7 +19,7 @@ bin/%: crates.txt examples/hello.icn tools/build.py $(SOURCES)
 
 # The rows run their own copies of the examples, since a crate reads no file outside its folder.
 test:
-	@for example in examples/*.icn; do cmp $$example crates/test_program/data/$${example##*/} || exit 1; done
+	@for example in examples/*.icn; do cmp $$example crates/test_commands/data/$${example##*/} || exit 1; done
 	python3 tools/names.py
 	python3 tools/type_names.py
 	python3 tools/libraries.py

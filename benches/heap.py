@@ -1,7 +1,7 @@
 #!/usr/bin/env python3
 """Times changes of a heap: what 50,000 to 400,000 of them take, one kind after the other.
 
-It runs the program test_heap, which `rt run` builds in its folder, on lines of one kind of call, and prints the milliseconds of the
+It runs the program test_store, which `rt run` builds in its folder, on lines of one kind of call, and prints the milliseconds of the
 processor for each count. A line is read, applied and printed, so what lines cost that change nothing is printed first. It needs Python 3
 and nothing else, and stands outside the gate.
 """
@@ -10,9 +10,9 @@ import resource
 import subprocess
 
 TOP = os.path.dirname(os.path.dirname(os.path.abspath(__file__)))
-PROGRAM = os.path.join(TOP, "crates", "test_heap", "out", "test_heap")
+PROGRAM = os.path.join(TOP, "crates", "test_store", "out", "test_store")
 COUNTS = (50_000, 100_000, 200_000, 400_000)
-BEGIN = "new 1099511627776 2147483647\nfill 0\ntable 0\n"
+BEGIN = "== heap\nnew 1099511627776 2147483647\nfill 0\ntable 0\n"
 KINDS = (
     ("a call that changes nothing", lambda n: "size 1\n"),
     ("put", lambda n: "put =0 1\n"),

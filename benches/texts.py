@@ -1,7 +1,7 @@
 #!/usr/bin/env python3
 """Times the functions over texts and those of scanning on texts of 100,000 to 1,000,000 bytes.
 
-It runs the programs test_strings and test_scan, which `rt run` builds in their folders, on cases of one function and one long text, and
+It runs the program test_rows, which `rt run` builds in its folder, on cases of one function and one long text, and
 prints for each the time a case takes at each size. A case is read, applied and printed with its result, so what a case costs that
 searches nothing is printed first. It needs Python 3 and nothing else, and stands outside the gate.
 """
@@ -10,17 +10,18 @@ import subprocess
 import time
 
 TOP = os.path.dirname(os.path.dirname(os.path.abspath(__file__)))
+PROGRAM = os.path.join(TOP, "crates", "test_rows", "out", "test_rows")
 SIZES = (100_000, 200_000, 500_000, 1_000_000)
 TIMES = 20
 LIMIT = b"1099511627776 "
 
 
 def over_texts(case):
-    return "test_strings", lambda size: LIMIT + case(size)
+    return "strings", lambda size: LIMIT + case(size)
 
 
 def of_scanning(case):
-    return "test_scan", lambda size: LIMIT + b'"x 1 ' + case(size)
+    return "scan", lambda size: LIMIT + b'"x 1 ' + case(size)
 
 
 CASES = [
@@ -42,15 +43,14 @@ CASES = [
 ]
 
 
-def seconds(program, line):
+def seconds(part, line):
     """What one case takes, of many in one run."""
-    cases = (line + b"\n") * TIMES
-    path = os.path.join(TOP, "crates", program, "out", program)
+    cases = b"== %s\n" % part.encode() + (line + b"\n") * TIMES
     begin = time.perf_counter()
-    subprocess.run([path], input=cases, stdout=subprocess.DEVNULL, check=True)
+    subprocess.run([PROGRAM], input=cases, stdout=subprocess.DEVNULL, check=True)
     return (time.perf_counter() - begin) / TIMES
 
 
 print("%-36s" % "milliseconds a case" + "".join("%11d" % size for size in SIZES))
-for name, (program, case) in CASES:
-    print("%-36s" % name + "".join("%11.2f" % (seconds(program, case(size)) * 1000) for size in SIZES))
+for name, (part, case) in CASES:
+    print("%-36s" % name + "".join("%11.2f" % (seconds(part, case(size)) * 1000) for size in SIZES))

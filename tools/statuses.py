@@ -3,7 +3,7 @@ ten million lines in little memory.
 
 python3 tools/statuses.py ICONT ICONX
 
-The expected values are those of docs/formats/COMMANDS.md. The rows of `test_program` try far more over files in memory; this tries what
+The expected values are those of docs/formats/COMMANDS.md. The rows of `test_commands` try far more over files in memory; this tries what
 no contract can say: that the real objects are put where they belong. It prints each row that is another, and exits with 1 then."""
 
 import os

@@ -57,18 +57,19 @@ fn push_file_calls<F: Files>(
 ) -> Result<(), AllocError> {
     for call in calls.split(';') {
         write!(text, "\n  {call} -> ")?;
-        push_file_call(alloc, text, files, call)?;
+        push_file_call(alloc, text, files, word_at(call, 1), call)?;
     }
     Ok(())
 }
 
-fn push_file_call<F: Files>(
+/// Makes a call on the file of this name, and appends its answer and what was read. `AllocError` is want of memory.
+pub fn push_file_call<F: Files>(
     alloc: Global,
     text: &mut String,
     files: &mut F,
+    name: &str,
     call: &str,
 ) -> Result<(), AllocError> {
-    let name = word_at(call, 1);
     if word_at(call, 0) == "read" {
         let mut bytes = Vec::new(alloc);
         let read = files.read(name, greatest_length(call), &mut bytes);

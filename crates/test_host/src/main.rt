@@ -1,12 +1,16 @@
 //! Makes calls of what the programs are handed from outside: each line of the standard input is a case, several calls of one object, and is
-//! printed with a line for each. The head of `stdin` says how a case is written.
+//! printed with a line for each; or a command of `icont`, and is printed with what its words come to. The head of `stdin` says how a case is
+//! written.
 #![tactic(auto)]
 
 mod case;
+mod disk;
 mod files;
 mod readers;
+mod reading;
 mod showing;
 mod sinks;
+mod small;
 mod sources;
 mod words;
 mod writers;
@@ -21,7 +25,7 @@ fn main(rt: HostRuntime) -> io::Result<()> {
         if line.is_empty() || line.starts_with('#') {
             println!(rt; "{line}")?;
         } else {
-            let text = case_text(alloc, line)?;
+            let text = case_text(&rt, line)?;
             println!(rt; "{text}")?;
         }
     }

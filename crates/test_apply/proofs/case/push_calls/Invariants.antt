@@ -1,5 +1,0 @@
-use Rattle.test_apply.specs.Ready.{IsReadySetting}
-use Rattle.test_apply.proofs.case.push_calls.Given as goal
-
-abbrev pub invariant-loop-call : goal.invariant-loop-call
-invariant-loop-call g l = IsReadySetting (g.N.Names.known l.names) l.w l.l.vals.items

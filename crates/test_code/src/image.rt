@@ -1,0 +1,6 @@
+// Images, read and written again.
+mod hex;
+mod listing;
+mod outcome;
+
+pub use outcome::Cases;

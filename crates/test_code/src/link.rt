@@ -1,0 +1,6 @@
+// Units, linked.
+mod cases;
+mod listing;
+mod units;
+
+pub use cases::outcome;

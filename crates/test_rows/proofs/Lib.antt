@@ -1,0 +1,5 @@
+mod Unnamed
+mod NamesKept
+mod Worlds
+mod Named
+mod TwoArguments

@@ -1,0 +1,7 @@
+// Functions of scanning, resumed until they fail.
+mod calls;
+mod case;
+mod keywords;
+mod results;
+
+pub use case::outcome;

@@ -1,0 +1,4 @@
+// Functions over integers, texts and csets.
+mod case;
+
+pub use case::outcome;

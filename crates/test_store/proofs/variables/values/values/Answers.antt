@@ -1,0 +1,13 @@
+use Rattle.std.proofs.lemmas.List.Elements.{All-push, All-same}
+use Rattle.icn_heap.specs.Extents.{IsLive}
+use Rattle.icn_heap.specs.Heaps.{extent_of}
+use Rattle.icn_heap.proofs.GrowingHeaps.{live_kept}
+use Rattle.test_store.proofs.variables.values.values.Goals as goal
+
+pub loop-word-preserved : goal.loop-word-preserved
+loop-word-preserved c = record {
+  values = All-same (IsLive (extent_of c.value_of.new.w.heap)) _ _ c.in_ok-add.ensures
+      (All-push (IsLive (extent_of c.value_of.new.w.heap)) _ _ (live_kept c.value_of.ensures.kept c.loop-word.vals.items c.loop-word.invariant.values)
+      c.in_ok-val.ensures.live);
+  locals = live_kept c.value_of.ensures.kept c.args.l.now.vals.items c.loop-word.invariant.locals;
+}

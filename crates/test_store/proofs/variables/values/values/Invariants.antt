@@ -1,0 +1,10 @@
+use Rattle.std.specs.List.{All}
+use Rattle.icn_heap.specs.Extents.{IsLive}
+use Rattle.icn_heap.specs.Heaps.{extent_of}
+use Rattle.test_store.proofs.variables.values.values.Given as goal
+
+abbrev pub invariant-loop-word : goal.invariant-loop-word
+invariant-loop-word l = record {
+  values : All (IsLive (extent_of l.w.heap)) l.vals.items;
+  locals : All (IsLive (extent_of l.w.heap)) l.l.vals.items;
+}

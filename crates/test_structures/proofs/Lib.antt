@@ -1,2 +1,0 @@
-mod NamesKept
-mod Worlds
