@@ -1,6 +1,6 @@
 pub mod NameLists
-mod NamesStay
-mod SizesStay
+pub mod NamesStay
+pub mod SizesStay
 mod InPlace
 mod ProcedureRows
 mod RuleCounts

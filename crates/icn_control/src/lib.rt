@@ -47,14 +47,14 @@ pub use on_stack::{
     change_label, drop_mark, drop_operand, duplicate, give_limited, give_suspended, go_to,
     open_mark, push_below, push_null, put, put_slot,
 };
-pub use opening::open_scan;
+pub use opening::{open_over, open_scan};
 pub use operands::take_operands;
 pub use plain_values::{take_value, value_slot};
 pub use returns::{
     fail_procedure, give_back, leave_failing, leave_with, result_of, suspend_value, suspend_with,
 };
-pub use scans::{leave_scan, swap_if_scanning, swap_pairs};
-pub use texts::push_string;
+pub use scans::{leave_scan, scan_left, swap_if_scanning, swap_pairs};
+pub use texts::{push_string, push_text, short_text_slot};
 pub use transfers::{coact, coret};
 pub use turns::{begin_again, go_back, reenter};
 pub use values::{list_of, value_of, values_of};

@@ -22,7 +22,7 @@ use crate::activation::Activation;
 use crate::values::value_of;
 use crate::world::set_pair;
 use icn_args::{check_text, text_of};
-use icn_frames::{Cell, Frames, Stack, Why};
+use icn_frames::{Cell, Frames, Stack};
 use icn_value::{Pair, Span, Val};
 use icn_vars::{Halt, Stop, World};
 use std::alloc::AllocError;
@@ -52,8 +52,8 @@ fn subject_of<K: Stack<Cell> + Drop>(
     text_of(world, &activation, v)
 }
 
-// Opens a scan of a text, from its first position on. The error is want of memory.
-fn open_over<K: Stack<Cell> + Drop>(
+/// Opens a scan of a text, from its first position on. The error is want of memory.
+pub fn open_over<K: Stack<Cell> + Drop>(
     frames: &mut Frames<K>,
     world: &mut World,
     text: Span,
@@ -66,7 +66,7 @@ fn open_over<K: Stack<Cell> + Drop>(
         → OnOk result (IsLiveStack tables (reach_of world.new []) frames.new.flat) }
     ensures same { KeepsHeap world.old world.new }
 {
-    frames.suspend(Why::Scan(world.pair), None)?;
+    frames.suspend_scan(world.pair)?;
     let pair = Pair {
         subject: text,
         position: 1,

@@ -1,5 +1,5 @@
 // Texts of the code.
-ghost use Rattle.std.specs.Prelude.{◌≡◌, ◌<◌, [], Some, length, slice_get, OnOk, IfOk};
+ghost use Rattle.std.specs.Prelude.{◌≡◌, ◌<◌, ◌^◌, [], Some, length, slice_get, OnErr, OnOk, IfOk};
 ghost use Rattle.icn_code.specs.Codes.{Tables};
 ghost use Rattle.icn_code.specs.CodeTables.{tables_of};
 ghost use Rattle.icn_code.specs.declared.instr.Instr.TheVariants as Instrs;
@@ -8,13 +8,18 @@ ghost use Rattle.icn_heap.specs.Heaps.{extent_of, heap_of};
 ghost use Rattle.icn_vars.specs.Worlds.{KeepsItems, reach_of, world_of};
 ghost use Rattle.icn_run.specs.Stacks.{Frames as FramesRead};
 ghost use Rattle.icn_run.specs.Step.{Store};
+ghost use Rattle.icn_value.specs.declared.item.Item.TheVariants as Items;
+ghost use Rattle.icn_value.specs.declared.val.Val.TheVariants as Vals;
+ghost use Rattle.icn_frames.specs.Slots.{plain_operand};
+ghost use Rattle.icn_frames.specs.Stacks as flat;
 ghost use Rattle.icn_control.specs.LiveStacks.{IsLiveStack};
 ghost use Rattle.icn_control.specs.StackAndWorld.{RunsWith};
 ghost use Rattle.icn_control.specs.StackViews.{instruction_state};
 
 use icn_code::Code;
 use icn_frames::{Cell, Frames, Stack};
-use icn_value::{Item, Span, Val};
+use icn_profile::NUMBER_LIMIT;
+use icn_value::{Span, Val};
 use icn_vars::World;
 use std::alloc::AllocError;
 
@@ -37,8 +42,36 @@ pub fn push_string<K: Stack<Cell> + Drop>(
 {
     let text = string_at(code, index);
     let span = hold(world, text)?;
-    frames.push(Item::Val(Val::Text(span)))?;
+    push_text(frames, span)?;
     Ok(())
+}
+
+/// Pushes a text. The error is want of memory, and the stack is as it was then.
+#[inline(always)]
+pub fn push_text<K: Stack<Cell> + Drop>(
+    frames: &mut Frames<K>,
+    text: Span,
+) -> Result<(), AllocError>
+    ensures ok { OnOk result (frames.new.flat ≡ flat.push (Items.Val (Vals.Text text)) frames.old.flat) }
+    ensures err { OnErr result (frames.new.flat ≡ frames.old.flat) }
+{
+    if text.len >= NUMBER_LIMIT {
+        return frames.push_value(Val::Text(text));
+    }
+    frames.push_plain(short_text_slot(text))?;
+    Ok(())
+}
+
+/// The slot of an operand that is a text of fewer than 2^32 bytes.
+#[inline(always)]
+pub fn short_text_slot(text: Span) -> Cell
+    requires { text.len < 2 ^ 32 }
+    ensures { plain_operand result ≡ Some (Items.Val (Vals.Text text)) }
+{
+    Cell::ValText {
+        len: text.len as u32,
+        start: text.start,
+    }
 }
 
 // A text of the code.

@@ -1,11 +1,13 @@
 -- What was read of the newest suspension.
 use Rattle.std.proofs.Common.{◌≡◌, ℕ, ◌+◌, ◌-◌, List, Option, Some, None, IfSome, subst, sym, ap, ◌∙◌, refl}
+use Rattle.icn_value.specs.declared.residual.Residual.{Residual}
 use Rattle.icn_frames.specs.Heights.{cut, cell_at}
 use Rattle.icn_frames.specs.declared.layout.Registers.{Registers}
 use Rattle.icn_frames.specs.declared.layout.Count.{Count}
 use Rattle.icn_frames.specs.declared.layout.NewestKind.{NewestKind}
 use Rattle.icn_frames.specs.declared.layout.NewestKind.TheVariants as NewestKinds
 use Rattle.icn_frames.specs.declared.layout.Why.{Why}
+use Rattle.icn_frames.specs.declared.layout.Why.TheVariants as Whys
 use Rattle.icn_frames.specs.declared.layout.Cell.{Cell}
 use Rattle.icn_frames.specs.declared.layout.Cell.TheVariants.{Suspension}
 use Rattle.icn_frames.specs.Slots.{why_counting, TellsWhy}
@@ -48,6 +50,12 @@ pub counting_is : (o : Option Count) (why : Why) (m : FlatStack)
     → IfSome o (λ (count : Count). IsCounting count m)
 counting_is None why m t h = tt
 counting_is (Some count) why m t h = subst (λ (w : Why). IsHeldBy w m) t h
+
+-- what its residual says
+pub residual_is : (o : Option Residual) (why : Why) (m : FlatStack) → IfSome o (λ (rest : Residual). why ≡ Whys.Op rest) → IsHeldBy why m
+    → IfSome o (λ (rest : Residual). IsHeldBy (Whys.Op rest) m)
+residual_is None why m t h = tt
+residual_is (Some rest) why m t h = subst (λ (w : Why). IsHeldBy w m) t h
 
 -- what comes back is one stack
 

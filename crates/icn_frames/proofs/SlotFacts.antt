@@ -7,7 +7,7 @@ use Rattle.icn_frames.specs.declared.layout.Cell.TheVariants.{Call, Local, Opera
 use Rattle.icn_frames.specs.declared.slots.Control.{Control}
 use Rattle.icn_frames.specs.declared.slots.Extra.{Extra}
 use Rattle.icn_frames.specs.declared.slots.StackSlot.{StackSlot}
-use Rattle.icn_frames.specs.declared.slots.StackSlot.TheVariants.{BaseFrame, CallFrame, PlainMark, LabelMark, SetMark, LimitMark, AltHeld, OpHeld, CountHeld, ScanHeld, EscanHeld, ProcHeld, LocalOther, ValOther, VarOther, LocalNull, LocalInteger, LocalText, LocalInput, LocalOutput, LocalErrout, LocalOpened, LocalProc, LocalRec, LocalList, LocalSet, LocalTable, LocalCoexp, ValNull, ValInteger, ValText, ValInput, ValOutput, ValErrout, ValOpened, ValProc, ValRec, ValList, ValSet, ValTable, ValCoexp, VarGlobal, VarStatic, VarLocal, VarElement, VarField, VarKey, VarSubject, VarPosition, VarRandom}
+use Rattle.icn_frames.specs.declared.slots.StackSlot.TheVariants.{BaseFrame, CallFrame, PlainMark, LabelMark, SetMark, LimitMark, AltHeld, OpHeld, CountHeld, MoveHeld, ScanHeld, EscanHeld, ProcHeld, LocalOther, ValOther, VarOther, LocalNull, LocalInteger, LocalText, LocalInput, LocalOutput, LocalErrout, LocalOpened, LocalProc, LocalRec, LocalList, LocalSet, LocalTable, LocalCoexp, ValNull, ValInteger, ValText, ValInput, ValOutput, ValErrout, ValOpened, ValProc, ValRec, ValList, ValSet, ValTable, ValCoexp, VarGlobal, VarStatic, VarLocal, VarElement, VarField, VarKey, VarSubject, VarPosition, VarRandom}
 use Rattle.icn_frames.specs.Slots.{cell_of, plain_operand, plain_local}
 use Rattle.icn_value.specs.declared.val.Val.{Val}
 use Rattle.icn_value.specs.declared.item.Item.{Item}
@@ -25,6 +25,7 @@ saved_is control extra (LimitMark count) saved e = cc
 saved_is control extra (AltHeld address) saved e = cc
 saved_is control extra (OpHeld address) saved e = cc
 saved_is control extra (CountHeld address given) saved e = cc
+saved_is control extra (MoveHeld address old) saved e = cc
 saved_is control extra (ScanHeld address) saved e = cc
 saved_is control extra (EscanHeld address) saved e = cc
 saved_is control extra (ProcHeld address) saved e = cc
@@ -79,6 +80,7 @@ return_is control extra (LimitMark count) p l v saved a e = cc
 return_is control extra (AltHeld address) p l v saved a e = cc
 return_is control extra (OpHeld address) p l v saved a e = cc
 return_is control extra (CountHeld address given) p l v saved a e = cc
+return_is control extra (MoveHeld address old) p l v saved a e = cc
 return_is control extra (ScanHeld address) p l v saved a e = cc
 return_is control extra (EscanHeld address) p l v saved a e = cc
 return_is control extra (ProcHeld address) p l v saved a e = cc
@@ -133,6 +135,7 @@ pair_is control extra (LimitMark count) pair saved a e = cc
 pair_is control extra (AltHeld address) pair saved a e = cc
 pair_is control extra (OpHeld address) pair saved a e = cc
 pair_is control extra (CountHeld address given) pair saved a e = cc
+pair_is control extra (MoveHeld address old) pair saved a e = cc
 pair_is control extra (ScanHeld address) pair saved a e = cc
 pair_is control extra (EscanHeld address) pair saved a e = cc
 pair_is control extra (ProcHeld address) pair saved a e = cc
@@ -188,6 +191,7 @@ pair_set control extra other (LimitMark count) pair saved a e = cc
 pair_set control extra other (AltHeld address) pair saved a e = cc
 pair_set control extra other (OpHeld address) pair saved a e = cc
 pair_set control extra other (CountHeld address given) pair saved a e = cc
+pair_set control extra other (MoveHeld address old) pair saved a e = cc
 pair_set control extra other (ScanHeld address) pair saved a e = cc
 pair_set control extra other (EscanHeld address) pair saved a e = cc
 pair_set control extra other (ProcHeld address) pair saved a e = cc
@@ -242,6 +246,7 @@ plain_operand_is control extra (LimitMark count) x e = cc
 plain_operand_is control extra (AltHeld address) x e = cc
 plain_operand_is control extra (OpHeld address) x e = cc
 plain_operand_is control extra (CountHeld address given) x e = cc
+plain_operand_is control extra (MoveHeld address old) x e = cc
 plain_operand_is control extra (ScanHeld address) x e = cc
 plain_operand_is control extra (EscanHeld address) x e = cc
 plain_operand_is control extra (ProcHeld address) x e = cc
@@ -295,6 +300,7 @@ plain_local_is control extra (LimitMark count) v e = cc
 plain_local_is control extra (AltHeld address) v e = cc
 plain_local_is control extra (OpHeld address) v e = cc
 plain_local_is control extra (CountHeld address given) v e = cc
+plain_local_is control extra (MoveHeld address old) v e = cc
 plain_local_is control extra (ScanHeld address) v e = cc
 plain_local_is control extra (EscanHeld address) v e = cc
 plain_local_is control extra (ProcHeld address) v e = cc

@@ -9,7 +9,7 @@ use Rattle.icn_frames.specs.declared.layout.Why.TheVariants.{Alt, Op, Scan, Esca
 use Rattle.icn_frames.specs.declared.layout.Cell.{Cell}
 use Rattle.icn_frames.specs.declared.layout.Cell.TheVariants.{Base, Call, Local, Mark, Limit, Suspension, Operand}
 use Rattle.icn_frames.specs.Stacks.{FlatStack, copy_up, suspend, suspend_mark, suspend_mark_from, suspend_onto, suspend_proc, suspend_proc_from, older_scan, scan_of, scan_by}
-use Rattle.icn_frames.specs.StackInvariant.{CellKind, AMark, ASuspension, shape, IsMarked, IsScan, bottom, bottom_from, count_of, KindAt, MayBeAt, MarkOr, RegistersLead, Sound}
+use Rattle.icn_frames.specs.StackInvariant.{CellKind, AMark, ASuspension, shape, IsMarked, IsScan, bottom, bottom_from, count_of, MayBeAt, MarkOr, RegistersLead, Sound}
 use Rattle.icn_frames.proofs.SoundStacks.{cell_at_top, leads_above, bottom_on, maybe_on, map_drop, sound_suspend, copied_is, cut_at, base_within, at_height, shape_at}
 use Rattle.icn_frames.proofs.CellFacts.{sound_cut, within_cells, kind_of_cell}
 
@@ -152,9 +152,6 @@ suspend_is m why s' scan n from t f h q b =
     ∙ ap G (sym q)
 
 -- the scans that are open
-
-pub scan_at : (s : List Cell) (r : Registers) (h : ℕ) → Sound s r → r.scan ≡ Some h → KindAt IsScan (map shape s) h
-scan_at s r h t e = subst (λ (w : Option ℕ). MayBeAt IsScan (map shape s) w) e t.stands.leads.scan
 
 pub older_at : (s : List Cell) (r : Registers) (h : ℕ) (c : Option Cell) → cell_at h s ≡ c → 1 ≤ h → h ≤ length s → Sound s r
     → MayBeAt IsScan (map shape s) (scan_of c)

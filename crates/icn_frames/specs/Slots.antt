@@ -22,7 +22,7 @@ use Rattle.icn_frames.specs.declared.layout.Cell.TheVariants.{Base, Call, Local,
 use Rattle.icn_frames.specs.declared.slots.Control.{Control}
 use Rattle.icn_frames.specs.declared.slots.Extra.{Extra}
 use Rattle.icn_frames.specs.declared.slots.StackSlot.{StackSlot}
-use Rattle.icn_frames.specs.declared.slots.StackSlot.TheVariants.{BaseFrame, CallFrame, PlainMark, LabelMark, SetMark, LimitMark, AltHeld, OpHeld, CountHeld, ScanHeld, EscanHeld, ProcHeld, LocalOther, ValOther, VarOther, LocalNull, LocalInteger, LocalText, LocalInput, LocalOutput, LocalErrout, LocalOpened, LocalProc, LocalRec, LocalList, LocalSet, LocalTable, LocalCoexp, ValNull, ValInteger, ValText, ValInput, ValOutput, ValErrout, ValOpened, ValProc, ValRec, ValList, ValSet, ValTable, ValCoexp, VarGlobal, VarStatic, VarLocal, VarElement, VarField, VarKey, VarSubject, VarPosition, VarRandom}
+use Rattle.icn_frames.specs.declared.slots.StackSlot.TheVariants.{BaseFrame, CallFrame, PlainMark, LabelMark, SetMark, LimitMark, AltHeld, OpHeld, CountHeld, MoveHeld, ScanHeld, EscanHeld, ProcHeld, LocalOther, ValOther, VarOther, LocalNull, LocalInteger, LocalText, LocalInput, LocalOutput, LocalErrout, LocalOpened, LocalProc, LocalRec, LocalList, LocalSet, LocalTable, LocalCoexp, ValNull, ValInteger, ValText, ValInput, ValOutput, ValErrout, ValOpened, ValProc, ValRec, ValList, ValSet, ValTable, ValCoexp, VarGlobal, VarStatic, VarLocal, VarElement, VarField, VarKey, VarSubject, VarPosition, VarRandom}
 
 -- what callers of the cells see: the cells, the newest first, and for how many more there is room
 pub record SeenCells : Type 0 where
@@ -64,6 +64,10 @@ whole_variable root = Operand (Items.Var (VarRefs.Whole root))
 abbrev pub why_counting : ℤ → ℤ → ℤ → Why
 why_counting given last step = Whys.Op (Residuals.Counting given last step)
 
+-- why a move in the subject is suspended, by the place at which it began
+abbrev pub why_moved : ℕ → Why
+why_moved old = Whys.Op (Residuals.UndoPosition old)
+
 -- the cell that a slot stands for, with what is kept beside it
 abbrev pub cell_of : Control → Extra → StackSlot → Cell
 cell_of control extra (BaseFrame proc locals) = Base proc locals
@@ -76,6 +80,7 @@ cell_of control extra (AltHeld address) = Suspension Whys.Alt control.saved addr
 cell_of control extra (OpHeld address) = Suspension (Whys.Op extra.residual) control.saved address
 cell_of control extra (CountHeld address given) =
     Suspension (why_counting given control.range.last control.range.step) control.saved address
+cell_of control extra (MoveHeld address old) = Suspension (why_moved old) control.saved address
 cell_of control extra (ScanHeld address) = Suspension (Whys.Scan extra.pair) control.saved address
 cell_of control extra (EscanHeld address) = Suspension Whys.Escan control.saved address
 cell_of control extra (ProcHeld address) = Suspension Whys.Proc control.saved address

@@ -4,12 +4,13 @@ ghost use Rattle.icn_frames.specs.Heights.{cell_at};
 ghost use Rattle.icn_frames.specs.Stacks as flat;
 ghost use Rattle.icn_frames.specs.Stacks.{FlatStack};
 ghost use Rattle.icn_frames.specs.StackInvariant.{shape, IsScan, MayBeAt};
-ghost use Rattle.icn_frames.specs.Slots.{content_of, plain_operand, plain_local, why_counting, value_only};
-ghost use Rattle.icn_frames.specs.Newest.{IsCounting, IsNewest};
+ghost use Rattle.icn_frames.specs.Slots.{content_of, plain_operand, plain_local, why_counting, why_moved, value_only};
+ghost use Rattle.icn_frames.specs.Newest.{IsCounting, IsHeldBy, IsNewest};
 ghost use Rattle.icn_frames.specs.CalledWith.{DropsWith, EntersWith, HasOperands, operands_above};
 ghost use Rattle.icn_frames.specs.declared.layout.Cell.{Cell};
 ghost use Rattle.icn_frames.specs.declared.layout.Cell.TheVariants as CellVariants;
 ghost use Rattle.icn_frames.specs.declared.layout.Why.{Why};
+ghost use Rattle.icn_frames.specs.declared.layout.Why.TheVariants as Whys;
 ghost use Rattle.icn_value.specs.declared.item.Item.TheVariants as Items;
 ghost use Rattle.icn_value.specs.declared.val.Val.TheVariants as Vals;
 ghost use Rattle.icn_value.specs.declared.item.Item.{Item};
@@ -20,10 +21,11 @@ use crate::layout::{CellContent, Count, NewFrame, NewestKind, Registers, Why};
 use crate::slots::StackSlot;
 use crate::stack::Stack;
 use crate::steps::{
-    at_frame, bottom_of, frame_arguments, hang, hang_count, is_same, older_than, oldest_from,
-    put_locals, put_nulls, scan_after, swap_at,
+    at_frame, bottom_of, frame_arguments, hang, hang_count, hang_escan, hang_move, hang_row,
+    hang_scan, is_same, older_scan, oldest_from, put_locals, put_nulls, running_proc, scan_after,
+    swap_at,
 };
-use icn_value::{Item, Pair, Val};
+use icn_value::{Item, Pair, Residual, Val};
 use std::alloc::{AllocError, Global};
 use std::marker::Model;
 
@@ -38,6 +40,9 @@ pub struct Frames<K: Stack<StackSlot> + Drop> {
     cells: Cells<K>,
     registers: Registers,
     address: u32,
+    // The number of the running procedure, as its frame has it, so that it is at hand for each instruction.
+    proc: u32,
+    ghost runs: { proc ≡ flat.proc_of (cell_at registers.base cells.cells) },
 }
 
 impl<K: Stack<StackSlot> + Drop> Model for Frames<K> {
@@ -63,18 +68,22 @@ impl<K: Stack<StackSlot> + Drop> Frames<K> {
         cells.push_base(proc, locals.len() as u64);
         let height = cells.len();
         put_locals(&mut cells, locals);
+        let registers = at_frame(height);
+        let running = running_proc(&cells, registers);
         Ok(Frames {
             cells,
-            registers: at_frame(height),
+            registers,
             address,
+            proc: running,
         })
     }
 
     /// The number of the running procedure.
+    #[inline(always)]
     pub fn proc(&self) -> u32
         ensures { result ≡ flat.proc self.now.flat }
     {
-        self.cells.proc_at(self.registers.base - 1)
+        self.proc
     }
 
     /// 1, and 1 more for each procedure frame from the running one down to the base.
@@ -386,6 +395,7 @@ impl<K: Stack<StackSlot> + Drop> Frames<K> {
         let pair = self.pair_since(saved.scan);
         self.cells.cut(to);
         self.registers = saved;
+        self.proc = running_proc(&self.cells, self.registers);
         pair
     }
 
@@ -400,6 +410,7 @@ impl<K: Stack<StackSlot> + Drop> Frames<K> {
         let saved = self.cells.saved_at(to);
         self.cells.cut(to);
         self.registers = saved;
+        self.proc = running_proc(&self.cells, self.registers);
     }
 
     /// Suspends, and pushes a result if there is one. The mark that goes on is the next outer one for `Alt`, the caller's
@@ -471,6 +482,91 @@ impl<K: Stack<StackSlot> + Drop> Frames<K> {
         Ok(())
     }
 
+    /// Suspends a move in the subject in the innermost mark, by the place at which it began, and pushes the operand of a
+    /// slot, beside which nothing may be kept. `AllocError` is want of memory; the stack is as it was
+    /// then.
+    pub fn suspend_move(&mut self, old: u64, slot: StackSlot) -> Result<(), AllocError>
+        requires plain { IsSome (plain_operand slot) }
+        ensures ok { OnOk result ((x : Item) → plain_operand slot ≡ Some x
+            → flat.given_to (Some x) (flat.suspend_by (why_moved old) self.old.flat) ≡ Some self.new.flat) }
+        ensures err { OnErr result (self.new.flat ≡ self.old.flat) }
+        ensures spare { OnErr result (self.old.spare ≤ self.new.spare) }
+    {
+        let from = bottom_of(&self.cells, self.registers);
+        let to = self.cells.len();
+        let height = hang_move(&mut self.cells, old, self.registers, self.address, from, to)?;
+        self.registers.newest = Some(height);
+        self.cells.push_plain(slot);
+        Ok(())
+    }
+
+    /// Suspends what an operation or a function left in the innermost mark, and pushes the operand of a slot, beside which
+    /// nothing may be kept. `AllocError` is want of memory; the stack is as it was
+    /// then.
+    pub fn suspend_row(&mut self, rest: &Residual, slot: StackSlot) -> Result<(), AllocError>
+        requires plain { IsSome (plain_operand slot) }
+        ensures ok { OnOk result ((x : Item) → plain_operand slot ≡ Some x
+            → flat.given_to (Some x) (flat.suspend_by (Whys.Op rest.now) self.old.flat) ≡ Some self.new.flat) }
+        ensures err { OnErr result (self.new.flat ≡ self.old.flat) }
+        ensures spare { OnErr result (self.old.spare ≤ self.new.spare) }
+    {
+        let from = bottom_of(&self.cells, self.registers);
+        let to = self.cells.len();
+        let height = hang_row(
+            &mut self.cells,
+            rest,
+            self.registers,
+            self.address,
+            from,
+            to,
+        )?;
+        self.registers.newest = Some(height);
+        self.cells.push_plain(slot);
+        Ok(())
+    }
+
+    /// Opens a scan in the innermost mark, with the pair that it saves. `AllocError` is want of memory; the stack is as it was
+    /// then.
+    pub fn suspend_scan(&mut self, pair: Pair) -> Result<(), AllocError>
+        ensures ok { OnOk result
+            (flat.given_to None (flat.suspend_by (Whys.Scan pair) self.old.flat) ≡ Some self.new.flat) }
+        ensures err { OnErr result (self.new.flat ≡ self.old.flat) }
+        ensures spare { OnErr result (self.old.spare ≤ self.new.spare) }
+    {
+        let from = bottom_of(&self.cells, self.registers);
+        let to = self.cells.len();
+        let height = hang_scan(
+            &mut self.cells,
+            pair,
+            self.registers,
+            self.address,
+            from,
+            to,
+        )?;
+        self.registers.newest = Some(height);
+        self.registers.scan = Some(height);
+        Ok(())
+    }
+
+    /// Leaves the newest open scan, and pushes the operand of a slot, beside which nothing may be kept. `AllocError` is want of
+    /// memory; the stack is as it was then.
+    pub fn suspend_escan(&mut self, slot: StackSlot) -> Result<(), AllocError>
+        requires plain { IsSome (plain_operand slot) }
+        ensures ok { OnOk result ((x : Item) → plain_operand slot ≡ Some x
+            → flat.given_to (Some x) (flat.suspend_by Whys.Escan self.old.flat) ≡ Some self.new.flat) }
+        ensures err { OnErr result (self.new.flat ≡ self.old.flat) }
+        ensures spare { OnErr result (self.old.spare ≤ self.new.spare) }
+    {
+        let from = bottom_of(&self.cells, self.registers);
+        let to = self.cells.len();
+        let older = older_scan(&self.cells, self.registers.scan);
+        let height = hang_escan(&mut self.cells, self.registers, self.address, from, to)?;
+        self.registers.newest = Some(height);
+        self.registers.scan = older;
+        self.cells.push_plain(slot);
+        Ok(())
+    }
+
     /// What the newest suspension of the innermost mark is, as far as its slot tells.
     #[inline(always)]
     pub fn newest_kind(&self) -> NewestKind
@@ -492,6 +588,16 @@ impl<K: Stack<StackSlot> + Drop> Frames<K> {
         }
     }
 
+    /// The residual for which the newest suspension of the innermost mark comes back, where its slot tells that one is kept.
+    pub fn newest_residual(&self) -> Option<Residual>
+        ensures { IfSome result (λ rest. IsHeldBy (Whys.Op rest) self.now.flat) }
+    {
+        match self.registers.newest {
+            None => None,
+            Some(height) => self.cells.residual_held_at(height - 1),
+        }
+    }
+
     /// Resumes the newest suspension of the innermost mark, and does not say why it was suspended. Without one nothing changes.
     pub fn resume_newest(&mut self)
         ensures flat { (why : Why) (rest : FlatStack) → flat.resume self.old.flat ≡ Some (why, rest)
@@ -508,6 +614,7 @@ impl<K: Stack<StackSlot> + Drop> Frames<K> {
                 self.cells.cut(at);
                 self.registers = saved;
                 self.address = address;
+                self.proc = running_proc(&self.cells, self.registers);
             }
         }
     }
@@ -540,6 +647,7 @@ impl<K: Stack<StackSlot> + Drop> Frames<K> {
                 self.cells.copy_few(from, at);
                 self.registers = saved;
                 self.registers.newest = Some(height);
+                self.proc = running_proc(&self.cells, self.registers);
                 self.cells.push_plain(StackSlot::ValInteger(count.given));
                 Ok(())
             }
@@ -608,6 +716,7 @@ impl<K: Stack<StackSlot> + Drop> Frames<K> {
         put_locals(&mut self.cells, locals);
         self.registers = at_frame(height);
         self.address = address;
+        self.proc = running_proc(&self.cells, self.registers);
         Ok(())
     }
 
@@ -693,6 +802,7 @@ impl<K: Stack<StackSlot> + Drop> Frames<K> {
             put_nulls(&mut self.cells, nulls);
             self.registers = at_frame(height);
             self.address = address;
+            self.proc = running_proc(&self.cells, self.registers);
         }
         Ok(done)
     }
@@ -709,6 +819,7 @@ impl<K: Stack<StackSlot> + Drop> Frames<K> {
         self.cells.cut(at);
         self.registers = saved;
         self.address = address;
+        self.proc = running_proc(&self.cells, self.registers);
     }
 
     // Suspends, by the reason. There is room for a result then.
@@ -745,7 +856,7 @@ impl<K: Stack<StackSlot> + Drop> Frames<K> {
     {
         let from = bottom_of(&self.cells, self.registers);
         let to = self.cells.len();
-        let older = self.older_scan();
+        let older = older_scan(&self.cells, self.registers.scan);
         let height = hang(&mut self.cells, why, self.registers, self.address, from, to)?;
         self.registers = Registers {
             base: self.registers.base,
@@ -781,6 +892,7 @@ impl<K: Stack<StackSlot> + Drop> Frames<K> {
             newest: Some(height),
             scan: saved.scan,
         };
+        self.proc = running_proc(&self.cells, self.registers);
         Ok(())
     }
 
@@ -810,18 +922,9 @@ impl<K: Stack<StackSlot> + Drop> Frames<K> {
             newest: Some(height),
             scan: saved.scan,
         };
+        self.proc = running_proc(&self.cells, self.registers);
         self.address = address;
         Ok(())
-    }
-
-    // The scan that is the newest once the newest one is left.
-    fn older_scan(&self) -> Option<u64>
-        ensures { result ≡ flat.older_scan self.now.flat.cells self.now.flat.registers.scan }
-    {
-        match self.registers.scan {
-            None => None,
-            Some(height) => older_than(&self.cells, height),
-        }
     }
 
     // The pair of the oldest open scan that is newer than a given one.

@@ -1,7 +1,7 @@
 // The cells of a stack over slots, with what is kept beside them.
 ghost use Rattle.std.specs.Prelude.{◌≡◌, ◌+◌, ◌-◌, ◌<◌, ◌≤◌, ◌^◌, ℕ, List, [], ◌∷◌, length, Option, Some, is_some, IsSome, Bool, true, false, OnOk, IsOk, IfSome};
 ghost use Rattle.icn_frames.specs.Heights.{cut, cell_at, set_cell, with_copy};
-ghost use Rattle.icn_frames.specs.Slots.{operand_in, content_of, is_plain_cell, count_in, top_operand, plain_operand, plain_local, why_counting, TellsWhy, value_only};
+ghost use Rattle.icn_frames.specs.Slots.{operand_in, content_of, is_plain_cell, count_in, top_operand, plain_operand, plain_local, why_counting, why_moved, TellsWhy, value_only};
 ghost use Rattle.icn_frames.specs.StackInvariant.{shape, outer_of};
 ghost use Rattle.icn_frames.specs.Stacks as flat;
 ghost use Rattle.icn_value.specs.declared.val.Val.{Val};
@@ -20,10 +20,11 @@ use crate::slots::{
     count_of, depth_of, is_base_cell, is_operand, is_plain, is_relabelled, is_sided, keep_local,
     keep_operand, keep_value, keep_why, kind_of, label_in, level_of, local_of, locals_of,
     make_beside, make_controls, mark_slot, operand_of, pair_at, proc_of, put_control, put_counted,
-    put_pair, put_range, put_saved, range_of, return_of, saved_of, value_of, why_of,
+    put_pair, put_range, put_residual, put_saved, range_of, residual_held, return_of, saved_of,
+    value_of, why_of,
 };
 use crate::stack::Stack;
-use icn_value::{Item, Pair, Val};
+use icn_value::{Item, Pair, Residual, Val};
 use std::alloc::{AllocError, Global};
 use std::marker::Model;
 
@@ -266,6 +267,53 @@ impl<K: Stack<StackSlot> + Drop> Cells<K> {
         put_counted(&mut self.controls, at, saved, range);
         let given = count.given;
         self.slots.push(StackSlot::CountHeld { address, given });
+    }
+
+    /// Puts the suspension of a move in the subject on top. There must be room for it.
+    pub fn push_move(&mut self, old: u64, saved: Registers, address: u32)
+        requires { 0 < self.old.spare }
+        ensures cells { self.new.cells ≡ CellVariants.Suspension (why_moved old) saved address ∷ self.old.cells }
+        ensures spare { self.new.spare + 1 ≡ self.old.spare }
+    {
+        let at = self.slots.len();
+        put_saved(&mut self.controls, at, saved);
+        self.slots.push(StackSlot::MoveHeld { address, old });
+    }
+
+    /// Puts the suspension of what an operation or a function left on top. There must be room for it.
+    pub fn push_row(&mut self, rest: &Residual, saved: Registers, address: u32)
+        requires { 0 < self.old.spare }
+        ensures cells { self.new.cells
+            ≡ CellVariants.Suspension (Whys.Op rest.now) saved address ∷ self.old.cells }
+        ensures spare { self.new.spare + 1 ≡ self.old.spare }
+    {
+        let at = self.slots.len();
+        put_saved(&mut self.controls, at, saved);
+        put_residual(&mut self.extras, at, rest);
+        self.slots.push(StackSlot::OpHeld { address });
+    }
+
+    /// Puts the suspension of a scan on top. There must be room for it.
+    pub fn push_scan(&mut self, pair: Pair, saved: Registers, address: u32)
+        requires { 0 < self.old.spare }
+        ensures cells { self.new.cells ≡ CellVariants.Suspension (Whys.Scan pair) saved address ∷ self.old.cells }
+        ensures spare { self.new.spare + 1 ≡ self.old.spare }
+    {
+        let at = self.slots.len();
+        put_saved(&mut self.controls, at, saved);
+        put_pair(&mut self.extras, at, pair);
+        self.slots.push(StackSlot::ScanHeld { address });
+    }
+
+    /// Puts the suspension of a scan that was left on top. There must be room for it.
+    pub fn push_escan(&mut self, saved: Registers, address: u32)
+        requires { 0 < self.old.spare }
+        ensures cells { self.new.cells ≡ CellVariants.Suspension Whys.Escan saved address ∷ self.old.cells }
+        ensures spare { self.new.spare + 1 ≡ self.old.spare }
+    {
+        let at = self.slots.len();
+        put_saved(&mut self.controls, at, saved);
+        self.slots.push(StackSlot::EscanHeld { address });
     }
 
     /// Takes the top operand, which must be there. Its room is free again.
@@ -522,6 +570,16 @@ impl<K: Stack<StackSlot> + Drop> Cells<K> {
     {
         let range = range_of(&self.controls, i);
         count_held(self.slots.get(i), range)
+    }
+
+    /// The residual that the suspension above `i` others keeps, where its slot tells that one is kept beside it.
+    pub fn residual_held_at(&self, i: u64) -> Option<Residual>
+        requires { i < length self.now.cells }
+        ensures { (why : Why) (saved : Registers) (address : ℕ)
+            → cell_at (i + 1) self.now.cells ≡ Some (CellVariants.Suspension why saved address)
+            → IfSome result (λ rest. why ≡ Whys.Op rest) }
+    {
+        residual_held(&self.extras, i, self.slots.get(i))
     }
 
     /// Where the suspension above `i` others goes on.

@@ -9,6 +9,7 @@ ghost use Rattle.icn_frames.specs.declared.layout.Cell.TheVariants as CellVarian
 ghost use Rattle.icn_value.specs.declared.val.Val.{Val};
 ghost use Rattle.icn_value.specs.declared.item.Item.{Item};
 ghost use Rattle.icn_frames.specs.declared.layout.Why.{Why};
+ghost use Rattle.icn_frames.specs.declared.layout.Why.TheVariants as Whys;
 ghost use Rattle.icn_frames.specs.declared.layout.Registers.{Registers};
 
 use crate::layout::{CellContent, Count, NewestKind, Registers, Why};
@@ -37,6 +38,8 @@ pub enum StackSlot {
     OpHeld { address: u32 },
     /// A suspension of a count, by the integer that it gave last, with its end and step beside it.
     CountHeld { address: u32, given: i64 },
+    /// A suspension of a move in the subject, by the place at which it began.
+    MoveHeld { address: u32, old: u64 },
     /// A suspension of a scan, with the pair beside it.
     ScanHeld { address: u32 },
     /// A suspension of a scan that was left.
@@ -644,6 +647,7 @@ pub fn is_sided(slot: StackSlot) -> bool
         StackSlot::AltHeld { .. }
         | StackSlot::OpHeld { .. }
         | StackSlot::CountHeld { .. }
+        | StackSlot::MoveHeld { .. }
         | StackSlot::ScanHeld { .. }
         | StackSlot::EscanHeld { .. }
         | StackSlot::ProcHeld { .. } => true,
@@ -794,6 +798,7 @@ pub fn why_of(extras: &Vec<Extra>, at: u64, slot: StackSlot, range: CountRange) 
             last: range.last,
             step: range.step,
         }),
+        StackSlot::MoveHeld { old, .. } => Why::Op(Residual::UndoPosition { old }),
         StackSlot::ScanHeld { .. } => Why::Scan(pair_at(extras, at)),
         StackSlot::EscanHeld { .. } => Why::Escan,
         StackSlot::ProcHeld { .. } => Why::Proc,
@@ -825,6 +830,7 @@ pub fn suspended_of(extra: Extra, slot: StackSlot, range: CountRange) -> Option<
             last: range.last,
             step: range.step,
         })),
+        StackSlot::MoveHeld { old, .. } => Some(Why::Op(Residual::UndoPosition { old })),
         StackSlot::ScanHeld { .. } => Some(Why::Scan(extra.pair)),
         StackSlot::EscanHeld { .. } => Some(Why::Escan),
         StackSlot::ProcHeld { .. } => Some(Why::Proc),
@@ -881,6 +887,18 @@ pub fn count_held(slot: StackSlot, range: CountRange) -> Option<Count>
     }
 }
 
+/// The residual that a suspension at this place keeps beside its slot, where it keeps one there.
+pub fn residual_held(extras: &Vec<Extra>, at: u64, slot: StackSlot) -> Option<Residual>
+    ensures { (control : Control) (why : Why) (registers : Registers) (address : ℕ)
+        → cell_of control (extra_at extras.now.items at) slot ≡ CellVariants.Suspension why registers address
+        → IfSome result (λ rest. why ≡ Whys.Op rest) }
+{
+    match slot {
+        StackSlot::OpHeld { .. } => Some(residual_at(extras, at)),
+        _ => None,
+    }
+}
+
 /// The address at which a suspension goes on.
 pub fn address_of(slot: StackSlot) -> u32
     ensures { (control : Control) (extra : Extra) (why : Why) (registers : Registers) (address : ℕ)
@@ -890,6 +908,7 @@ pub fn address_of(slot: StackSlot) -> u32
         StackSlot::AltHeld { address } => address,
         StackSlot::OpHeld { address } => address,
         StackSlot::CountHeld { address, .. } => address,
+        StackSlot::MoveHeld { address, .. } => address,
         StackSlot::ScanHeld { address } => address,
         StackSlot::EscanHeld { address } => address,
         StackSlot::ProcHeld { address } => address,

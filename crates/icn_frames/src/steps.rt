@@ -7,15 +7,16 @@ ghost use Rattle.icn_frames.specs.declared.slots.StackSlot.TheVariants as Slots;
 ghost use Rattle.icn_frames.specs.Stacks as flat;
 ghost use Rattle.icn_frames.specs.declared.layout.Cell.{Cell};
 ghost use Rattle.icn_frames.specs.declared.layout.Cell.TheVariants as CellVariants;
-ghost use Rattle.icn_frames.specs.Heights.{with_copy};
-ghost use Rattle.icn_frames.specs.Slots.{why_counting};
+ghost use Rattle.icn_frames.specs.Heights.{cell_at, with_copy};
+ghost use Rattle.icn_frames.specs.Slots.{why_counting, why_moved};
+ghost use Rattle.icn_frames.specs.declared.layout.Why.TheVariants as Whys;
 ghost use Rattle.icn_frames.specs.StackInvariant.{shape, KindAt, IsScan, MayBeAt, Fit, bottom, FrameAt};
 
 use crate::cells::Cells;
 use crate::layout::{Count, NewFrame, Registers, Why};
 use crate::slots::{StackSlot, is_plain_local, operand_as_local};
 use crate::stack::Stack;
-use icn_value::{Pair, Val};
+use icn_value::{Pair, Residual, Val};
 use std::alloc::AllocError;
 
 /// The registers of a procedure whose frame is at this height, as it begins.
@@ -172,6 +173,14 @@ pub fn scan_after(why: &Why, height: u64, older: Option<u64>, scan: Option<u64>)
     }
 }
 
+/// The number of the procedure whose frame is in these registers.
+pub fn running_proc<K: Stack<StackSlot> + Drop>(cells: &Cells<K>, r: Registers) -> u32
+    requires { FrameAt (map shape cells.now.cells) r.base }
+    ensures { result ≡ flat.proc_of (cell_at r.base cells.now.cells) }
+{
+    cells.proc_at(r.base - 1)
+}
+
 /// The height of the highest cell below the operands of the mark in these registers.
 pub fn bottom_of<K: Stack<StackSlot> + Drop>(cells: &Cells<K>, r: Registers) -> u64
     requires { FrameAt (map shape cells.now.cells) r.base }
@@ -241,6 +250,105 @@ pub fn hang_count<K: Stack<StackSlot> + Drop>(
     Ok(height)
 }
 
+/// The same with the suspension of a move in the subject. `AllocError` is want of memory; the cells are as they were then.
+pub fn hang_move<K: Stack<StackSlot> + Drop>(
+    cells: &mut Cells<K>,
+    old: u64,
+    saved: Registers,
+    address: u32,
+    from: u64,
+    to: u64,
+) -> Result<u64, AllocError>
+    requires order { from ≤ to }
+    requires within { to ≤ length cells.old.cells }
+    ensures height { IfOk result (λ height. height ≡ length cells.old.cells + 1) }
+    ensures ok { OnOk result (cells.new.cells
+        ≡ with_copy from to (CellVariants.Suspension (why_moved old) saved address ∷ cells.old.cells)) }
+    ensures room { OnOk result (0 < cells.new.spare) }
+    ensures err { OnErr result (cells.new.cells ≡ cells.old.cells) }
+    ensures spare { OnErr result (cells.old.spare ≤ cells.new.spare) }
+{
+    let height = cells.len() + 1;
+    cells.reserve(to - from + 2)?;
+    cells.push_move(old, saved, address);
+    cells.copy_few(from, to);
+    Ok(height)
+}
+
+/// The same with the suspension of what an operation or a function left. `AllocError` is want of memory; the cells are as they were then.
+pub fn hang_row<K: Stack<StackSlot> + Drop>(
+    cells: &mut Cells<K>,
+    rest: &Residual,
+    saved: Registers,
+    address: u32,
+    from: u64,
+    to: u64,
+) -> Result<u64, AllocError>
+    requires order { from ≤ to }
+    requires within { to ≤ length cells.old.cells }
+    ensures height { IfOk result (λ height. height ≡ length cells.old.cells + 1) }
+    ensures ok { OnOk result (cells.new.cells
+        ≡ with_copy from to (CellVariants.Suspension (Whys.Op rest.now) saved address ∷ cells.old.cells)) }
+    ensures room { OnOk result (0 < cells.new.spare) }
+    ensures err { OnErr result (cells.new.cells ≡ cells.old.cells) }
+    ensures spare { OnErr result (cells.old.spare ≤ cells.new.spare) }
+{
+    let height = cells.len() + 1;
+    cells.reserve(to - from + 2)?;
+    cells.push_row(rest, saved, address);
+    cells.copy_few(from, to);
+    Ok(height)
+}
+
+/// The same with the suspension of a scan. `AllocError` is want of memory; the cells are as they were then.
+pub fn hang_scan<K: Stack<StackSlot> + Drop>(
+    cells: &mut Cells<K>,
+    pair: Pair,
+    saved: Registers,
+    address: u32,
+    from: u64,
+    to: u64,
+) -> Result<u64, AllocError>
+    requires order { from ≤ to }
+    requires within { to ≤ length cells.old.cells }
+    ensures height { IfOk result (λ height. height ≡ length cells.old.cells + 1) }
+    ensures ok { OnOk result (cells.new.cells
+        ≡ with_copy from to (CellVariants.Suspension (Whys.Scan pair) saved address ∷ cells.old.cells)) }
+    ensures room { OnOk result (0 < cells.new.spare) }
+    ensures err { OnErr result (cells.new.cells ≡ cells.old.cells) }
+    ensures spare { OnErr result (cells.old.spare ≤ cells.new.spare) }
+{
+    let height = cells.len() + 1;
+    cells.reserve(to - from + 2)?;
+    cells.push_scan(pair, saved, address);
+    cells.copy_few(from, to);
+    Ok(height)
+}
+
+/// The same with the suspension of a scan that was left. `AllocError` is want of memory; the cells are as they were then.
+pub fn hang_escan<K: Stack<StackSlot> + Drop>(
+    cells: &mut Cells<K>,
+    saved: Registers,
+    address: u32,
+    from: u64,
+    to: u64,
+) -> Result<u64, AllocError>
+    requires order { from ≤ to }
+    requires within { to ≤ length cells.old.cells }
+    ensures height { IfOk result (λ height. height ≡ length cells.old.cells + 1) }
+    ensures ok { OnOk result (cells.new.cells
+        ≡ with_copy from to (CellVariants.Suspension Whys.Escan saved address ∷ cells.old.cells)) }
+    ensures room { OnOk result (0 < cells.new.spare) }
+    ensures err { OnErr result (cells.new.cells ≡ cells.old.cells) }
+    ensures spare { OnErr result (cells.old.spare ≤ cells.new.spare) }
+{
+    let height = cells.len() + 1;
+    cells.reserve(to - from + 2)?;
+    cells.push_escan(saved, address);
+    cells.copy_few(from, to);
+    Ok(height)
+}
+
 /// Whether two heights are one, or neither is there.
 pub fn is_same(a: Option<u64>, b: Option<u64>) -> bool
     ensures { result ≡ flat.is_same a b }
@@ -280,6 +388,17 @@ pub fn older_than<K: Stack<StackSlot> + Drop>(cells: &Cells<K>, height: u64) -> 
     ensures { result ≡ flat.older_scan cells.now.cells (Some height) }
 {
     cells.saved_at(height - 1).scan
+}
+
+/// The scan that is the newest once the newest one is left.
+pub fn older_scan<K: Stack<StackSlot> + Drop>(cells: &Cells<K>, scan: Option<u64>) -> Option<u64>
+    requires { MayBeAt IsScan (map shape cells.now.cells) scan }
+    ensures { result ≡ flat.older_scan cells.now.cells scan }
+{
+    match scan {
+        None => None,
+        Some(height) => older_than(cells, height),
+    }
 }
 
 /// Exchanges the pair of a scan's frame.

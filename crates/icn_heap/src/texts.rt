@@ -81,6 +81,14 @@ impl Heap {
         }
     }
 
+    /// How many bytes more may be charged. It takes no memory.
+    #[tactic(auto, unfolding(crate::specs::Heaps::heap_of))]
+    pub fn string_room(&self) -> u64
+        ensures { (heap_of self.now).strings + result ≡ (heap_of self.now).bounds.strings }
+    {
+        self.strings.room()
+    }
+
     /// Makes a text of these bytes without a charge, for literals and for results that cost nothing. The error is want of memory.
     #[tactic(auto, unfolding(crate::specs::Heaps::extent_of))]
     pub fn hold(&mut self, bytes: &[u8]) -> Result<Span, AllocError>

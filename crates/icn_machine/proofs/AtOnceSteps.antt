@@ -88,7 +88,7 @@ module _ {K : Type 0} (m n : Machine K) (same : StaysSame m n) where
   }
 
   -- what the instruction does there
-  does_alike : (tables : Tables) (outside : Outside) (instr : Instr) → does tables outside instr n ≡ does tables outside instr m
+  pub does_alike : (tables : Tables) (outside : Outside) (instr : Instr) → does tables outside instr n ≡ does tables outside instr m
   does_alike tables outside instr =
       ap (λ (s : Frames). instruction flat tables instr s (store_seen tables outside n)) same_stack
       ∙ ap (λ (st : Store Frames). instruction flat tables instr (stack_seen m) st) (same_store tables outside)

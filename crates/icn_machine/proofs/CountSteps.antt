@@ -154,7 +154,7 @@ counting_held n last step a b d =
 
 -- Resuming
 
-stands_with : (s : State Frames Frames) (w : World) (n : FlatStack) (st : Store Frames) (stage : RunState) → st.world ≡ world_of w
+pub stands_with : (s : State Frames Frames) (w : World) (n : FlatStack) (st : Store Frames) (stage : RunState) → st.world ≡ world_of w
     → StandsAs s (stack_in (extent_of w.heap) n) st stage → StandsWith s st w n stage
 stands_with s w n st RunStates.Running same h = h ∙ ap (running (stack_in (extent_of w.heap) n)) (same_world w st same)
 stands_with s w n st RunStates.Failing same h = h ∙ ap (failing (stack_in (extent_of w.heap) n)) (same_world w st same)

@@ -91,7 +91,7 @@ turn_stands m s tables was f RunStates.Hopping e more h = absurd (h (extent m) t
 turn_stands m s tables was f RunStates.Over e more h = absurd (h (extent m) tables (store_seen tables was m) more)
 turn_stands m s tables was f RunStates.AtBound e more h = absurd (h (extent m) tables (store_seen tables was m) more)
 
-memory_failed : {K : Type 0} (tables : Tables) (m n : Machine K) → n.limits ≡ m.limits → FailsAtOnce tables m n AtOnces.NoMemory
+pub memory_failed : {K : Type 0} (tables : Tables) (m n : Machine K) → n.limits ≡ m.limits → FailsAtOnce tables m n AtOnces.NoMemory
 memory_failed tables m n limits =
     let leads : Outside → State Frames Frames = failed tables m in
     let lack : Result RunState Halt = Err NoMemory in

@@ -65,7 +65,7 @@ use Rattle.icn_machine.proofs.PlainOperationSteps.{held_found}
 -- Values that are told
 
 -- a slot tells the operand below so many others
-abbrev TellsBelow : FlatStack → ℕ → StackSlot → Type 0
+abbrev pub TellsBelow : FlatStack → ℕ → StackSlot → Type 0
 TellsBelow m count slot = (x y : Item) (items : List Item) (rest : List Cell) → m.cells ≡ operands_above items (Operand x ∷ rest) → length items ≡ count
     → plain_operand slot ≡ Some y → x ≡ y
 
@@ -81,7 +81,7 @@ global_below globals m count index slot (Some v) told is there =
     λ x items rest cells many. as_global index (told x (global_item index) items rest cells many (ap plain_operand is)) (sym there)
 global_below globals m count index slot None told is there = tt
 
-only_value : (x : Item) (v : Val) → Some v ≡ value_only x → x ≡ Items.Val v
+pub only_value : (x : Item) (v : Val) → Some v ≡ value_only x → x ≡ Items.Val v
 only_value (Items.Val w) v e = ap (λ (u : Val). Items.Val u) (sym (same_Some v w e))
 only_value (Items.Var variable) v e = cc
 
@@ -176,7 +176,7 @@ value_is w k st item v next same (as_global index e there) =
     (ap (λ (x : StoreWorld). value_at x.globals index) same
     ∙ ap (λ (o : Option Value). unwrap_or o values.Null) (slice_get-map (value_in all) w.globals.items index ∙ ap (option_map (value_in all)) there))
 
-values_are : (w : World) (k : FlatStack) (st : Store Frames) (items : List Item) (vs : List Val) (next : List Value → Row) → st.world ≡ world_of w
+pub values_are : (w : World) (k : FlatStack) (st : Store Frames) (items : List Item) (vs : List Val) (next : List Value → Row) → st.world ≡ world_of w
     → HaveValues w.globals.items (held.locals k) items vs
     → the_values (map (item_in (extent_of w.heap)) items) next (here flat (stack_in (extent_of w.heap) k) st)
     ≡ next (map (value_in (extent_of w.heap)) vs) (here flat (stack_in (extent_of w.heap) k) st)
@@ -188,7 +188,7 @@ values_are w k st (item ∷ items) (v ∷ vs) next same h =
     value_is w k st item v (λ value. the_values (map (item_in all) items) (λ others. next (value ∷ others))) same h.0
     ∙ values_are w k st items vs (λ others. next (value_in all v ∷ others)) same h.1
 
-found_there : (w : World) (k : FlatStack) (st : Store Frames) (item : Item) (v : Val) → st.world ≡ world_of w
+pub found_there : (w : World) (k : FlatStack) (st : Store Frames) (item : Item) (v : Val) → st.world ≡ world_of w
     → HasValue w.globals.items (held.locals k) item v
     → FindsValue (extent_of w.heap) (item_in (extent_of w.heap) item) (here flat (stack_in (extent_of w.heap) k) st) (Ok v)
 found_there w k st item v same (as_held h) = value_found (extent_of w.heap) k st item v h
@@ -281,14 +281,14 @@ pub drops_taken : (count : ℕ) (m k : FlatStack) (d : DropsWith count m k) → 
 drops_taken count m k d = operands_taken count m k d.callee d.items d.was d.many
 
 -- the values of what is dropped, on the stack that is left
-called_dropped : (tables : Tables) (globals : List Val) (count : ℕ) (vs : List Val) (func : Func) (m k : FlatStack) (d : DropsWith count m k)
+pub called_dropped : (tables : Tables) (globals : List Val) (count : ℕ) (vs : List Val) (func : Func) (m k : FlatStack) (d : DropsWith count m k)
     → (c : CallsFunction tables globals m count vs func) → HasValue globals (held.locals k) d.callee c.names.callee
 called_dropped tables globals count vs func m k d c =
     let cells : m.cells ≡ operands_above d.items (Operand d.callee ∷ k.cells) = ap (λ (x : FlatStack). x.cells) d.was in
     subst (λ (locals : List Val). HasValue globals locals d.callee c.names.callee) d.locals_same
     (c.names.below d.callee d.items k.cells cells d.many)
 
-given_dropped : (tables : Tables) (globals : List Val) (count : ℕ) (vs : List Val) (func : Func) (m k : FlatStack) (d : DropsWith count m k)
+pub given_dropped : (tables : Tables) (globals : List Val) (count : ℕ) (vs : List Val) (func : Func) (m k : FlatStack) (d : DropsWith count m k)
     → CallsFunction tables globals m count vs func → HaveValues globals (held.locals k) d.items vs
 given_dropped tables globals count vs func m k d c =
     let cells : m.cells ≡ operands_above d.items (Operand d.callee ∷ k.cells) = ap (λ (x : FlatStack). x.cells) d.was in

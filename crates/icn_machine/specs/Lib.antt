@@ -14,4 +14,10 @@ pub mod PlainFunctions
 pub mod DoneInPlace
 pub mod ValueOperations
 pub mod HeldValues
+pub mod AssignmentsInPlace
+pub mod ListsInPlace
+pub mod ElementsInPlace
 pub mod AnsweredAtOnce
+pub mod TurnsAtOnce
+pub mod MadeTexts
+pub mod PlainScans

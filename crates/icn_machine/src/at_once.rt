@@ -15,12 +15,17 @@ ghost use Rattle.icn_machine.specs.Stepping.{IsDoing, IsReady};
 use crate::failing::fail_through_at_once;
 use crate::invoking::call_at_once;
 use crate::operations::operate_at_once;
+use crate::scanning::open_in_place;
 use crate::stepping::next_instr;
+use crate::texts_in_place::is_of_texts;
+use crate::turns_at_once::{function_at_once, operation_at_once, texts_at_once};
 use icn_code::{Code, Instr};
-use icn_control::{Machine, RunState, go_back, lsusp, unmark};
+use icn_control::{
+    Machine, RunState, go_back, lsusp, push_keyword, push_string, scan_left, unmark,
+};
 use icn_frames::{Cell, Stack};
 use icn_instructions::{InstrGroup, do_stack_instruction, do_world_at_once, group_of};
-use icn_text::Op;
+use icn_text::{Keyword, Op};
 use icn_verify::Verified;
 use law_steps::{steps_keep_names, steps_keep_sizes};
 
@@ -238,6 +243,78 @@ fn lsusp_at_once<K: Stack<Cell> + Drop>(m: &mut Machine<K>, code: &Code, instr: 
     }
 }
 
+// Pushes a text of the code.
+#[inline(always)]
+fn string_at_once<K: Stack<Cell> + Drop>(
+    m: &mut Machine<K>,
+    code: &Code,
+    instr: Instr,
+    place: u32,
+) -> AtOnce
+    requires is { instr ≡ Instrs.Str place }
+    requires doing { IsDoing (tables_of code.now) m.old instr }
+    ensures { DoneAtOnce (tables_of code.now) instr m.old m.new result }
+{
+    steps_keep_names();
+    steps_keep_sizes();
+    match push_string(m.stacks.frames(), &mut m.world, code, place) {
+        Ok(()) => AtOnce::Running,
+        Err(_) => AtOnce::NoMemory,
+    }
+}
+
+// Pushes what a keyword gives, or fails.
+#[inline(always)]
+fn keyword_at_once<K: Stack<Cell> + Drop>(
+    m: &mut Machine<K>,
+    code: &Code,
+    instr: Instr,
+    word: Keyword,
+) -> AtOnce
+    requires is { instr ≡ Instrs.Keywd word }
+    requires doing { IsDoing (tables_of code.now) m.old instr }
+    ensures { DoneAtOnce (tables_of code.now) instr m.old m.new result }
+{
+    steps_keep_names();
+    steps_keep_sizes();
+    match push_keyword(m, word) {
+        Ok(stage) => done_at(stage),
+        Err(_) => AtOnce::NoMemory,
+    }
+}
+
+// Opens a scan of a text that the top operand is, or that the local or the global holds which it names, where slots tell it. Elsewhere
+// nothing changes.
+#[inline(always)]
+fn scan_opened_at_once<K: Stack<Cell> + Drop>(
+    m: &mut Machine<K>,
+    code: &Code,
+    instr: Instr,
+) -> AtOnce
+    requires is { instr ≡ Instrs.Bscan }
+    requires doing { IsDoing (tables_of code.now) m.old instr }
+    ensures { DoneAtOnce (tables_of code.now) instr m.old m.new result }
+{
+    steps_keep_names();
+    steps_keep_sizes();
+    open_in_place(m.stacks.frames(), &mut m.world)
+}
+
+// Leaves the newest scan.
+#[inline(always)]
+fn scan_left_at_once<K: Stack<Cell> + Drop>(m: &mut Machine<K>, code: &Code, instr: Instr) -> AtOnce
+    requires is { instr ≡ Instrs.Escan }
+    requires doing { IsDoing (tables_of code.now) m.old instr }
+    ensures { DoneAtOnce (tables_of code.now) instr m.old m.new result }
+{
+    steps_keep_names();
+    steps_keep_sizes();
+    match scan_left(m.stacks.frames(), &mut m.world) {
+        Ok(()) => AtOnce::Running,
+        Err(_) => AtOnce::NoMemory,
+    }
+}
+
 // Performs an operation on what is on top, where slots tell it.
 #[inline(always)]
 fn op_at_once<K: Stack<Cell> + Drop>(
@@ -252,7 +329,13 @@ fn op_at_once<K: Stack<Cell> + Drop>(
 {
     steps_keep_names();
     steps_keep_sizes();
-    done_if(operate_at_once(m, op))
+    if is_of_texts(op) {
+        return texts_at_once(m, code, instr, op);
+    }
+    match operate_at_once(m, op) {
+        Some(stage) => done_at(stage),
+        None => operation_at_once(m, code, instr, op),
+    }
 }
 
 // Calls a procedure, where slots tell it and its arguments.
@@ -269,7 +352,10 @@ fn invoke_at_once<K: Stack<Cell> + Drop>(
 {
     steps_keep_names();
     steps_keep_sizes();
-    done_if(call_at_once(m, code, count))
+    match call_at_once(m, code, count) {
+        Some(stage) => done_at(stage),
+        None => function_at_once(m, code, instr, count),
+    }
 }
 
 // Whether an instruction may be done on the stack and the world at once: it returns from a procedure, suspends it, ends it, gives
@@ -325,6 +411,10 @@ fn do_at_once<K: Stack<Cell> + Drop>(
         Instr::Efail => efail_at_once(m, code, instr),
         Instr::Loop(label) => loop_at_once(m, code, instr, label),
         Instr::Lsusp => lsusp_at_once(m, code, instr),
+        Instr::Str(place) => string_at_once(m, code, instr, place),
+        Instr::Keywd(word) => keyword_at_once(m, code, instr, word),
+        Instr::Bscan => scan_opened_at_once(m, code, instr),
+        Instr::Escan => scan_left_at_once(m, code, instr),
         _ => other_at_once(m, code, instr),
     }
 }

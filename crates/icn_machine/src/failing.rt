@@ -15,6 +15,7 @@ ghost use Rattle.icn_machine.specs.Stepping.{Advances, FailsFurther, GoesOn, IsF
 
 use crate::at_once::{AtOnce, done_at, fails_at_once, fails_in_turn, is_not};
 use crate::counts::count_again;
+use crate::elements_in_place::resume_in_place;
 use crate::errors::settle;
 use crate::operations::resume;
 use icn_control::{
@@ -216,6 +217,41 @@ fn count_at_once<K: Stack<Cell> + Drop>(m: &mut Machine<K>) -> AtOnce
     done
 }
 
+// Takes an assignment back, or gives the next element of a list, where that is the newest suspension, as a turn, if one is left.
+// Elsewhere nothing changes.
+#[inline(always)]
+fn residual_at_once<K: Stack<Cell> + Drop>(m: &mut Machine<K>) -> AtOnce
+    requires { (tables : Tables) × IsReady tables m.old RunStates.Failing }
+    ensures { (tables : Tables) → IsReady tables m.old RunStates.Failing
+        → FailsAtOnce tables m.old m.new result }
+{
+    steps_keep_names();
+    steps_keep_sizes();
+    if m.turns >= m.limits.turns {
+        return AtOnce::Not;
+    }
+    let done = resume_in_place(m.stacks.frames(), &mut m.world);
+    if is_not(done) {
+        return AtOnce::Not;
+    }
+    m.turns += 1;
+    done
+}
+
+// Goes on with a count, with the elements of a list, or takes an assignment back, as a turn. Elsewhere nothing changes.
+#[inline(always)]
+fn resume_at_once<K: Stack<Cell> + Drop>(m: &mut Machine<K>) -> AtOnce
+    requires { (tables : Tables) × IsReady tables m.old RunStates.Failing }
+    ensures { (tables : Tables) → IsReady tables m.old RunStates.Failing
+        → FailsAtOnce tables m.old m.new result }
+{
+    let done = count_at_once(m);
+    if is_not(done) {
+        return residual_at_once(m);
+    }
+    done
+}
+
 // One step of failing with the turn that it may count, done at once; or nothing changes.
 #[inline(always)]
 fn fail_step_at_once<K: Stack<Cell> + Drop>(m: &mut Machine<K>) -> AtOnce
@@ -231,7 +267,7 @@ fn fail_step_at_once<K: Stack<Cell> + Drop>(m: &mut Machine<K>) -> AtOnce
         Some(Fallen::Beginning) => done_at(begin_again(m)),
         Some(Fallen::Reentering) => done_at(reenter(m)),
         Some(Fallen::Leaving) => done_at(end_failing(m)),
-        None => count_at_once(m),
+        None => resume_at_once(m),
     }
 }
 

@@ -59,9 +59,9 @@ pub fn gives_once(func: Func) -> bool
     }
 }
 
-// The function that the value of the operand below so many others names, if that is told.
+/// The function that the value of the operand below so many others names, if that is told.
 #[inline(always)]
-fn function_told<K: Stack<Cell> + Drop>(
+pub fn function_told<K: Stack<Cell> + Drop>(
     frames: &Frames<K>,
     world: &World,
     code: &Code,

@@ -6,3 +6,4 @@ mod BalancedSets
 mod GivenRegions
 mod SearchSteps
 mod KnownPlaces
+mod SubjectSteps

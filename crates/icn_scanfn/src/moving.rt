@@ -73,8 +73,8 @@ fn move_by<L: Locals>(w: &mut World, l: &L, n: i64) -> Outcome
     }
 }
 
-// The place so many bytes behind another one, in a text of so many bytes.
-fn moved_place(place: u64, n: i64, size: u64) -> Option<u64>
+/// The place so many bytes behind another one, in a text of so many bytes.
+pub fn moved_place(place: u64, n: i64, size: u64) -> Option<u64>
     requires size { size < 2 ^ 63 - 1 }
     requires place { place ≤ size + 1 }
     ensures value { result ≡ plain_position (pos place +ℤ n) size }

@@ -53,8 +53,8 @@ fn any_in(heap: &Heap, wanted: &Cset, searched: Searched) -> ValueOutcome
     }
 }
 
-// Whether a byte of the cset stands behind a place, below another place.
-fn has_behind(wanted: &Cset, text: &[u8], from: u64, to: u64) -> bool
+/// Whether a byte of the cset stands behind a place, below another place.
+pub fn has_behind(wanted: &Cset, text: &[u8], from: u64, to: u64) -> bool
     requires low { 1 ≤ from }
     requires high { to ≤ length text.now + 1 }
     ensures value { result

@@ -1,8 +1,9 @@
 mod RowAnswers
-mod CheckedRows
+pub mod CheckedRows
 mod MadePieces
 mod MappedBytes
 mod Trims
 mod KeptArguments
 mod NamedRecords
 mod RowLimits
+mod FewBytes

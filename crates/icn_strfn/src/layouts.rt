@@ -28,6 +28,7 @@ pub struct Field {
 /// What stands in a field of so many bytes, of a text of `len` bytes.
 pub fn field_of(layout: Layout, len: u64, width: u64) -> Field
     ensures within { result.from + result.len ≤ len }
+    ensures width { result.before + (result.len + result.behind) ≡ width }
     ensures field { (text fill : List ℕ) → length text ≡ len
         → in_field result text (filling_text fill) ≡ laid_out layout text width fill }
 {

@@ -85,3 +85,43 @@ other_at_once-requires-clause-doing g c = c.requires.doing
 
 pub returns-in_default : goal.returns-in_default
 returns-in_default g c = c.other_at_once.ensures
+
+pub string_at_once-requires-clause-is : goal.string_at_once-requires-clause-is
+string_at_once-requires-clause-is g c = refl
+
+pub string_at_once-requires-clause-doing : goal.string_at_once-requires-clause-doing
+string_at_once-requires-clause-doing g c = subst (λ (i : Instr). IsDoing (tables_of c.args.code.now) c.args.m.now i) c.in-Str.is c.requires.doing
+
+pub returns-in-Str : goal.returns-in-Str
+returns-in-Str g c =
+    subst (λ (i : Instr). DoneAtOnce (tables_of c.args.code.now) i c.args.m.now c.string_at_once.new.m c.string_at_once.result) (sym c.in-Str.is)
+    c.string_at_once.ensures
+
+pub keyword_at_once-requires-clause-is : goal.keyword_at_once-requires-clause-is
+keyword_at_once-requires-clause-is g c = refl
+
+pub keyword_at_once-requires-clause-doing : goal.keyword_at_once-requires-clause-doing
+keyword_at_once-requires-clause-doing g c = subst (λ (i : Instr). IsDoing (tables_of c.args.code.now) c.args.m.now i) c.in-Keywd.is c.requires.doing
+
+pub returns-in-Keywd : goal.returns-in-Keywd
+returns-in-Keywd g c =
+    subst (λ (i : Instr). DoneAtOnce (tables_of c.args.code.now) i c.args.m.now c.keyword_at_once.new.m c.keyword_at_once.result) (sym c.in-Keywd.is)
+    c.keyword_at_once.ensures
+
+pub scan_left_at_once-requires-clause-is : goal.scan_left_at_once-requires-clause-is
+scan_left_at_once-requires-clause-is g c = c.in-Escan.is
+
+pub scan_left_at_once-requires-clause-doing : goal.scan_left_at_once-requires-clause-doing
+scan_left_at_once-requires-clause-doing g c = c.requires.doing
+
+pub returns-in-Escan : goal.returns-in-Escan
+returns-in-Escan g c = c.scan_left_at_once.ensures
+
+pub scan_opened_at_once-requires-clause-is : goal.scan_opened_at_once-requires-clause-is
+scan_opened_at_once-requires-clause-is g c = c.in-Bscan.is
+
+pub scan_opened_at_once-requires-clause-doing : goal.scan_opened_at_once-requires-clause-doing
+scan_opened_at_once-requires-clause-doing g c = c.requires.doing
+
+pub returns-in-Bscan : goal.returns-in-Bscan
+returns-in-Bscan g c = c.scan_opened_at_once.ensures

@@ -46,8 +46,8 @@ end_failing-requires-clause-goes_on g c =
     (c.in-Some-Leaving.ensures.due tables o) in
     (tables, (o, λ e. never_failed tables m c.requires.1.kept o (due ∙ e)))
 
-pub count_at_once-requires : goal.count_at_once-requires
-count_at_once-requires g c =
+pub resume_at_once-requires : goal.resume_at_once-requires
+resume_at_once-requires g c =
     let same = c.fall_here.ensures.not_done c.in-None.is in
     (c.requires.0, subst (λ (x : Machine g.row.K.Denot). IsReady c.requires.0 x RunStates.Failing) (sym same) c.requires.1)
 
@@ -109,5 +109,5 @@ returns-in-Some-Leaving g c tables ready =
 pub returns-in-None : goal.returns-in-None
 returns-in-None g c tables ready =
     let same = c.fall_here.ensures.not_done c.in-None.is in
-    subst (λ (x : Machine g.row.K.Denot). FailsAtOnce tables x c.count_at_once.new.m c.count_at_once.result) same
-    (c.count_at_once.ensures tables (subst (λ (x : Machine g.row.K.Denot). IsReady tables x RunStates.Failing) (sym same) ready))
+    subst (λ (x : Machine g.row.K.Denot). FailsAtOnce tables x c.resume_at_once.new.m c.resume_at_once.result) same
+    (c.resume_at_once.ensures tables (subst (λ (x : Machine g.row.K.Denot). IsReady tables x RunStates.Failing) (sym same) ready))

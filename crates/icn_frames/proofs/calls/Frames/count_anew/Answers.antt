@@ -16,6 +16,7 @@ use Rattle.icn_frames.proofs.HeightsRead.{below_length}
 use Rattle.icn_frames.proofs.Locals.{set_locals_same}
 use Rattle.icn_frames.proofs.NewestRead.{held_there, one_rest}
 use Rattle.icn_frames.proofs.SoundStacks.{sound_push}
+use Rattle.icn_frames.proofs.RunningProcs.{base_there, runs_on}
 use Rattle.icn_frames.proofs.calls.Frames.count_anew.Goals as goal
 
 pub saved_at-saved-requires : goal.saved_at-saved-requires
@@ -108,6 +109,24 @@ push_plain-requires-clause-room g c =
     let same = ap (λ (cells : List Cell). length cells) c.in_ok-reserve-in-Some.ensures.cells in
     omega (arith, c.copy_few.ensures.spare, c.set_counting.ensures.spare, c.cut.ensures.spare, c.in_ok-reserve-in-Some.ensures.ok, same, w.to)
 
+pub running_proc-self-inside-requires : goal.running_proc-self-inside-requires
+running_proc-self-inside-requires g c =
+    let s = c.self.inside.cells.cells in
+    let r = c.self.inside.registers in
+    let h = c.in-Some.height in
+    let o = c.saved_at-saved.result in
+    let from = c.bottom_of-from.result in
+    let found = newest_read s r h o c.self.invariant c.in-Some.is c.saved_at-saved.ensures in
+    let w = found.there in
+    let why : Why = why_counting c.args.count.given c.args.count.last c.args.count.step in
+    let placed = placed_anew s _ _ _ r h found.why why o found.place w c.in_ok-reserve-in-Some.ensures.cells c.cut.ensures.cells c.set_counting.ensures.cells in
+    let copied = c.copy_few.ensures.cells ∙ ap (λ (cells : List Cell). with_copy from (h - 1) cells) placed in
+    let anew = suspended_anew s _ r o h from found.place found.why c.args.count.given c.args.count.last c.args.count.step w c.bottom_of-from.ensures copied in
+    let item : Item = Items.Val (Vals.Integer c.args.count.given) in
+    let fits : FitsSigned w64 c.args.count.given = search rules in
+    let given = ap (λ (n : ℤ). Some (Items.Val (Vals.Integer n))) (to_z-of_z w64 c.args.count.given fits) in
+    anew.sound.stands.leads.base
+
 pub invariant_of-self-in-Some : goal.invariant_of-self-in-Some
 invariant_of-self-in-Some g c =
     let s = c.self.inside.cells.cells in
@@ -125,6 +144,27 @@ invariant_of-self-in-Some g c =
     let fits : FitsSigned w64 c.args.count.given = search rules in
     let given = ap (λ (n : ℤ). Some (Items.Val (Vals.Integer n))) (to_z-of_z w64 c.args.count.given fits) in
     rw (c.push_plain.ensures.cells item given) (sound_push _ _ _ anew.sound)
+
+pub invariant_of-self-inside-in-Some : goal.invariant_of-self-inside-in-Some
+invariant_of-self-inside-in-Some g c =
+    let s = c.self.inside.cells.cells in
+    let r = c.self.inside.registers in
+    let h = c.in-Some.height in
+    let o = c.saved_at-saved.result in
+    let from = c.bottom_of-from.result in
+    let found = newest_read s r h o c.self.invariant c.in-Some.is c.saved_at-saved.ensures in
+    let w = found.there in
+    let why : Why = why_counting c.args.count.given c.args.count.last c.args.count.step in
+    let placed = placed_anew s _ _ _ r h found.why why o found.place w c.in_ok-reserve-in-Some.ensures.cells c.cut.ensures.cells c.set_counting.ensures.cells in
+    let copied = c.copy_few.ensures.cells ∙ ap (λ (cells : List Cell). with_copy from (h - 1) cells) placed in
+    let anew = suspended_anew s _ r o h from found.place found.why c.args.count.given c.args.count.last c.args.count.step w c.bottom_of-from.ensures copied in
+    let item : Item = Items.Val (Vals.Integer c.args.count.given) in
+    let fits : FitsSigned w64 c.args.count.given = search rules in
+    let given = ap (λ (n : ℤ). Some (Items.Val (Vals.Integer n))) (to_z-of_z w64 c.args.count.given fits) in (
+      rw (c.push_plain.ensures.cells item given)
+          (runs_on _ _ o.base _ (base_there _ _ anew.sound) c.running_proc-self-inside.ensures),
+      tt,
+    )
 
 pub returns-in_ok-reserve-in-Some-clause-ok : goal.returns-in_ok-reserve-in-Some-clause-ok
 returns-in_ok-reserve-in-Some-clause-ok g c was rest e =

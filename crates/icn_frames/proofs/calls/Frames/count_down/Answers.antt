@@ -6,6 +6,7 @@ use Rattle.icn_frames.specs.Slots.{count_in}
 use Rattle.icn_frames.specs.Stacks.{FlatStack, count_down_at}
 use Rattle.icn_frames.proofs.CellFacts.{sound_set}
 use Rattle.icn_frames.proofs.HeightsRead.{counted_is}
+use Rattle.icn_frames.proofs.RunningProcs.{runs_same}
 use Rattle.icn_frames.proofs.calls.Frames.count_down.Goals as goal
 
 pub overflow_sub-left : goal.overflow_sub-left
@@ -27,6 +28,16 @@ invariant_of-self g c =
     let e : cell_at (m.registers.mark - 1 + 1) m.cells ≡ Some (Limit (suc p.0) p.1) = ap (λ (h : ℕ). cell_at h m.cells) same ∙ p.2 in
     let k : c.count_at-left.result ≡ suc p.0 = c.count_at-left.ensures ∙ ap count_in e in
     sound_set _ _ _ (m.registers.mark - 1 + 1) _ _ c.self.invariant e refl (c.set_count.ensures.cells (Limit (suc p.0) p.1) p.1 e refl)
+
+pub invariant_of-self-inside : goal.invariant_of-self-inside
+invariant_of-self-inside g c =
+    let m : FlatStack = record { cells = c.self.inside.cells.cells; registers = c.self.inside.registers; address = c.self.inside.address } in
+    let f = c.self.invariant.stands.leads.mark.from in
+    let same : m.registers.mark - 1 + 1 ≡ m.registers.mark = omega (arith, f) in
+    let p = counted_is m (cell_at m.registers.mark m.cells) (rw (← c.self.view_is) at c.requires) in
+    let e : cell_at (m.registers.mark - 1 + 1) m.cells ≡ Some (Limit (suc p.0) p.1) = ap (λ (h : ℕ). cell_at h m.cells) same ∙ p.2 in
+    let n = c.set_count.ensures.cells (Limit (suc p.0) p.1) p.1 e refl in
+    (runs_same m.cells _ m.registers.base (m.registers.mark - 1 + 1) _ _ _ e refl n c.self.inside.runs, tt)
 
 pub returns-clause-flat : goal.returns-clause-flat
 returns-clause-flat g c =

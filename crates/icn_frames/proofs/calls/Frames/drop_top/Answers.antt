@@ -5,6 +5,7 @@ use Rattle.icn_frames.specs.Stacks.{FlatStack, pop}
 use Rattle.icn_frames.specs.StackInvariant.{SeenStack}
 use Rattle.icn_frames.proofs.SoundStacks.{sound_pop}
 use Rattle.icn_frames.proofs.HeightsRead.{some_is, popped_is, not_empty}
+use Rattle.icn_frames.proofs.RunningProcs.{runs_off}
 use Rattle.icn_frames.proofs.calls.Frames.drop_top.Goals as goal
 
 pub drop_top-requires : goal.drop_top-requires
@@ -18,6 +19,17 @@ invariant_of-self g c =
     let w = popped_is m m.cells o.0.0 o.0.1 o.1 in
     let n = c.drop_top.ensures.cells (Operand o.0.0) w.0 w.1 in
     sound_pop o.0.0 m.cells _ m.registers (w.1 ∙ ap (λ (s : List Cell). Operand o.0.0 ∷ s) (sym n)) c.self.invariant
+
+pub invariant_of-self-inside : goal.invariant_of-self-inside
+invariant_of-self-inside g c =
+    let m : FlatStack = record { cells = c.self.inside.cells.cells; registers = c.self.inside.registers; address = c.self.inside.address } in
+    let r = subst (λ (v : SeenStack). IsSome (pop v.flat)) (sym c.self.view_is) c.requires in
+    let o = some_is (pop m) r in
+    let w = popped_is m m.cells o.0.0 o.0.1 o.1 in
+    let n = c.drop_top.ensures.cells (Operand o.0.0) w.0 w.1 in
+    let top = w.1 ∙ ap (λ (s : List Cell). Operand o.0.0 ∷ s) (sym n) in
+    let below = sound_pop o.0.0 m.cells _ m.registers top c.self.invariant in
+    (runs_off _ m.cells _ m.registers _ top below c.self.inside.runs, tt)
 
 pub returns-clause-flat : goal.returns-clause-flat
 returns-clause-flat g c x rest e =

@@ -3,6 +3,7 @@ use Rattle.icn_frames.specs.CalledWith.{HasOperands}
 use Rattle.icn_frames.specs.StackInvariant.{SeenStack}
 use Rattle.icn_frames.specs.Stacks.{FlatStack}
 use Rattle.icn_frames.proofs.CalledWithFacts.{dropped_with, operands_within}
+use Rattle.icn_frames.proofs.RunningProcs.{runs_dropped}
 use Rattle.icn_frames.proofs.calls.Frames.drop_with.Goals as goal
 
 pub overflow_sub-len : goal.overflow_sub-len
@@ -28,6 +29,13 @@ invariant_of-self g c =
     let m : FlatStack = record { cells = c.self.inside.cells.cells; registers = c.self.inside.registers; address = c.self.inside.address } in
     let there = subst (λ (v : SeenStack). HasOperands (c.args.count + 1) v.flat.cells) (sym c.self.view_is) c.requires in
     (dropped_with c.args.count c.len.result m _ c.self.invariant there c.len.ensures.is c.cut.ensures.cells).sound
+
+pub invariant_of-self-inside : goal.invariant_of-self-inside
+invariant_of-self-inside g c =
+    let m : FlatStack = record { cells = c.self.inside.cells.cells; registers = c.self.inside.registers; address = c.self.inside.address } in
+    let there = subst (λ (v : SeenStack). HasOperands (c.args.count + 1) v.flat.cells) (sym c.self.view_is) c.requires in
+    let left = dropped_with c.args.count c.len.result m _ c.self.invariant there c.len.ensures.is c.cut.ensures.cells in
+    (runs_dropped c.args.count m _ _ left.drops left.sound c.self.inside.runs, tt)
 
 pub returns-clause-drops : goal.returns-clause-drops
 returns-clause-drops g c =

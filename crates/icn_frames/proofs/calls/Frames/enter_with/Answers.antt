@@ -33,6 +33,17 @@ overflow_sub-height g c =
     (c.if-done.ensures.framed refl) in
     omega (arith, long, c.len.ensures.is)
 
+pub running_proc-self-inside-requires : goal.running_proc-self-inside-requires
+running_proc-self-inside-requires g c =
+    let m : FlatStack = record { cells = c.self.inside.cells.cells; registers = c.self.inside.registers; address = c.self.inside.address } in
+    let own = own_locals m.cells m.registers c.locals_at-own.result c.self.invariant c.locals_at-own.ensures.is in
+    let depth = subst (λ (v : SeenStack). c.level.result ≡ level v.flat) (sym c.self.view_is) c.level.ensures in
+    let height : c.len.result - c.args.count ≡ length c.frame_arguments-done.new.cells.cells - c.args.count = omega (arith, c.len.ensures.is) in
+    rw (c.at_frame-self-inside.ensures)
+    (entered_so c.args.proc c.args.count c.args.nulls c.args.address c.locals_at-own.result (c.level.result + 1) (c.len.result - c.args.count) m
+    c.reserve.new.self.cells c.frame_arguments-done.new.cells.cells c.put_nulls.new.cells.cells c.self.invariant c.in_ok-reserve.ensures.cells own
+    (c.if-done.ensures.framed refl) (add-one c.level.result ∙ ap (λ (n : ℕ). suc n) depth) height c.put_nulls.ensures).sound.stands.leads.base
+
 pub invariant_of-self-then-done : goal.invariant_of-self-then-done
 invariant_of-self-then-done g c =
     let m : FlatStack = record { cells = c.self.inside.cells.cells; registers = c.self.inside.registers; address = c.self.inside.address } in

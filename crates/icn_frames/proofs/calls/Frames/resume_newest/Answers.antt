@@ -14,6 +14,16 @@ saved_at-saved-requires g c =
     let k = newest_at _ _ _ c.self.invariant c.in-Some.is in
     below_length _ _ k.from k.to
 
+pub running_proc-self-inside-requires : goal.running_proc-self-inside-requires
+running_proc-self-inside-requires g c =
+    let k = newest_at _ _ _ c.self.invariant c.in-Some.is in
+    let w = newest_there _ _ _ c.self.invariant c.in-Some.is in
+    let q : c.saved_at-saved.result ≡ w.1 = c.saved_at-saved.ensures (Suspension w.0 w.1 w.2) w.1 w.3 refl in
+    let t : Sound c.cut.new.self.cells c.saved_at-saved.result =
+    subst (λ (r : Registers). Sound c.cut.new.self.cells r) (sym q)
+    (sound_cut _ _ _ _ _ _ c.self.invariant k.from (within_cells _ _ k.to) w.3 refl c.cut.ensures.cells) in
+    t.stands.leads.base
+
 pub invariant_of-self : goal.invariant_of-self
 invariant_of-self g c =
     let k = newest_at _ _ _ c.self.invariant c.in-Some.is in

@@ -9,6 +9,7 @@ use Rattle.icn_frames.specs.Slots.{why_counting}
 use Rattle.icn_frames.specs.Stacks.{FlatStack, given_to}
 use Rattle.icn_frames.proofs.SoundStacks.{sound_push}
 use Rattle.icn_frames.proofs.SuspensionFrames.{sound_hung, sound_all, scan_here, suspend_is}
+use Rattle.icn_frames.proofs.RunningProcs.{runs_given}
 use Rattle.icn_frames.proofs.calls.Frames.suspend_count.Goals as goal
 
 pub invariant_of-self-2 : goal.invariant_of-self-2
@@ -24,6 +25,16 @@ invariant_of-self-2 g c =
     let fits : FitsSigned w64 c.args.count.given = search rules in
     let same = ap (λ (n : ℤ). Some (Items.Val (Vals.Integer n))) (to_z-of_z w64 c.args.count.given fits) in
     rw (c.push_plain.ensures.cells (Items.Val (Vals.Integer c.args.count.given)) same) (sound_push _ _ _ t)
+
+pub invariant_of-self-inside-2 : goal.invariant_of-self-inside-2
+invariant_of-self-inside-2 g c =
+    let s = c.self.inside.cells.cells in
+    let r = c.self.inside.registers in
+    let hung = rw c.len-to.ensures.is at c.in_ok-height.ensures.ok in
+    let item : Item = Items.Val (Vals.Integer c.args.count.given) in
+    let fits : FitsSigned w64 c.args.count.given = search rules in
+    let same = ap (λ (n : ℤ). Some (Items.Val (Vals.Integer n))) (to_z-of_z w64 c.args.count.given fits) in
+    (runs_given item _ s _ _ r _ (length s) _ c.self.invariant hung (c.push_plain.ensures.cells item same) c.self.inside.runs, tt)
 
 pub returns-clause-ok : goal.returns-clause-ok
 returns-clause-ok g c =

@@ -30,6 +30,20 @@ hang-requires-clause-order g c =
     let u : Sound (cut (r.base - 1) s) o = sound_cut s _ r _ _ _ c.self.invariant k.from (within_cells _ _ k.to) w.3 refl refl in
     order_lower s (r.base - 1) _ o u (omega (arith, within_cells _ _ k.to)) c.bottom_of-from.ensures
 
+pub running_proc-self-inside-requires : goal.running_proc-self-inside-requires
+running_proc-self-inside-requires g c =
+    let s = c.self.inside.cells.cells in
+    let r = c.self.inside.registers in
+    let k = frame_kind _ _ c.self.invariant.stands.leads.base in
+    let w = call_saved _ _ c.saved_at-saved.result c.return_at-address.result c.self.invariant (rw (← c.self.view_is) at c.requires)
+    c.saved_at-saved.ensures c.return_at-address.ensures in
+    let o = c.saved_at-saved.result in
+    let u : Sound (cut (r.base - 1) s) o = sound_cut s _ r _ _ _ c.self.invariant k.from (within_cells _ _ k.to) w.3 refl refl in
+    (sound_hung Proc s _ r o c.self.inside.address _ _ (r.base - 1) o.scan c.self.invariant u
+    (omega (arith, within_cells _ _ k.to))
+    c.bottom_of-from.ensures c.in_ok-height.ensures.height
+    (scan_lower Proc s (r.base - 1) c.self.inside.address r o u) c.in_ok-height.ensures.ok).stands.leads.base
+
 pub invariant_of-self-2 : goal.invariant_of-self-2
 invariant_of-self-2 g c =
     let s = c.self.inside.cells.cells in
